@@ -1,0 +1,53 @@
+-- A buffer that is written from the front: the first i entries are f's, the rest is as it was.
+-- Assumes nothing.
+use Prim.Native.Nat.{ℕ, zero, suc, _+_, _-_, _≤_, _<_}
+use mathlib.Core.List.{List, [], _∷_, _++_, append-assoc}
+use mathlib.Core.Path.{_≡_, refl, ap, _∙_}
+use native.Mathlib.Numerals.{add-one}
+use native.Mathlib.Omega.{arith}
+use lib.ListN.{length, getD, set, drop, length-append}
+use lib.Seq.{set-at, drop-cons, getD-at, getD-append-add, getD-drop}
+use Rattle.ground.specs.Folds.{listTo}
+use Rattle.ground.proofs.Cases.{by-le}
+
+pub list-long : (f : ℕ → ℕ) (n : ℕ) → length (listTo f n) ≡ n
+unfolding listTo
+list-long f zero = refl
+list-long f (suc n) = simp length-append (omega (arith, list-long f n))
+
+pub list-none : (f : ℕ → ℕ) (old : List ℕ) → old ≡ listTo f 0 ++ drop 0 old
+unfolding listTo
+list-none f old = refl
+
+pub list-more : (f : ℕ → ℕ) (i v : ℕ) (old out : List ℕ) → i < length old → v ≡ f i → out ≡ listTo f i ++ drop i old
+    → set out i v ≡ listTo f (i + 1) ++ drop (i + 1) old
+unfolding listTo
+list-more f i v old out h e o =
+    let d = drop-cons old i 0 h in
+    let s = set-at (listTo f i) (getD old i 0) (drop (suc i) old) (f i) i (list-long f i) in
+    rw (o, d, e) (rw (add-one i) (rw append-assoc s))
+
+-- what stands where
+pub list-at : (f : ℕ → ℕ) (n i : ℕ) (rest : List ℕ) → i < n → getD (listTo f n ++ rest) i 0 ≡ f i
+unfolding listTo
+list-at f zero i rest h = absurd (omega arith)
+list-at f (suc n) i rest h =
+    rw append-assoc
+    (by-le (suc i) n
+    (λ l. list-at f n i ((f n ∷ []) ++ rest) l)
+    (λ l. let e : i ≡ n = omega arith in rw e (getD-at (listTo f n) (f n) rest 0 n (list-long f n))))
+
+pub list-past : (f : ℕ → ℕ) (n i : ℕ) (old : List ℕ) → n ≤ i → getD (listTo f n ++ drop n old) i 0 ≡ getD old i 0
+list-past f n i old h =
+    let e : length (listTo f n) + (i - n) ≡ i = omega (arith, list-long f n) in
+    let g = getD-append-add (listTo f n) (drop n old) (i - n) 0 in
+    let q : n + (i - n) ≡ i = omega arith in
+    (rw e at g) ∙ (getD-drop n old (i - n) 0 ∙ ap (λ (x : ℕ). getD old x 0) q)
+
+pub list-cong : (f g : ℕ → ℕ) (n : ℕ) → ((i : ℕ) → i < n → f i ≡ g i) → listTo f n ≡ listTo g n
+unfolding listTo
+list-cong f g zero h = refl
+list-cong f g (suc n) h =
+    let a = list-cong f g n (λ i l. h i (omega arith)) in
+    let b = h n (omega arith) in
+    rw (listTo, a, b)

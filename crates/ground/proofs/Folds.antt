@@ -1,0 +1,102 @@
+-- Laws of the folds. The last of each group says that a fold looks at the numbers below n only.
+-- Assumes nothing.
+use Prim.Native.Nat.{ℕ, zero, suc, _+_, _*_, _≤_, _<_, max}
+use mathlib.Core.Bool.{Bool, true, false}
+use mathlib.Core.Path.{_≡_, refl, ap, sym, _∙_}
+use native.Mathlib.Nat.{max-eq-left, max-eq-right}
+use native.Mathlib.Numerals.{add-one}
+use native.Mathlib.Omega.{arith}
+use Rattle.ground.specs.Choice.{bit, either}
+use Rattle.ground.specs.Folds.{sumTo, maxTo, countTo, anyTo}
+use Rattle.ground.proofs.Cases.{by-bool, by-le}
+
+-- sums
+pub sum-none : (f : ℕ → ℕ) → sumTo f 0 ≡ 0
+unfolding sumTo
+sum-none f = refl
+
+pub sum-more : (f : ℕ → ℕ) (n : ℕ) → sumTo f (n + 1) ≡ sumTo f n + f n
+unfolding sumTo
+sum-more f n = rw (add-one n)
+
+pub sum-le : (f g : ℕ → ℕ) (n : ℕ) → ((i : ℕ) → i < n → f i ≤ g i) → sumTo f n ≤ sumTo g n
+unfolding sumTo
+sum-le f g zero h = omega arith
+sum-le f g (suc n) h = omega (arith, sum-le f g n (λ i l. h i (omega arith)), h n (omega arith))
+
+pub sum-most : (f : ℕ → ℕ) (n b : ℕ) → ((i : ℕ) → i < n → f i ≤ b) → sumTo f n ≤ b * n
+unfolding sumTo
+sum-most f zero b h = omega arith
+sum-most f (suc n) b h = omega (arith, sum-most f n b (λ i l. h i (omega arith)), h n (omega arith))
+
+pub term-le-sum : (f : ℕ → ℕ) (n i : ℕ) → i < n → f i ≤ sumTo f n
+unfolding sumTo
+term-le-sum f zero i l = omega arith
+term-le-sum f (suc n) i l =
+    by-le (suc i) n (λ h. omega (arith, term-le-sum f n i h)) (λ h. let e : i ≡ n = omega arith in omega (arith, ap f e))
+
+pub sum-cong : (f g : ℕ → ℕ) (n : ℕ) → ((i : ℕ) → i < n → f i ≡ g i) → sumTo f n ≡ sumTo g n
+unfolding sumTo
+sum-cong f g zero h = refl
+sum-cong f g (suc n) h = omega (arith, sum-cong f g n (λ i l. h i (omega arith)), h n (omega arith))
+
+-- maxima
+pub max-none : (f : ℕ → ℕ) → maxTo f 0 ≡ 0
+unfolding maxTo
+max-none f = refl
+
+pub max-more : (f : ℕ → ℕ) (n : ℕ) → maxTo f (n + 1) ≡ max (maxTo f n) (f n)
+unfolding maxTo
+max-more f n = rw (add-one n)
+
+pub le-max-to : (f : ℕ → ℕ) (n i : ℕ) → i < n → f i ≤ maxTo f n
+unfolding maxTo
+le-max-to f zero i l = omega arith
+le-max-to f (suc n) i l =
+    by-le (suc i) n (λ h. omega (arith, le-max-to f n i h)) (λ h. let e : i ≡ n = omega arith in omega (arith, ap f e))
+
+pub max-to-le : (f : ℕ → ℕ) (n b : ℕ) → ((i : ℕ) → i < n → f i ≤ b) → maxTo f n ≤ b
+unfolding maxTo
+max-to-le f zero b h = omega arith
+max-to-le f (suc n) b h = omega (arith, max-to-le f n b (λ i l. h i (omega arith)), h n (omega arith))
+
+-- what is true of 0 and of each value is true of their maximum
+pub max-at : (P : ℕ → Type 0) (f : ℕ → ℕ) (n : ℕ) → P 0 → ((i : ℕ) → i < n → P (f i)) → P (maxTo f n)
+unfolding maxTo
+max-at P f zero z h = z
+max-at P f (suc n) z h =
+    let rec : P (maxTo f n) = max-at P f n z (λ i l. h i (omega arith)) in
+    by-le (maxTo f n) (f n)
+    (λ l. rw (max-eq-right l) (h n (omega arith)))
+    (λ l. let l′ : f n ≤ maxTo f n = omega arith in rw (max-eq-left l′) rec)
+
+pub max-cong : (f g : ℕ → ℕ) (n : ℕ) → ((i : ℕ) → i < n → f i ≡ g i) → maxTo f n ≡ maxTo g n
+unfolding maxTo
+max-cong f g zero h = refl
+max-cong f g (suc n) h = omega (arith, max-cong f g n (λ i l. h i (omega arith)), h n (omega arith))
+
+-- counts
+pub count-le : (test : ℕ → Bool) (n : ℕ) → countTo test n ≤ n
+unfolding countTo
+count-le test zero = omega arith
+count-le test (suc n) = by-bool (test n) (λ h. omega (arith, count-le test n, ap bit h)) (λ h. omega (arith, count-le test n, ap bit h))
+
+-- a number at which the test fails is not counted
+pub count-lt : (test : ℕ → Bool) (n i : ℕ) → i < n → test i ≡ false → countTo test n < n
+unfolding countTo
+count-lt test zero i l e = absurd (omega arith)
+count-lt test (suc n) i l e =
+    by-le (suc i) n
+    (λ m. by-bool (test n) (λ h. omega (arith, count-lt test n i m e, ap bit h)) (λ h. omega (arith, count-lt test n i m e, ap bit h)))
+    (λ m. let q : i ≡ n = omega arith in omega (arith, count-le test n, ap bit (ap test (sym q) ∙ e)))
+
+pub count-cong : (f g : ℕ → Bool) (n : ℕ) → ((i : ℕ) → i < n → f i ≡ g i) → countTo f n ≡ countTo g n
+unfolding countTo
+count-cong f g zero h = refl
+count-cong f g (suc n) h = omega (arith, count-cong f g n (λ i l. h i (omega arith)), ap bit (h n (omega arith)))
+
+-- whether the test holds at any
+pub any-cong : (f g : ℕ → Bool) (n : ℕ) → ((i : ℕ) → i < n → f i ≡ g i) → anyTo f n ≡ anyTo g n
+unfolding anyTo
+any-cong f g zero h = refl
+any-cong f g (suc n) h = rw (any-cong f g n (λ i l. h i (omega arith)), h n (omega arith))

@@ -1,0 +1,30 @@
+-- Folds over the numbers below n, each of a function of the number.
+-- Assumes nothing.
+use Prim.Native.Nat.{ℕ, zero, suc, _+_, max}
+use mathlib.Core.Bool.{Bool, false}
+use mathlib.Core.List.{List, [], _∷_, _++_}
+use Rattle.ground.specs.Choice.{bit, either}
+
+unfoldable pub sumTo : (ℕ → ℕ) → ℕ → ℕ
+sumTo f zero = 0
+sumTo f (suc n) = sumTo f n + f n
+
+-- the max of none is 0
+unfoldable pub maxTo : (ℕ → ℕ) → ℕ → ℕ
+maxTo f zero = 0
+maxTo f (suc n) = max (maxTo f n) (f n)
+
+-- at how many numbers the test holds
+unfoldable pub countTo : (ℕ → Bool) → ℕ → ℕ
+countTo test zero = 0
+countTo test (suc n) = countTo test n + bit (test n)
+
+-- whether the test holds at any of them
+unfoldable pub anyTo : (ℕ → Bool) → ℕ → Bool
+anyTo test zero = false
+anyTo test (suc n) = either (anyTo test n) (test n)
+
+-- the values, in the order of the numbers
+unfoldable pub listTo : (ℕ → ℕ) → ℕ → List ℕ
+listTo f zero = []
+listTo f (suc n) = listTo f n ++ (f n ∷ [])

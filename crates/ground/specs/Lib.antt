@@ -1,0 +1,5 @@
+pub mod Choice
+pub mod Rounding
+pub mod Folds
+pub mod First
+pub mod Least

@@ -1,0 +1,7 @@
+-- The division rounded up.
+-- Assumes nothing.
+use Prim.Native.Nat.{ℕ, _+_, _-_, _/_}
+
+-- a / b rounded up
+abbrev pub ceilDiv : ℕ → ℕ → ℕ
+ceilDiv a b = (a + (b - 1)) / b

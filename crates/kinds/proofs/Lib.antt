@@ -1,0 +1,4 @@
+pub mod Records
+pub mod Policies
+pub mod Refusals
+pub mod Answers

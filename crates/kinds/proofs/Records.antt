@@ -1,0 +1,28 @@
+-- The test of a record says what document 01's sentence says.
+-- Assumes nothing.
+use mathlib.Core.Bool.{true}
+use mathlib.Core.Path.{_≡_}
+use borrow.Author.Tests.{leb-true, le-leb}
+use Rattle.ground.proofs.Cases.{both-true}
+use Rattle.kinds.specs.declared.Task.{Task}
+use Rattle.kinds.specs.Task.{Good, isGood}
+
+pub good-is : (t : Task) → isGood t ≡ true → Good t
+unfolding isGood
+good-is t e =
+    let e₄ = both-true _ _ e in
+    let e₃ = both-true _ _ (e₄ .0) in
+    let e₂ = both-true _ _ (e₃ .0) in
+    let e₁ = both-true _ _ (e₂ .0) in
+    record {
+      c-some = leb-true _ _ (e₁ .0);
+      c-tmin = leb-true _ _ (e₁ .1);
+      tmin-tmax = leb-true _ _ (e₂ .1);
+      tmax-most = leb-true _ _ (e₃ .1);
+      e-most = leb-true _ _ (e₄ .1);
+    }
+
+pub is-good : (t : Task) → Good t → isGood t ≡ true
+unfolding isGood
+is-good t g =
+    rw (le-leb _ _ (g .c-some), le-leb _ _ (g .c-tmin), le-leb _ _ (g .tmin-tmax), le-leb _ _ (g .tmax-most), le-leb _ _ (g .e-most))

@@ -1,0 +1,56 @@
+-- No two refusals have the same number and place, and none has the number of an acceptance.
+-- Assumes nothing.
+use Prim.Native.Nat.{ℕ, _≤_}
+use mathlib.Core.Path.{_≡_, refl, sym, ap, _∙_}
+use native.Mathlib.Omega.{arith}
+use lib.Dec.{eqb}
+use Rattle.ground.specs.Choice.{pick}
+use Rattle.kinds.specs.declared.Refusal.{Refusal}
+use Rattle.kinds.specs.declared.Refusal.the-variants.{NoSuchPolicy, NoSuchProcessors, TooManyTasks, PolicyNotServed, OutputTooShort, BadRecord, NoStepPasses, SheetEnds, NotTwoSettings, WrongResultCount, BytesAfterLast}
+use Rattle.kinds.specs.Refusal.{numberOf, placeOf}
+
+-- from its number and place a refusal can be had back
+again : ℕ → ℕ → Refusal
+again number place =
+    pick (eqb number 1) NoSuchPolicy
+    (pick (eqb number 2) NoSuchProcessors
+    (pick (eqb number 3) (TooManyTasks place)
+    (pick (eqb number 4) PolicyNotServed
+    (pick (eqb number 5) (OutputTooShort place)
+    (pick (eqb number 6) (BadRecord place)
+    (pick (eqb number 7) NoStepPasses
+    (pick (eqb number 8) (SheetEnds place)
+    (pick (eqb number 9) NotTwoSettings
+    (pick (eqb number 10) (WrongResultCount place)
+    (BytesAfterLast place))))))))))
+
+again-is : (r : Refusal) → again (numberOf r) (placeOf r) ≡ r
+unfolding again
+again-is NoSuchPolicy = refl
+again-is NoSuchProcessors = refl
+again-is (TooManyTasks place) = refl
+again-is PolicyNotServed = refl
+again-is (OutputTooShort place) = refl
+again-is (BadRecord place) = refl
+again-is NoStepPasses = refl
+again-is (SheetEnds place) = refl
+again-is NotTwoSettings = refl
+again-is (WrongResultCount place) = refl
+again-is (BytesAfterLast place) = refl
+
+pub refusal-one : (r q : Refusal) → numberOf r ≡ numberOf q → placeOf r ≡ placeOf q → r ≡ q
+refusal-one r q n p =
+    sym (again-is r) ∙ (ap (λ (x : ℕ). again x (placeOf r)) n ∙ (ap (λ (x : ℕ). again (numberOf q) x) p ∙ again-is q))
+
+pub refusal-numbered : (r : Refusal) → 1 ≤ numberOf r
+refusal-numbered NoSuchPolicy = omega arith
+refusal-numbered NoSuchProcessors = omega arith
+refusal-numbered (TooManyTasks place) = omega arith
+refusal-numbered PolicyNotServed = omega arith
+refusal-numbered (OutputTooShort place) = omega arith
+refusal-numbered (BadRecord place) = omega arith
+refusal-numbered NoStepPasses = omega arith
+refusal-numbered (SheetEnds place) = omega arith
+refusal-numbered NotTwoSettings = omega arith
+refusal-numbered (WrongResultCount place) = omega arith
+refusal-numbered (BytesAfterLast place) = omega arith

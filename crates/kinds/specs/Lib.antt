@@ -1,0 +1,5 @@
+pub mod Limits
+pub mod Task
+pub mod Policy
+pub mod Refusal
+pub mod Answer

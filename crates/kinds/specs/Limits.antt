@@ -1,0 +1,19 @@
+-- The scale and the limits of document 01, "Numbers on a task". `kinds::limits` shows that the code has the same.
+-- Assumes nothing.
+use Prim.Native.Nat.{ℕ}
+
+-- S: the parts of one processor
+abbrev pub scale : ℕ
+scale = 1000000
+
+abbrev pub longestPeriod : ℕ
+longestPeriod = 1000000000
+
+abbrev pub greatestElasticity : ℕ
+greatestElasticity = 1000000
+
+abbrev pub mostTasks : ℕ
+mostTasks = 32
+
+abbrev pub mostProcessors : ℕ
+mostProcessors = 16

@@ -1,0 +1,25 @@
+-- The four policies, their numbers, and the further choice.
+-- Assumes nothing.
+use Prim.Native.Nat.{ℕ}
+use mathlib.Core.Bool.{Bool, true, false}
+use lib.Dec.{eqb}
+use Rattle.ground.specs.Choice.{pick}
+use Rattle.kinds.specs.declared.Policy.{Policy}
+use Rattle.kinds.specs.declared.Policy.the-variants.{Pooled, GlobalEdf, GlobalRm, FirstFit, Further}
+
+-- what a number stands for; one outside 1 to 4 is kept in the further choice
+abbrev pub policyOf : ℕ → Policy
+policyOf q =
+    pick (eqb q 1) Pooled (pick (eqb q 2) GlobalEdf (pick (eqb q 3) GlobalRm (pick (eqb q 4) FirstFit (Further q))))
+
+-- the number that a policy is written as
+abbrev pub policyNumber : Policy → ℕ
+policyNumber Pooled = 1
+policyNumber GlobalEdf = 2
+policyNumber GlobalRm = 3
+policyNumber FirstFit = 4
+policyNumber (Further q) = q
+
+-- document 01: "a further choice holding 1 to 4 means that policy"
+abbrev pub meant : Policy → Policy
+meant p = policyOf (policyNumber p)

@@ -1,0 +1,31 @@
+-- The numbers we hand back, and the place that comes with each.
+-- Assumes nothing.
+use Prim.Native.Nat.{ℕ}
+use Rattle.kinds.specs.declared.Refusal.{Refusal}
+use Rattle.kinds.specs.declared.Refusal.the-variants.{NoSuchPolicy, NoSuchProcessors, TooManyTasks, PolicyNotServed, OutputTooShort, BadRecord, NoStepPasses, SheetEnds, NotTwoSettings, WrongResultCount, BytesAfterLast}
+
+abbrev pub numberOf : Refusal → ℕ
+numberOf NoSuchPolicy = 1
+numberOf NoSuchProcessors = 2
+numberOf (TooManyTasks place) = 3
+numberOf PolicyNotServed = 4
+numberOf (OutputTooShort place) = 5
+numberOf (BadRecord place) = 6
+numberOf NoStepPasses = 7
+numberOf (SheetEnds place) = 8
+numberOf NotTwoSettings = 9
+numberOf (WrongResultCount place) = 10
+numberOf (BytesAfterLast place) = 11
+
+abbrev pub placeOf : Refusal → ℕ
+placeOf NoSuchPolicy = 0
+placeOf NoSuchProcessors = 0
+placeOf (TooManyTasks place) = place
+placeOf PolicyNotServed = 0
+placeOf (OutputTooShort place) = place
+placeOf (BadRecord place) = place
+placeOf NoStepPasses = 0
+placeOf (SheetEnds place) = place
+placeOf NotTwoSettings = 0
+placeOf (WrongResultCount place) = place
+placeOf (BytesAfterLast place) = place

@@ -1,0 +1,39 @@
+-- A task record and a list of them.
+-- Assumes nothing.
+use Prim.Native.Nat.{ℕ, _≤_}
+use mathlib.Core.Bool.{Bool}
+use mathlib.Core.List.{List}
+use lib.Dec.{leb}
+use lib.ListN.{getD}
+use Rattle.ground.specs.Choice.{both}
+use Rattle.kinds.specs.declared.Task.{Task}
+use Rattle.kinds.specs.Limits.{longestPeriod, greatestElasticity}
+
+abbrev pub task : ℕ → ℕ → ℕ → ℕ → Task
+task c tmin tmax e = record { c = c; tmin = tmin; tmax = tmax; e = e }
+
+-- an unused place
+abbrev pub noTask : Task
+noTask = task 0 0 0 0
+
+-- the record number i
+abbrev pub at : List Task → ℕ → Task
+at rows i = getD rows i noTask
+
+-- document 01: "1 ≤ C ≤ Tmin ≤ Tmax ≤ 1,000,000,000 and 0 ≤ E ≤ 1,000,000"
+pub record Good (t : Task) : Type 0 where
+  pub c-some : 1 ≤ t .c
+  pub c-tmin : t .c ≤ t .tmin
+  pub tmin-tmax : t .tmin ≤ t .tmax
+  pub tmax-most : t .tmax ≤ longestPeriod
+  pub e-most : t .e ≤ greatestElasticity
+
+-- the same as a test
+unfoldable pub isGood : Task → Bool
+isGood t =
+    both (both (both (both
+    (leb 1 (t .c))
+    (leb (t .c) (t .tmin)))
+    (leb (t .tmin) (t .tmax)))
+    (leb (t .tmax) longestPeriod))
+    (leb (t .e) greatestElasticity)

@@ -1,0 +1,233 @@
+// The kinds that document 01 speaks of, each with its limits, and the numbers that stand for them. Contracts cite `specs/`, one file for
+// each kind.
+ghost use mathlib.Core.Path.{_≡_};
+ghost use Rattle.kinds.specs.Limits.{scale, longestPeriod, greatestElasticity, mostTasks, mostProcessors};
+ghost use Rattle.kinds.specs.Task.{isGood, task};
+ghost use Rattle.kinds.specs.Policy.{policyOf, policyNumber, meant};
+ghost use Rattle.kinds.specs.Refusal.{numberOf, placeOf};
+ghost use Rattle.kinds.specs.Answer.{isAccepted, stepOf};
+
+// A share of one processor, in parts.
+pub struct Share {
+    pub parts: u64,
+}
+
+impl Share {
+    // Document 01: "The scale S is 1,000,000 parts to one processor."
+    pub const SCALE: u64 = 1_000_000;
+
+    pub fn new(parts: u64) -> Share
+        ensures { λ r. ⌜ r .parts ≡ parts ⌝ }
+    {
+        Share { parts }
+    }
+}
+
+// A task record: cost C, shortest and longest period, elasticity E. Any numbers may stand in it.
+pub struct Task {
+    pub c: u32,
+    pub tmin: u32,
+    pub tmax: u32,
+    pub e: u32,
+}
+
+impl Task {
+    pub const LONGEST_PERIOD: u32 = 1_000_000_000;
+
+    pub const GREATEST_ELASTICITY: u32 = 1_000_000;
+
+    pub fn new(c: u32, tmin: u32, tmax: u32, e: u32) -> Task
+        ensures { λ r. ⌜ r ≡ task c tmin tmax e ⌝ }
+    {
+        Task { c, tmin, tmax, e }
+    }
+
+    // Document 01: "A record is good when 1 ≤ C ≤ Tmin ≤ Tmax ≤ 1,000,000,000 and 0 ≤ E ≤ 1,000,000."
+    pub fn good(self) -> bool
+        ensures { λ r. ⌜ r ≡ isGood self ⌝ }
+    {
+        1 <= self.c
+            && self.c <= self.tmin
+            && self.tmin <= self.tmax
+            && self.tmax <= Task::LONGEST_PERIOD
+            && self.e <= Task::GREATEST_ELASTICITY
+    }
+}
+
+// The task table by value: room for the most tasks, of which the first n count. A lent count may be greater than the room.
+pub struct Table {
+    pub rows: [Task; 32],
+    pub n: usize,
+}
+
+impl Table {
+    pub const MOST_TASKS: usize = 32;
+}
+
+// A policy is a choice of its own; a number outside 1 to 4 is kept in the further choice.
+pub enum Policy {
+    Pooled,
+    GlobalEdf,
+    GlobalRm,
+    FirstFit,
+    Further(u16),
+}
+
+impl Policy {
+    // The policy that a number on a sheet stands for.
+    pub fn of(number: u16) -> Policy
+        ensures { λ r. ⌜ r ≡ policyOf number ⌝ }
+    {
+        match number {
+            1 => Policy::Pooled,
+            2 => Policy::GlobalEdf,
+            3 => Policy::GlobalRm,
+            4 => Policy::FirstFit,
+            _ => Policy::Further(number),
+        }
+    }
+
+    // The number that a policy is written as.
+    pub fn number(self) -> u16
+        ensures { λ r. ⌜ r ≡ policyNumber self ⌝ }
+    {
+        match self {
+            Policy::Pooled => 1,
+            Policy::GlobalEdf => 2,
+            Policy::GlobalRm => 3,
+            Policy::FirstFit => 4,
+            Policy::Further(number) => number,
+        }
+    }
+
+    // Document 01: "a further choice holding 1 to 4 means that policy."
+    pub fn meant(self) -> Policy
+        ensures { λ r. ⌜ r ≡ meant self ⌝ }
+    {
+        Policy::of(self.number())
+    }
+}
+
+// The station settings: the policy, and how many processors there are.
+pub struct Settings {
+    pub policy: Policy,
+    pub m: u16,
+}
+
+impl Settings {
+    pub const MOST_PROCESSORS: u16 = 16;
+}
+
+// What an accepted plan grants a task: its period, and its processor, 0 for any.
+pub struct Granted {
+    pub period: u32,
+    pub processor: u16,
+}
+
+// The results section of a sheet: room for the most tasks, of which the first n count.
+pub struct Results {
+    pub rows: [Granted; 32],
+    pub n: usize,
+}
+
+// A station sheet, section by section.
+pub struct Sheet {
+    pub settings: Settings,
+    pub table: Table,
+    pub results: Results,
+}
+
+// One variant for each number of document 01, with its place where that is not 0.
+pub enum Refusal {
+    NoSuchPolicy,
+    NoSuchProcessors,
+    TooManyTasks(usize),
+    PolicyNotServed,
+    OutputTooShort(usize),
+    BadRecord(usize),
+    NoStepPasses,
+    SheetEnds(usize),
+    NotTwoSettings,
+    WrongResultCount(usize),
+    BytesAfterLast(usize),
+}
+
+impl Refusal {
+    pub fn number(self) -> u16
+        ensures { λ r. ⌜ r ≡ numberOf self ⌝ }
+    {
+        match self {
+            Refusal::NoSuchPolicy => 1,
+            Refusal::NoSuchProcessors => 2,
+            Refusal::TooManyTasks(_) => 3,
+            Refusal::PolicyNotServed => 4,
+            Refusal::OutputTooShort(_) => 5,
+            Refusal::BadRecord(_) => 6,
+            Refusal::NoStepPasses => 7,
+            Refusal::SheetEnds(_) => 8,
+            Refusal::NotTwoSettings => 9,
+            Refusal::WrongResultCount(_) => 10,
+            Refusal::BytesAfterLast(_) => 11,
+        }
+    }
+
+    pub fn place(self) -> usize
+        ensures { λ r. ⌜ r ≡ placeOf self ⌝ }
+    {
+        match self {
+            Refusal::NoSuchPolicy => 0,
+            Refusal::NoSuchProcessors => 0,
+            Refusal::TooManyTasks(place) => place,
+            Refusal::PolicyNotServed => 0,
+            Refusal::OutputTooShort(place) => place,
+            Refusal::BadRecord(place) => place,
+            Refusal::NoStepPasses => 0,
+            Refusal::SheetEnds(place) => place,
+            Refusal::NotTwoSettings => 0,
+            Refusal::WrongResultCount(place) => place,
+            Refusal::BytesAfterLast(place) => place,
+        }
+    }
+}
+
+// What a finder answers: the step of an accepted plan, or the refusal.
+pub enum Answer {
+    Accepted(u32),
+    Refused(Refusal),
+}
+
+impl Answer {
+    pub fn accepted(self) -> bool
+        ensures { λ r. ⌜ r ≡ isAccepted self ⌝ }
+    {
+        match self {
+            Answer::Accepted(_) => true,
+            Answer::Refused(_) => false,
+        }
+    }
+
+    // The step of an accepted plan; a refusal's step is 0.
+    pub fn step(self) -> u32
+        ensures { λ r. ⌜ r ≡ stepOf self ⌝ }
+    {
+        match self {
+            Answer::Accepted(step) => step,
+            Answer::Refused(_) => 0,
+        }
+    }
+}
+
+// What the margin answers: a signed number, or the refusal.
+pub enum Margin {
+    Is(i64),
+    Refused(Refusal),
+}
+
+// The limits that definitions name are those that the code names.
+pub fn limits()
+    ensures { λ _. do ⌜ (← ⟦Share::SCALE⟧ .entry) ≡ scale ⌝ }
+    ensures { λ _. do ⌜ (← ⟦Task::LONGEST_PERIOD⟧ .entry) ≡ longestPeriod ⌝ }
+    ensures { λ _. do ⌜ (← ⟦Task::GREATEST_ELASTICITY⟧ .entry) ≡ greatestElasticity ⌝ }
+    ensures { λ _. do ⌜ (← ⟦Table::MOST_TASKS⟧ .entry) ≡ mostTasks ⌝ }
+    ensures { λ _. do ⌜ (← ⟦Settings::MOST_PROCESSORS⟧ .entry) ≡ mostProcessors ⌝ }
+{}
