@@ -23,6 +23,13 @@ pub fn smaller(a: u64, b: u64) -> u64
     if a < b { a } else { b }
 }
 
+// The later of two steps.
+pub fn later(a: u32, b: u32) -> u32
+    ensures { λ r. ⌜ r ≡ max a b ⌝ }
+{
+    if a < b { b } else { a }
+}
+
 // The difference, taken as 0 when negative.
 pub fn less_or_zero(a: u64, b: u64) -> u64
     ensures { λ r. ⌜ r ≡ a - b ⌝ }

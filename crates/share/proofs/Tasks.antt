@@ -1,0 +1,94 @@
+-- What document 01 says of the shares, the saturation step and the periods of a good task.
+-- Assumes nothing.
+use Prim.Native.Nat.{ℕ, _*_, _≤_, _<_}
+use mathlib.Core.Path.{_≡_}
+use native.Mathlib.Omega.{arith}
+use Rattle.ground.proofs.Rounding.{ceil-enough}
+use Rattle.kinds.specs.declared.Task.{Task}
+use Rattle.kinds.specs.Limits.{scale}
+use Rattle.kinds.specs.Task.{Good}
+use Rattle.rule.specs.Rule.{Shortest}
+use Rattle.rule.proofs.Shares.{part-high, part-low, part-falls, share-falls, share-least, share-zero, share-rigid, share-high, share-saturated, share-above, saturation-high}
+use Rattle.rule.proofs.Periods.{period-shortest}
+use Rattle.share.specs.Share.{costOf, largestOf, leastOf, shareAt, saturationAt, periodAt, ShareIs, StepIs, PeriodIs}
+
+-- the share never rises with the step
+pub falls : (t : Task) (j k : ℕ) → j ≤ k → shareAt t k ≤ shareAt t j
+unfolding shareAt
+falls t j k h = share-falls (largestOf t) (leastOf t) (t .e) j k h
+
+-- and never falls below the least
+pub at-least : (t : Task) (k : ℕ) → leastOf t ≤ shareAt t k
+unfolding shareAt
+at-least t k = share-least (largestOf t) (leastOf t) (t .e) k
+
+-- from the saturation step on it is the least, for a task with E > 0
+pub saturated : (t : Task) (k : ℕ) → 1 ≤ t .e → saturationAt t ≤ k → shareAt t k ≡ leastOf t
+unfolding shareAt saturationAt
+saturated t k p h = share-saturated (largestOf t) (leastOf t) (t .e) k p h
+
+-- and before it is above
+pub above : (t : Task) (k : ℕ) → k < saturationAt t → leastOf t < shareAt t k
+unfolding shareAt saturationAt
+above t k h = share-above (largestOf t) (leastOf t) (t .e) k h .1
+
+module _ (t : Task) (g : Good t) where
+  pub largest-most : largestOf t ≤ scale
+  largest-most = omega (arith, part-high (costOf t) (t .tmin) 1 (omega arith) (omega arith))
+
+  pub least-some : 1 ≤ leastOf t
+  least-some = omega (arith, part-low (costOf t) (t .tmax) 0 (omega arith) (omega arith))
+
+  pub least-largest : leastOf t ≤ largestOf t
+  least-largest = part-falls (costOf t) (t .tmin) (t .tmax) (omega arith) (g .tmin-tmax)
+
+  -- at step 0 the share is the largest
+  pub at-zero : shareAt t 0 ≡ largestOf t
+  unfolding shareAt
+  at-zero = share-zero (largestOf t) (leastOf t) (t .e) least-largest
+
+  -- document 01: "With E = 0 the share stays the largest one."
+  pub rigid : (k : ℕ) → t .e ≡ 0 → shareAt t k ≡ largestOf t
+  unfolding shareAt
+  rigid k z = share-rigid (largestOf t) (leastOf t) (t .e) k least-largest z
+
+  pub share-some : (k : ℕ) → 1 ≤ shareAt t k
+  share-some k = omega (arith, at-least t k, least-some)
+
+  pub share-most : (k : ℕ) → shareAt t k ≤ scale
+  unfolding shareAt
+  share-most k = omega (arith, share-high (largestOf t) (leastOf t) (t .e) k least-largest, largest-most)
+
+  pub saturation-most : saturationAt t < scale
+  unfolding saturationAt
+  saturation-most =
+      omega (arith, saturation-high (largestOf t) (leastOf t) (t .e), largest-most, least-some)
+
+  -- document 01: "the smallest whole T from Tmin to Tmax with C × S ≤ share × T. One always exists."
+  pub shortest : (k : ℕ) → Shortest (costOf t) (t .tmin) (t .tmax) (shareAt t k) (periodAt t k)
+  unfolding periodAt
+  shortest k =
+      period-shortest (costOf t) (t .tmin) (t .tmax) (shareAt t k) (omega arith) (g .tmin-tmax) (share-some k) (at-least t k)
+
+  -- document 01: "At step 0 it is Tmin."
+  pub shortest-at-zero : periodAt t 0 ≡ t .tmin
+  shortest-at-zero =
+      let s = shortest 0 in
+      let e : costOf t * scale ≤ shareAt t 0 * t .tmin = rw at-zero (ceil-enough (costOf t * scale) (t .tmin) (omega arith)) in
+      omega (arith, s .low, s .only (t .tmin) (omega arith) e)
+
+  -- what the functions hand back
+  pub largest-is : (r : ℕ) → r ≡ largestOf t → ShareIs (largestOf t) r
+  largest-is r e = record { is = e; some = omega (arith, least-some, least-largest); most = omega (arith, largest-most) }
+
+  pub least-is : (r : ℕ) → r ≡ leastOf t → ShareIs (leastOf t) r
+  least-is r e = record { is = e; some = omega (arith, least-some); most = omega (arith, least-largest, largest-most) }
+
+  pub share-is : (k r : ℕ) → r ≡ shareAt t k → ShareIs (shareAt t k) r
+  share-is k r e = record { is = e; some = omega (arith, share-some k); most = omega (arith, share-most k) }
+
+  pub saturation-is : (r : ℕ) → r ≡ saturationAt t → StepIs (saturationAt t) r
+  saturation-is r e = record { is = e; most = omega (arith, saturation-most) }
+
+  pub period-is : (k r : ℕ) → r ≡ periodAt t k → PeriodIs t k r
+  period-is k r e = record { is = e; most = omega (arith, shortest k .high) }

@@ -1,0 +1,40 @@
+-- Document 01, "Numbers on a task", for a task record.
+-- Assumes nothing.
+use Prim.Native.Nat.{ℕ, _≤_, _<_}
+use mathlib.Core.Path.{_≡_}
+use Rattle.kinds.specs.declared.Task.{Task}
+use Rattle.kinds.specs.Limits.{scale, longestPeriod}
+use Rattle.rule.specs.Rule.{partOf, shareOf, saturationOf, periodOf}
+
+-- the whole cost of a job
+abbrev pub costOf : Task → ℕ
+costOf t = t .c
+
+abbrev pub largestOf : Task → ℕ
+largestOf t = partOf (costOf t) (t .tmin)
+
+abbrev pub leastOf : Task → ℕ
+leastOf t = partOf (costOf t) (t .tmax)
+
+unfoldable pub shareAt : Task → ℕ → ℕ
+shareAt t k = shareOf (largestOf t) (leastOf t) (t .e) k
+
+unfoldable pub saturationAt : Task → ℕ
+saturationAt t = saturationOf (largestOf t) (leastOf t) (t .e)
+
+unfoldable pub periodAt : Task → ℕ → ℕ
+periodAt t k = periodOf (costOf t) (t .tmin) (shareAt t k)
+
+-- what the functions hand back, with the bounds that their callers need
+pub record ShareIs (share r : ℕ) : Type 0 where
+  pub is : r ≡ share
+  pub some : 1 ≤ r
+  pub most : r ≤ scale
+
+pub record StepIs (step r : ℕ) : Type 0 where
+  pub is : r ≡ step
+  pub most : r < scale
+
+pub record PeriodIs (t : Task) (k r : ℕ) : Type 0 where
+  pub is : r ≡ periodAt t k
+  pub most : r ≤ longestPeriod

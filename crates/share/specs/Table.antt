@@ -1,0 +1,32 @@
+-- Document 01, "Numbers on a task", for the first n of some task records.
+-- Assumes nothing.
+use Prim.Native.Nat.{ℕ, _≤_, _<_}
+use mathlib.Core.Bool.{not}
+use mathlib.Core.List.{List}
+use mathlib.Core.Path.{_≡_}
+use lib.ListN.{length}
+use Rattle.ground.specs.First.{firstBelow}
+use Rattle.ground.specs.Folds.{maxTo, listTo}
+use Rattle.kinds.specs.declared.Task.{Task}
+use Rattle.kinds.specs.declared.Table.{Table}
+use Rattle.kinds.specs.Limits.{mostTasks}
+use Rattle.kinds.specs.Task.{at, Good, isGood}
+use Rattle.share.specs.Share.{saturationAt, periodAt}
+
+-- K: the greatest saturation step, 0 if there is none
+unfoldable pub fullCompression : List Task → ℕ → ℕ
+fullCompression rows n = maxTo (λ i. saturationAt (at rows i)) n
+
+-- the first record that is not good; n where each is
+unfoldable pub firstBad : List Task → ℕ → ℕ
+firstBad rows n = firstBelow (λ i. not (isGood (at rows i))) n
+
+-- the periods at step k
+unfoldable pub periodsAt : List Task → ℕ → ℕ → List ℕ
+periodsAt rows n k = listTo (λ i. periodAt (at rows i) k) n
+
+-- a table by value that the rules may be asked of
+pub record GoodTable (t : Table) : Type 0 where
+  pub few : t .n ≤ mostTasks
+  pub long : length (t .rows) ≡ mostTasks
+  pub good : (i : ℕ) → i < t .n → Good (at (t .rows) i)
