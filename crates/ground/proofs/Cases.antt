@@ -15,6 +15,9 @@ by-bool false f g = g refl
 pub by-le : {X : Type 0} (a b : ℕ) → (a ≤ b → X) → (b < a → X) → X
 by-le a b f g = by-bool (leb a b) (λ h. f (leb-true a b h)) (λ h. g (leb-false a b h))
 
+pub by-eq : {X : Type 0} (a b : ℕ) → (a ≡ b → X) → ((a ≡ b → ⊥) → X) → X
+by-eq a b f g = by-le a b (λ u. by-le b a (λ v. f (omega arith)) (λ v. g (λ e. omega arith))) (λ u. g (λ e. omega arith))
+
 -- a test cannot both hold and fail
 pub true-false : {b : Bool} {X : Type 0} → b ≡ true → b ≡ false → X
 true-false p q = let z : _≡_ {A = ℕ} 0 1 = cc in absurd (omega arith)

@@ -11,7 +11,11 @@ use Rattle.kinds.specs.declared.Task.{Task}
 use Rattle.kinds.specs.declared.Table.{Table}
 use Rattle.kinds.specs.Limits.{mostTasks}
 use Rattle.kinds.specs.Task.{at, Good, isGood}
-use Rattle.share.specs.Share.{saturationAt, periodAt}
+use Rattle.share.specs.Share.{shareAt, saturationAt, periodAt}
+
+-- the share of each task at step k, by number
+abbrev pub shares : List Task → ℕ → ℕ → ℕ
+shares rows k i = shareAt (at rows i) k
 
 -- K: the greatest saturation step, 0 if there is none
 unfoldable pub fullCompression : List Task → ℕ → ℕ

@@ -44,6 +44,15 @@ pub fn share_at(task: Task, k: u32) -> Share
     Share::new(rule::share_at(high.parts, low.parts, task.e, k))
 }
 
+// The load that a task puts on its processor at a step: its share.
+pub fn load_at(task: Task, k: u32) -> u64
+    requires { ⌜ Good task ⌝ }
+    ensures { λ r. ⌜ ShareIs (shareAt task k) r ⌝ }
+{
+    let share = share_at(task, k);
+    share.parts
+}
+
 // The saturation step; 0 where the elasticity is 0.
 pub fn saturation(task: Task) -> u32
     requires { ⌜ Good task ⌝ }
