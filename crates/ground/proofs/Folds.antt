@@ -70,6 +70,33 @@ max-at P f (suc n) z h =
     (λ l. rw (max-eq-right l) (h n (omega arith)))
     (λ l. let l′ : f n ≤ maxTo f n = omega arith in rw (max-eq-left l′) rec)
 
+-- a number below the maximum is below one of the values
+pub max-reached : (f : ℕ → ℕ) (n b : ℕ) → b < maxTo f n → (i : ℕ) × (i < n) × (b < f i)
+unfolding maxTo
+max-reached f zero b h = absurd (omega arith)
+max-reached f (suc n) b h =
+    by-le (suc b) (f n)
+    (λ l. (n, omega arith, l))
+    (λ l. let r = max-reached f n b (omega arith) in (r .0, omega (arith, r .1), r .2))
+
+-- values that fall: the maximum falls, and the sum falls at least as far
+pub max-falls : (f g : ℕ → ℕ) (n : ℕ) → ((i : ℕ) → i < n → g i ≤ f i) → maxTo g n ≤ maxTo f n
+max-falls f g n h = max-to-le g n (maxTo f n) (λ i l. omega (arith, h i l, le-max-to f n i l))
+
+sum-gap : (f g : ℕ → ℕ) (n i : ℕ) → ((i : ℕ) → i < n → g i ≤ f i) → i < n → sumTo g n + f i ≤ sumTo f n + g i
+unfolding sumTo
+sum-gap f g zero i h l = absurd (omega arith)
+sum-gap f g (suc n) i h l =
+    by-le (suc i) n
+    (λ l′. omega (arith, sum-gap f g n i (λ j m. h j (omega arith)) l′, h n (omega arith)))
+    (λ l′. let e : i ≡ n = omega arith in omega (arith, sum-le g f n (λ j m. h j (omega arith)), ap f e, ap g e))
+
+pub max-gap : (f g : ℕ → ℕ) (n : ℕ) → ((i : ℕ) → i < n → g i ≤ f i) → sumTo g n + maxTo f n ≤ sumTo f n + maxTo g n
+max-gap f g n h =
+    max-at (λ x. sumTo g n + x ≤ sumTo f n + maxTo g n) f n
+    (omega (arith, sum-le g f n h))
+    (λ i l. omega (arith, sum-gap f g n i h l, le-max-to g n i l))
+
 pub max-cong : (f g : ℕ → ℕ) (n : ℕ) → ((i : ℕ) → i < n → f i ≡ g i) → maxTo f n ≡ maxTo g n
 unfolding maxTo
 max-cong f g zero h = refl

@@ -23,3 +23,19 @@ policyNumber (Further q) = q
 -- document 01: "a further choice holding 1 to 4 means that policy"
 abbrev pub meant : Policy → Policy
 meant p = policyOf (policyNumber p)
+
+-- policies 1 to 3, whose tests have a formula
+abbrev pub hasFormula : Policy → Bool
+hasFormula Pooled = true
+hasFormula GlobalEdf = true
+hasFormula GlobalRm = true
+hasFormula FirstFit = false
+hasFormula (Further q) = false
+
+-- policy 4
+abbrev pub isFirstFit : Policy → Bool
+isFirstFit Pooled = false
+isFirstFit GlobalEdf = false
+isFirstFit GlobalRm = false
+isFirstFit FirstFit = true
+isFirstFit (Further q) = false

@@ -3,7 +3,7 @@
 ghost use mathlib.Core.Path.{_≡_};
 ghost use Rattle.kinds.specs.Limits.{scale, longestPeriod, greatestElasticity, mostTasks, mostProcessors};
 ghost use Rattle.kinds.specs.Task.{isGood, task};
-ghost use Rattle.kinds.specs.Policy.{policyOf, policyNumber, meant};
+ghost use Rattle.kinds.specs.Policy.{policyOf, policyNumber, meant, hasFormula, isFirstFit};
 ghost use Rattle.kinds.specs.Refusal.{numberOf, placeOf};
 ghost use Rattle.kinds.specs.Answer.{isAccepted, stepOf};
 
@@ -105,6 +105,32 @@ impl Policy {
         ensures { λ r. ⌜ r ≡ meant self ⌝ }
     {
         Policy::of(self.number())
+    }
+
+    // Policies 1 to 3, whose tests have a formula.
+    pub fn has_formula(self) -> bool
+        ensures { λ r. ⌜ r ≡ hasFormula self ⌝ }
+    {
+        match self {
+            Policy::Pooled => true,
+            Policy::GlobalEdf => true,
+            Policy::GlobalRm => true,
+            Policy::FirstFit => false,
+            Policy::Further(_) => false,
+        }
+    }
+
+    // Policy 4.
+    pub fn is_first_fit(self) -> bool
+        ensures { λ r. ⌜ r ≡ isFirstFit self ⌝ }
+    {
+        match self {
+            Policy::Pooled => false,
+            Policy::GlobalEdf => false,
+            Policy::GlobalRm => false,
+            Policy::FirstFit => true,
+            Policy::Further(_) => false,
+        }
     }
 }
 

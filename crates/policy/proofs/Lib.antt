@@ -1,0 +1,6 @@
+pub mod Signed
+pub mod OneForm
+pub mod Totals
+pub mod Tests
+pub mod Demand
+pub mod LookCount

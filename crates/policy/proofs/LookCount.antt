@@ -1,0 +1,68 @@
+-- The looks that an answer calls for are at most tasks + 1.
+-- Assumes nothing.
+use Prim.Native.Nat.{ℕ, zero, suc, _+_, _≤_, _<_}
+use mathlib.Core.Bool.{Bool, false, not}
+use mathlib.Core.List.{List}
+use mathlib.Core.Path.{_≡_, refl, ap, ap₂}
+use native.Mathlib.Omega.{arith}
+use lib.Dec.{ltb, eqb}
+use borrow.Author.Tests.{le-ltb}
+use Rattle.ground.specs.declared.Step.{Step}
+use Rattle.ground.specs.declared.Step.the-variants.{At, Nothing}
+use Rattle.ground.specs.Choice.{both}
+use Rattle.ground.specs.Folds.{maxTo, anyTo, countTo}
+use Rattle.ground.proofs.Cases.{by-bool}
+use Rattle.ground.proofs.Folds.{max-reached, count-le, count-lt, count-cong, any-cong}
+use Rattle.kinds.specs.declared.Task.{Task}
+use Rattle.kinds.specs.declared.Policy.{Policy}
+use Rattle.kinds.specs.Task.{at}
+use Rattle.share.specs.Share.{saturationAt}
+use Rattle.share.specs.Table.{fullCompression}
+use Rattle.policy.specs.Looks.{isNew, counts, distinct, distinctBelow, looksFor, looksOf}
+use Rattle.policy.specs.Passing.{leastStep}
+use Rattle.policy.proofs.Demand.{step-at}
+
+-- a step that some saturation step reaches leaves that one uncounted
+below-few : (s : ℕ → ℕ) (n k i : ℕ) → i < n → k ≤ s i → distinctBelow s n k < n
+unfolding distinctBelow
+below-few s n k i l h = count-lt (λ j. both (counts s j) (ltb (s j) k)) n i l (not-below (counts s i))
+  where
+    not-below : (b : Bool) → both b (ltb (s i) k) ≡ false
+    not-below b = by-bool b (λ e. rw (e, le-ltb (s i) k h)) (λ e. rw e)
+
+looks-few : (s : ℕ → ℕ) (n : ℕ) (step : Step) → ((k : ℕ) → step ≡ At k → k ≤ maxTo s n) → looksFor s n step ≤ n + 1
+unfolding distinct
+looks-few s n (At zero) h = omega arith
+looks-few s n (At (suc k)) h =
+    let r = max-reached s n k (omega (arith, h (suc k) refl)) in
+    omega (arith, below-few s n (suc k) (r .0) (r .1) (r .2))
+looks-few s n Nothing h = omega (arith, count-le (counts s) n)
+
+-- demand 3: "with the count of looks that document 01 defines, at most tasks + 1"
+pub looks-bound : (p : Policy) (m : ℕ) (rows : List Task) (n : ℕ) → looksOf rows n (leastStep p m rows n) ≤ n + 1
+unfolding looksOf fullCompression
+looks-bound p m rows n =
+    looks-few (λ i. saturationAt (at rows i)) n (leastStep p m rows n) (λ k e. step-at p m rows n k e .within)
+
+-- the looks depend on the first n records only
+module _ (f g : ℕ → ℕ) where
+  new-same : (i : ℕ) → ((j : ℕ) → j ≤ i → f j ≡ g j) → isNew f i ≡ isNew g i
+  unfolding isNew
+  new-same i h =
+      ap not (any-cong (λ j. eqb (f j) (f i)) (λ j. eqb (g j) (g i)) i (λ j l. ap₂ eqb (h j (omega arith)) (h i (omega arith))))
+
+  module _ (n : ℕ) (h : (i : ℕ) → i < n → f i ≡ g i) where
+    counts-same : (i : ℕ) → i < n → counts f i ≡ counts g i
+    counts-same i l = ap₂ both (ap (ltb 0) (h i l)) (new-same i (λ j k. h j (omega arith)))
+
+    for-same : (step : Step) → looksFor f n step ≡ looksFor g n step
+    unfolding distinct distinctBelow
+    for-same (At zero) = refl
+    for-same (At (suc k)) =
+        ap (λ (x : ℕ). 2 + x) (count-cong _ _ n (λ i l. ap₂ both (counts-same i l) (ap (λ (x : ℕ). ltb x (suc k)) (h i l))))
+    for-same Nothing = ap (λ (x : ℕ). 1 + x) (count-cong _ _ n counts-same)
+
+pub looks-same : (xs ys : List Task) (n : ℕ) → ((i : ℕ) → i < n → at xs i ≡ at ys i) → (step : Step) → looksOf xs n step ≡ looksOf ys n step
+unfolding looksOf
+looks-same xs ys n same step =
+    for-same (λ i. saturationAt (at xs i)) (λ i. saturationAt (at ys i)) n (λ i l. ap saturationAt (same i l)) step

@@ -1,0 +1,23 @@
+-- The walk that works out the sum and the max of the loads together.
+-- Assumes nothing.
+use Prim.Native.Nat.{ℕ, _+_, _*_, _≤_, max}
+use mathlib.Core.Path.{_≡_, sym}
+use native.Mathlib.Omega.{arith}
+use Rattle.ground.specs.Folds.{sumTo, maxTo}
+use Rattle.ground.proofs.Folds.{sum-none, sum-more, max-none, max-more}
+use Rattle.kinds.specs.Limits.{scale}
+use Rattle.policy.specs.Sides.{TotalIs}
+
+pub total-none : (load : ℕ → ℕ) → TotalIs load 0 0 0
+total-none load =
+    record { sum-is = sym (sum-none load); max-is = sym (max-none load); sum-most = omega arith; max-most = omega arith }
+
+pub total-more : (load : ℕ → ℕ) (i sum most x most′ : ℕ) → TotalIs load i sum most → x ≡ load i → x ≤ scale → most′ ≡ max most x
+    → TotalIs load (i + 1) (sum + x) most′
+total-more load i sum most x most′ t e h g =
+    record {
+      sum-is = omega (arith, sum-more load i, t .sum-is);
+      max-is = omega (arith, max-more load i, t .max-is);
+      sum-most = omega (arith, t .sum-most);
+      max-most = omega (arith, t .max-most);
+    }

@@ -1,0 +1,38 @@
+-- `policy::margin_at` meets its contract. Assumes nothing.
+use mathlib.Core.Path.{_∙_}
+use Rattle.share.specs.Table.{shares}
+use Rattle.policy.proofs.Tests.{margin-worked-out}
+use borrow.Author.Needs.{needs}
+use Rattle.policy.proofs.margin_at.Statement.{statement}
+use Rattle.policy.proofs.margin_at.Tie as tie
+
+weights-of-requires : tie.Need-weights-of-requires
+weights-of-requires c κs = search needs
+
+total-at-requires : tie.Need-total-at-requires
+total-at-requires c κs = search needs
+
+right-of-requires : tie.Need-right-of-requires
+right-of-requires c κs = search needs
+
+left-of-requires : tie.Need-left-of-requires
+left-of-requires c κs = search needs
+
+difference-requires : tie.Need-difference-requires
+difference-requires c κs = search needs
+
+returns : tie.Need-returns
+returns c =
+    let w = c .before .before .before .before in
+    search needs ∙ (c .difference .ensures ∙ margin-worked-out _ _ _ _ _ _ _ _ _ (w .weights-of .ensures .0) (c .before .before .before .total-at .ensures) (c .before .left-of .ensures .is) (c .before .before .right-of .ensures .is))
+
+pub margin-at-spec : {M : Type 1} → statement M
+margin-at-spec =
+    tie.close
+    (tie.spec
+    weights-of-requires
+    total-at-requires
+    right-of-requires
+    left-of-requires
+    difference-requires
+    returns)

@@ -1,0 +1,35 @@
+-- Passing, and the least passing step of demand 2.
+-- Assumes nothing.
+use Prim.Native.Nat.{ℕ}
+use mathlib.Core.Bool.{Bool, false}
+use mathlib.Core.List.{List}
+use lib.Dec.{leb}
+use Rattle.ground.specs.declared.Step.{Step}
+use Rattle.ground.specs.Folds.{sumTo, maxTo}
+use Rattle.ground.specs.Least.{leastUpTo}
+use Rattle.kinds.specs.declared.Task.{Task}
+use Rattle.kinds.specs.declared.Policy.{Policy}
+use Rattle.kinds.specs.declared.Policy.the-variants.{Pooled, GlobalEdf, GlobalRm, FirstFit, Further}
+use Rattle.share.specs.Table.{shares, fullCompression}
+use Rattle.fit.specs.Fit.{fits}
+use Rattle.policy.specs.Sides.{leftSide, rightSide}
+
+-- the left side of a policy's test is at most the right
+abbrev pub holds : Policy → ℕ → ℕ → ℕ → Bool
+holds p m sum max = leb (leftSide p m sum max) (rightSide p m max)
+
+-- n tasks with these loads pass the test of a policy on m processors
+unfoldable pub passes : Policy → ℕ → (ℕ → ℕ) → ℕ → Bool
+passes Pooled m load n = holds Pooled m (sumTo load n) (maxTo load n)
+passes GlobalEdf m load n = holds GlobalEdf m (sumTo load n) (maxTo load n)
+passes GlobalRm m load n = holds GlobalRm m (sumTo load n) (maxTo load n)
+passes FirstFit m load n = fits m load n
+passes (Further q) m load n = false
+
+-- the test of demand 2: the first n tasks pass at step k on their shares
+abbrev pub passesAt : Policy → ℕ → List Task → ℕ → ℕ → Bool
+passesAt p m rows n k = passes p m (shares rows k) n
+
+-- "the smallest whole compression step from 0 to full compression at which the policy's test holds"
+unfoldable pub leastStep : Policy → ℕ → List Task → ℕ → Step
+leastStep p m rows n = leastUpTo (passesAt p m rows n) (fullCompression rows n)

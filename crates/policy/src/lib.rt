@@ -1,0 +1,132 @@
+// The four policies: the sum and the max of the shares at a step, the two sides of a policy's test, passing and the margin. Contracts
+// cite `specs/Sides` and `specs/Passing`.
+use kinds::Policy;
+use kinds::Share;
+use kinds::Table;
+ghost use mathlib.Core.Path.{_≡_};
+ghost use Prim.Native.Nat.{_≤_};
+ghost use lib.IntN.{subℕ};
+ghost use Rattle.kinds.specs.Limits.{scale, mostTasks, mostProcessors};
+ghost use Rattle.share.specs.Table.{GoodTable, shares};
+ghost use Rattle.policy.specs.Sides.{weightsOf, Light, left, right, SideIs, TotalIs, marginOf};
+ghost use Rattle.policy.specs.Passing.{passes};
+
+// The test of a policy that has a formula is a · sum + b · max ≤ r + c · max.
+pub struct Weights {
+    pub a: u64,
+    pub b: u64,
+    pub c: u64,
+    pub r: u64,
+}
+
+// The weights of a policy on m processors; one that has no formula has none.
+pub fn weights_of(policy: Policy, m: u16) -> Weights
+    requires { ⌜ (1 ≤ m) × (m ≤ mostProcessors) ⌝ }
+    ensures { λ w. ⌜ (w ≡ weightsOf policy m) × Light w ⌝ }
+{
+    let m = m as u64;
+    match policy {
+        Policy::Pooled => Weights {
+            a: 1,
+            b: 0,
+            c: 0,
+            r: m * Share::SCALE,
+        },
+        Policy::GlobalEdf => Weights {
+            a: 1,
+            b: m - 1,
+            c: 0,
+            r: m * Share::SCALE,
+        },
+        Policy::GlobalRm => Weights {
+            a: 2,
+            b: m,
+            c: 2,
+            r: m * Share::SCALE,
+        },
+        Policy::FirstFit => Weights {
+            a: 0,
+            b: 0,
+            c: 0,
+            r: 0,
+        },
+        Policy::Further(_) => Weights {
+            a: 0,
+            b: 0,
+            c: 0,
+            r: 0,
+        },
+    }
+}
+
+// The left side of the test, for a sum and a max.
+pub fn left_of(w: Weights, sum: u64, max: u64) -> u64
+    requires { ⌜ Light w × (sum ≤ 32000000) × (max ≤ scale) ⌝ }
+    ensures { λ r. ⌜ SideIs (left w sum max) r ⌝ }
+{
+    w.a * sum + w.b * max
+}
+
+// The right side of the test, for a max.
+pub fn right_of(w: Weights, max: u64) -> u64
+    requires { ⌜ Light w × (max ≤ scale) ⌝ }
+    ensures { λ r. ⌜ SideIs (right w max) r ⌝ }
+{
+    w.r + w.c * max
+}
+
+// The sum and the max of the loads at a step.
+pub struct Total {
+    pub sum: u64,
+    pub max: u64,
+}
+
+pub fn total_at(table: Table, k: u32) -> Total
+    requires { ⌜ GoodTable table ⌝ }
+    ensures { λ r. ⌜ TotalIs (shares (table .rows) k) (table .n) (r .sum) (r .max) ⌝ }
+{
+    let n = table.n;
+    let mut sum: u64 = 0;
+    let mut max: u64 = 0;
+    for i in 0..n {
+        let load = share::load_at(table.rows[i], k);
+        sum += load;
+        max = ground::larger(max, load);
+    }
+    Total { sum, max }
+}
+
+// Whether the table passes the policy's test at step k.
+pub fn passes_at(policy: Policy, m: u16, table: Table, k: u32) -> bool
+    requires { ⌜ GoodTable table × (1 ≤ m) × (m ≤ mostProcessors) ⌝ }
+    ensures { λ r. ⌜ r ≡ passes policy m (shares (table .rows) k) (table .n) ⌝ }
+{
+    if policy.has_formula() {
+        let w = weights_of(policy, m);
+        let total = total_at(table, k);
+        return left_of(w, total.sum, total.max) <= right_of(w, total.max);
+    }
+    if policy.is_first_fit() {
+        let trial = fit::first_fit(table, m as usize, k);
+        return trial.placed;
+    }
+    false
+}
+
+// The right side of the test minus the left, as a signed number.
+pub fn margin_at(policy: Policy, m: u16, table: Table, k: u32) -> i64
+    requires { ⌜ GoodTable table × (1 ≤ m) × (m ≤ mostProcessors) ⌝ }
+    ensures { λ r. ⌜ r ≡ marginOf policy m (shares (table .rows) k) (table .n) ⌝ }
+{
+    let w = weights_of(policy, m);
+    let total = total_at(table, k);
+    difference(right_of(w, total.max), left_of(w, total.sum, total.max))
+}
+
+// The first number minus the second.
+fn difference(a: u64, b: u64) -> i64
+    requires { ⌜ (a ≤ 1000000000) × (b ≤ 1000000000) ⌝ }
+    ensures { λ r. ⌜ r ≡ subℕ a b ⌝ }
+{
+    a as i64 - b as i64
+}
