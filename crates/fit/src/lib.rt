@@ -2,7 +2,6 @@
 // `specs/Fit`.
 use kinds::Share;
 use kinds::Table;
-ghost use mathlib.Core.Path.{_≡_};
 ghost use Prim.Native.Nat.{_≤_};
 ghost use Rattle.kinds.specs.Limits.{mostProcessors};
 ghost use Rattle.share.specs.Table.{GoodTable, shares};

@@ -6,7 +6,7 @@ use kinds::Table;
 ghost use mathlib.Core.Path.{_≡_};
 ghost use Prim.Native.Nat.{_≤_};
 ghost use lib.IntN.{subℕ};
-ghost use Rattle.kinds.specs.Limits.{scale, mostTasks, mostProcessors};
+ghost use Rattle.kinds.specs.Limits.{scale, mostProcessors};
 ghost use Rattle.share.specs.Table.{GoodTable, shares};
 ghost use Rattle.policy.specs.Sides.{weightsOf, Light, left, right, SideIs, TotalIs, marginOf};
 ghost use Rattle.policy.specs.Passing.{passes};

@@ -5,7 +5,6 @@ use mathlib.Core.Bool.{Bool, true, false, not}
 use mathlib.Core.List.{List}
 use mathlib.Core.Path.{_≡_, sym, ap, _∙_}
 use native.Mathlib.Omega.{arith}
-use lib.ListN.{length}
 use Rattle.ground.specs.First.{IsFirst}
 use Rattle.ground.proofs.Cases.{by-bool, true-false}
 use Rattle.ground.proofs.First.{first-is, first-here, first-more, first-none, first-cong}
@@ -73,8 +72,8 @@ module _ (rows : List Task) (n i : ℕ) (h : (j : ℕ) → j < i → not (isGood
   bad-none e = sym e ∙ first-none (λ j. not (isGood (at rows j))) n i h e
 
 -- a table whose records are all good
-pub good-table : (t : Table) → t .n ≤ mostTasks → length (t .rows) ≡ mostTasks → t .n ≤ firstBad (t .rows) (t .n) → GoodTable t
-good-table t few long none = record { few = few; long = long; good = all-good (t .rows) (t .n) none }
+pub good-table : (t : Table) → t .n ≤ mostTasks → t .n ≤ firstBad (t .rows) (t .n) → GoodTable t
+good-table t few none = record { few = few; good = all-good (t .rows) (t .n) none }
 
 -- the rules look at the first n records only
 module _ (xs ys : List Task) (n : ℕ) (same : (i : ℕ) → i < n → at xs i ≡ at ys i) where

@@ -3,8 +3,6 @@
 use Prim.Native.Nat.{ℕ, _≤_, _<_}
 use mathlib.Core.Bool.{not}
 use mathlib.Core.List.{List}
-use mathlib.Core.Path.{_≡_}
-use lib.ListN.{length}
 use Rattle.ground.specs.First.{firstBelow}
 use Rattle.ground.specs.Folds.{maxTo, listTo}
 use Rattle.kinds.specs.declared.Task.{Task}
@@ -32,5 +30,4 @@ periodsAt rows n k = listTo (λ i. periodAt (at rows i) k) n
 -- a table by value that the rules may be asked of
 pub record GoodTable (t : Table) : Type 0 where
   pub few : t .n ≤ mostTasks
-  pub long : length (t .rows) ≡ mostTasks
   pub good : (i : ℕ) → i < t .n → Good (at (t .rows) i)

@@ -5,7 +5,6 @@ use kinds::Table;
 use kinds::Task;
 ghost use mathlib.Core.Path.{_≡_};
 ghost use Prim.Native.Nat.{_≤_};
-ghost use lib.ListN.{length};
 ghost use Rattle.kinds.specs.Limits.{mostTasks};
 ghost use Rattle.kinds.specs.Task.{Good};
 ghost use Rattle.share.specs.Share.{costOf, largestOf, leastOf, shareAt, saturationAt, ShareIs, StepIs, PeriodIs};
@@ -87,7 +86,7 @@ pub fn full_compression(table: Table) -> u32
 
 // The first record that is not good, or how many there are.
 pub fn first_bad(table: Table) -> usize
-    requires { ⌜ (table .n ≤ mostTasks) × (length (table .rows) ≡ mostTasks) ⌝ }
+    requires { ⌜ table .n ≤ mostTasks ⌝ }
     ensures { λ r. ⌜ r ≡ firstBad (table .rows) (table .n) ⌝ }
 {
     let n = table.n;
