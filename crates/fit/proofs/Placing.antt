@@ -104,7 +104,7 @@ module _ (m : ℕ) (f g : ℕ → ℕ) where
       rw (loadsAfter, e, q)
 
   module _ (n : ℕ) (h : (x : ℕ) → x < n → f x ≡ g x) where
-    place-same : (i : ℕ) → i < n → placeAt m f i ≡ placeAt m g i
+    pub place-same : (i : ℕ) → i < n → placeAt m f i ≡ placeAt m g i
     unfolding placeAt
     place-same i l =
         let e = after-same i (λ x k. h x (omega arith)) in

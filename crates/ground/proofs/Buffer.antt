@@ -5,7 +5,7 @@ use mathlib.Core.List.{List, [], _∷_, _++_, append-assoc}
 use mathlib.Core.Path.{_≡_, refl, ap, _∙_}
 use native.Mathlib.Numerals.{add-one}
 use native.Mathlib.Omega.{arith}
-use lib.ListN.{length, getD, set, drop, length-append}
+use lib.ListN.{length, getD, set, drop, length-append, length-set}
 use lib.Seq.{set-at, drop-cons, getD-at, getD-append-add, getD-drop}
 use Rattle.ground.specs.Folds.{listTo}
 use Rattle.ground.proofs.Cases.{by-le}
@@ -51,3 +51,14 @@ list-cong f g (suc n) h =
     let a = list-cong f g n (λ i l. h i (omega arith)) in
     let b = h n (omega arith) in
     rw (listTo, a, b)
+
+-- a walk that has written i entries of a buffer
+pub record Front (f : ℕ → ℕ) (old out : List ℕ) (i : ℕ) : Type 0 where
+  pub is : out ≡ listTo f i ++ drop i old
+  pub long : length out ≡ length old
+
+pub front-none : (f : ℕ → ℕ) (old : List ℕ) → Front f old old 0
+front-none f old = record { is = list-none f old; long = refl }
+
+pub front-more : (f : ℕ → ℕ) (old out : List ℕ) (i v : ℕ) → i < length old → v ≡ f i → Front f old out i → Front f old (set out i v) (i + 1)
+front-more f old out i v l e w = record { is = list-more f i v old out l e (w .is); long = length-set out i v ∙ w .long }

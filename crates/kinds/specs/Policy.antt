@@ -39,3 +39,11 @@ isFirstFit GlobalEdf = false
 isFirstFit GlobalRm = false
 isFirstFit FirstFit = true
 isFirstFit (Further q) = false
+
+-- none of the four
+abbrev pub isFurther : Policy → Bool
+isFurther Pooled = false
+isFurther GlobalEdf = false
+isFurther GlobalRm = false
+isFurther FirstFit = false
+isFurther (Further q) = true

@@ -3,7 +3,7 @@
 ghost use mathlib.Core.Path.{_≡_};
 ghost use Rattle.kinds.specs.Limits.{scale, longestPeriod, greatestElasticity, mostTasks, mostProcessors};
 ghost use Rattle.kinds.specs.Task.{isGood, task};
-ghost use Rattle.kinds.specs.Policy.{policyOf, policyNumber, meant, hasFormula, isFirstFit};
+ghost use Rattle.kinds.specs.Policy.{policyOf, policyNumber, meant, hasFormula, isFirstFit, isFurther};
 ghost use Rattle.kinds.specs.Refusal.{numberOf, placeOf};
 ghost use Rattle.kinds.specs.Answer.{isAccepted, stepOf};
 
@@ -130,6 +130,19 @@ impl Policy {
             Policy::GlobalRm => false,
             Policy::FirstFit => true,
             Policy::Further(_) => false,
+        }
+    }
+
+    // None of the four.
+    pub fn is_further(self) -> bool
+        ensures { λ r. ⌜ r ≡ isFurther self ⌝ }
+    {
+        match self {
+            Policy::Pooled => false,
+            Policy::GlobalEdf => false,
+            Policy::GlobalRm => false,
+            Policy::FirstFit => false,
+            Policy::Further(_) => true,
         }
     }
 }

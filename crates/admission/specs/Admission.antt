@@ -1,0 +1,42 @@
+-- Document 01, "Numbers we hand back": the checks that every call on a table makes first, the lowest number first.
+-- Assumes nothing.
+use Prim.Native.Nat.{ℕ}
+use mathlib.Core.Bool.{Bool, not}
+use mathlib.Core.List.{List}
+use lib.Dec.{ltb}
+use Rattle.ground.specs.Choice.{pick, both, either}
+use Rattle.kinds.specs.declared.Task.{Task}
+use Rattle.kinds.specs.declared.Settings.{Settings}
+use Rattle.kinds.specs.declared.Refusal.{Refusal}
+use Rattle.kinds.specs.declared.Refusal.the-variants.{NoSuchPolicy, NoSuchProcessors, TooManyTasks, PolicyNotServed, OutputTooShort, BadRecord}
+use Rattle.kinds.specs.Limits.{mostTasks, mostProcessors}
+use Rattle.kinds.specs.Policy.{meant, isFirstFit, isFurther}
+use Rattle.share.specs.Table.{firstBad}
+use Rattle.admission.specs.declared.Admission.{Admission}
+use Rattle.admission.specs.declared.Admission.the-variants.{Admitted, Refused}
+
+-- refused where the test holds, else by what comes after
+abbrev pub check : Bool → Refusal → Admission → Admission
+check test r rest = pick test (Refused r) rest
+
+-- 1 to 5 for any kind of table: an unknown policy, m, more tasks than there may be, a policy that the call does not serve, a short output
+unfoldable pub gate : Bool → ℕ → ℕ → Bool → ℕ → Admission
+gate unknown m n unserved room =
+    check unknown NoSuchPolicy
+    (check (either (ltb m 1) (ltb mostProcessors m)) NoSuchProcessors
+    (check (ltb mostTasks n) (TooManyTasks n)
+    (check unserved PolicyNotServed
+    (check (ltb room n) (OutputTooShort n)
+    Admitted))))
+
+-- what comes after an admission
+abbrev pub andThen : Admission → Admission → Admission
+andThen Admitted rest = rest
+andThen (Refused r) rest = Refused r
+
+-- 1 to 6: n tasks, the room of the shortest lent output, and whether the call serves policy 4
+unfoldable pub admission : Bool → Settings → List Task → ℕ → ℕ → Admission
+admission serves s rows n room =
+    andThen
+    (gate (isFurther (meant (s .policy))) (s .m) n (both (isFirstFit (meant (s .policy))) (not serves)) room)
+    (check (ltb (firstBad rows n) n) (BadRecord (firstBad rows n)) Admitted)

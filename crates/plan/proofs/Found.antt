@@ -1,0 +1,57 @@
+-- What an accepted answer has passed, so that its plan may be written.
+-- Assumes nothing.
+use Prim.Native.Nat.{ℕ, _≤_, _<_, min}
+use mathlib.Core.Bool.{Bool, true, false}
+use mathlib.Core.List.{List}
+use mathlib.Core.Path.{_≡_, refl, sym, ap, _∙_}
+use native.Mathlib.Omega.{arith}
+use Rattle.ground.specs.declared.Step.{Step}
+use Rattle.ground.specs.declared.Step.the-variants.{At, Nothing}
+use Rattle.ground.proofs.Cases.{true-false}
+use Rattle.kinds.specs.declared.Task.{Task}
+use Rattle.kinds.specs.declared.Table.{Table}
+use Rattle.kinds.specs.declared.Settings.{Settings}
+use Rattle.kinds.specs.declared.Answer.{Answer}
+use Rattle.kinds.specs.declared.Answer.the-variants.{Accepted, Refused}
+use Rattle.kinds.specs.declared.Refusal.the-variants.{NoStepPasses}
+use Rattle.kinds.specs.Answer.{Handed, accepted, handed, isAccepted, stepOf}
+use Rattle.kinds.specs.Policy.{meant}
+use Rattle.kinds.proofs.Answers.{not-refused}
+use Rattle.share.proofs.Tables.{good-table}
+use Rattle.policy.specs.Passing.{leastStep}
+use Rattle.policy.proofs.Demand.{step-at}
+use Rattle.admission.specs.declared.Admission as adm
+use Rattle.admission.specs.Admission.{admission}
+use Rattle.admission.proofs.Chain.{Ready, admitted}
+use Rattle.plan.specs.Plan.{decided, found, Grantable, MayGrant}
+
+-- an acceptance was admitted, and its step is the least that passes
+decided-accepted : (a : adm.Admission) (step : Step) (k : ℕ) → accepted k ≡ decided a step → (a ≡ adm.the-variants.Admitted) × (step ≡ At k)
+decided-accepted (adm.the-variants.Refused r) step k e = not-refused k 0 r e
+decided-accepted adm.the-variants.Admitted (At j) k e = (refl, ap At (sym (ap (λ (h : Handed ℕ). h .value) e)))
+decided-accepted adm.the-variants.Admitted Nothing k e = not-refused k 0 NoStepPasses e
+
+pub record Accepting (serves : Bool) (s : Settings) (rows : List Task) (n room k : ℕ) : Type 0 where
+  pub ready : Ready serves s rows n room
+  pub step : leastStep (meant (s .policy)) (s .m) rows n ≡ At k
+
+pub accepting : (serves : Bool) (s : Settings) (rows : List Task) (n room k : ℕ) → accepted k ≡ found serves s rows n room → Accepting serves s rows n room k
+unfolding found
+accepting serves s rows n room k e =
+    let d = decided-accepted _ _ k e in
+    record { ready = admitted serves s rows n room (d .0); step = d .1 }
+
+pub may-grant : (serves : Bool) (answer : Answer) (s : Settings) (t : Table) (a b : ℕ) → handed answer ≡ found serves s (t .rows) (t .n) (min a b) → MayGrant answer s t a b
+may-grant serves (Refused r) s t a b e = record { to-periods = λ x. true-false x refl; to-processors = λ x. true-false x refl }
+may-grant serves (Accepted k) s t a b e = record { to-periods = λ _. grantable a (omega arith); to-processors = λ _. grantable b (omega arith) }
+  where
+    grantable : (room : ℕ) → min a b ≤ room → Grantable (meant (s .policy)) (s .m) t k room
+    grantable room h =
+        let g = accepting serves s (t .rows) (t .n) (min a b) k e in
+        let p = g .ready .passed in
+        record {
+          table = good-table t (p .few) (g .ready .none-bad);
+          m-most = p .m-most;
+          roomy = omega (arith, p .roomy);
+          passing = step-at (meant (s .policy)) (s .m) (t .rows) (t .n) k (g .step) .passes;
+        }

@@ -1,0 +1,4 @@
+pub mod Processors
+pub mod Writing
+pub mod Found
+pub mod Outcomes

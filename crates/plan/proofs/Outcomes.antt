@@ -1,0 +1,115 @@
+-- One outcome for every call: no second answer meets it, it depends on the first n records only, and where policy 4 is not asked it is
+-- the same whether that policy is served or not.
+-- Assumes nothing.
+use Prim.Native.Nat.{ℕ, _+_, _≤_, _<_, min}
+use mathlib.Core.Bool.{Bool, true, false, not}
+use mathlib.Core.List.{List}
+use mathlib.Core.Path.{_≡_, refl, sym, ap, ap₂, _∙_}
+use native.Mathlib.Omega.{arith}
+use lib.Dec.{eqb}
+use lib.ListN.{length}
+use borrow.Author.Tests.{ne-eqb}
+use Rattle.ground.specs.declared.Step.{Step}
+use Rattle.ground.specs.Choice.{pick}
+use Rattle.ground.proofs.Cases.{by-le}
+use Rattle.ground.proofs.Buffer.{list-cong}
+use Rattle.kinds.specs.declared.Task.{Task}
+use Rattle.kinds.specs.declared.Policy.{Policy}
+use Rattle.kinds.specs.declared.Settings.{Settings}
+use Rattle.kinds.specs.declared.Answer.{Answer}
+use Rattle.kinds.specs.Answer.{Handed, handed}
+use Rattle.kinds.specs.Limits.{mostTasks}
+use Rattle.kinds.specs.Policy.{meant, isFirstFit}
+use Rattle.kinds.specs.Refusal.{numberOf}
+use Rattle.kinds.specs.Task.{at}
+use Rattle.kinds.proofs.Answers.{handed-one}
+use Rattle.kinds.proofs.Refusals.{refusal-numbered}
+use Rattle.share.specs.Share.{shareAt}
+use Rattle.share.specs.Table.{shares, periodsAt}
+use Rattle.share.proofs.Tables.{periods-same}
+use Rattle.fit.proofs.Placing.{place-same}
+use Rattle.fit.specs.Fit.{placeAt}
+use Rattle.policy.specs.Passing.{leastStep}
+use Rattle.policy.proofs.Demand.{step-same}
+use Rattle.admission.specs.declared.Admission as adm
+use Rattle.admission.specs.Admission.{admission}
+use Rattle.admission.proofs.Chain.{admitted, admission-same, admission-many, admission-serves}
+use Rattle.plan.specs.Plan.{processorAt, processorsAt, decided, written, periodsAfter, processorsAfter, Outcome, found, outcome, Meets}
+
+-- two answers, with their outputs, that meet one outcome are equal
+pub no-second-answer : (o : Outcome) (a b : Answer) (ps qs ps′ qs′ : List ℕ) → Meets o a ps qs → Meets o b ps′ qs′ → (a ≡ b) × (ps ≡ ps′) × (qs ≡ qs′)
+no-second-answer o a b ps qs ps′ qs′ x y =
+    (handed-one a b (x .answers ∙ sym (y .answers)), x .grants ∙ sym (y .grants), x .places ∙ sym (y .places))
+
+-- a call that is not admitted is refused, whatever the step
+decided-refused : (a : adm.Admission) (x : Step) → (a ≡ adm.the-variants.Admitted → ⊥) → decided a x .number ≡ 0 → ⊥
+decided-refused adm.the-variants.Admitted x h e = h refl
+decided-refused (adm.the-variants.Refused r) x h e = omega (arith, refusal-numbered r)
+
+decided-apart : (a : adm.Admission) (x y : Step) → (a ≡ adm.the-variants.Admitted → ⊥) → decided a x ≡ decided a y
+decided-apart adm.the-variants.Admitted x y h = absurd (h refl)
+decided-apart (adm.the-variants.Refused r) x y h = refl
+
+module _ (serves : Bool) (s : Settings) (xs ys : List Task) (n : ℕ) where
+  -- too many tasks: no record is looked at
+  not-admitted : (rows : List Task) (room : ℕ) → mostTasks < n → admission serves s rows n room ≡ adm.the-variants.Admitted → ⊥
+  not-admitted rows room h e = omega (arith, admitted serves s rows n room e .passed .few)
+
+  found-many : (room : ℕ) → mostTasks < n → found serves s xs n room ≡ found serves s ys n room
+  unfolding found
+  found-many room h =
+      ap (λ (a : adm.Admission). decided a (leastStep (meant (s .policy)) (s .m) xs n)) (admission-many serves s xs ys n room h)
+      ∙ decided-apart (admission serves s ys n room) _ _ (not-admitted ys room h)
+
+  refused-many : (room : ℕ) → mostTasks < n → found serves s ys n room .number ≡ 0 → ⊥
+  unfolding found
+  refused-many room h = decided-refused (admission serves s ys n room) _ (not-admitted ys room h)
+
+  keeps : (h : Handed ℕ) (f g : List ℕ) (old : List ℕ) → (h .number ≡ 0 → ⊥) → written h f n old ≡ written h g n old
+  keeps h f g old d = rw (ne-eqb (h .number) 0 d)
+
+  outcome-many : (periods processors : List ℕ) → mostTasks < n → outcome serves s xs n periods processors ≡ outcome serves s ys n periods processors
+  unfolding outcome
+  outcome-many periods processors h =
+      let room = min (length periods) (length processors) in
+      let e = found-many room h in
+      let d = refused-many room h in
+      rw (
+        e,
+        keeps (found serves s ys n room) (periodsAt xs n (found serves s ys n room .value)) (periodsAt ys n (found serves s ys n room .value)) periods d,
+        keeps (found serves s ys n room) (processorsAt (meant (s .policy)) (s .m) xs n (found serves s ys n room .value)) (processorsAt (meant (s .policy)) (s .m) ys n (found serves s ys n room .value)) processors d,
+      )
+
+  module _ (same : (i : ℕ) → i < n → at xs i ≡ at ys i) where
+    processors-same : (p : Policy) (m k : ℕ) → processorsAt p m xs n k ≡ processorsAt p m ys n k
+    unfolding processorsAt
+    processors-same p m k =
+        list-cong (processorAt p m xs k) (processorAt p m ys k) n
+        (λ i l. ap (λ (x : ℕ). pick (isFirstFit p) (x + 1) 0)
+        (place-same m (shares xs k) (shares ys k) n (λ x g. ap (λ (t : Task). shareAt t k) (same x g)) i l))
+
+    found-same : (room : ℕ) → found serves s xs n room ≡ found serves s ys n room
+    unfolding found
+    found-same room = ap₂ decided (admission-same serves s xs ys n room same) (step-same (meant (s .policy)) (s .m) xs ys n same)
+
+    outcome-agrees : (periods processors : List ℕ) → outcome serves s xs n periods processors ≡ outcome serves s ys n periods processors
+    unfolding outcome
+    outcome-agrees periods processors =
+        let room = min (length periods) (length processors) in
+        let k = found serves s ys n room .value in
+        rw (found-same room, periods-same xs ys n same k, processors-same (meant (s .policy)) (s .m) k)
+
+-- two tables that agree on the first n records are answered alike; where n is too large, any two are
+pub outcome-same : (serves : Bool) (s : Settings) (xs ys : List Task) (n : ℕ) (periods processors : List ℕ)
+    → (n ≤ mostTasks → (i : ℕ) → i < n → at xs i ≡ at ys i) → outcome serves s xs n periods processors ≡ outcome serves s ys n periods processors
+outcome-same serves s xs ys n periods processors same =
+    by-le n mostTasks
+    (λ h. outcome-agrees serves s xs ys n (same h) periods processors)
+    (λ h. outcome-many serves s xs ys n periods processors h)
+
+-- where policy 4 is not asked, a finder that serves it and one that does not have one outcome
+pub outcome-serves : (s : Settings) (rows : List Task) (n : ℕ) (periods processors : List ℕ) → isFirstFit (meant (s .policy)) ≡ false
+    → outcome true s rows n periods processors ≡ outcome false s rows n periods processors
+unfolding outcome found
+outcome-serves s rows n periods processors f =
+    rw (admission-serves s rows n (min (length periods) (length processors)) f)

@@ -1,0 +1,89 @@
+-- Demand 2, whole: what a finder hands back and what it leaves in the two lent outputs, for every input.
+-- Assumes nothing.
+use Prim.Native.Nat.{ℕ, _+_, _≤_, min}
+use mathlib.Core.Bool.{Bool, true}
+use mathlib.Core.List.{List, _++_}
+use mathlib.Core.Path.{_≡_}
+use lib.Dec.{eqb}
+use lib.ListN.{length, drop}
+use Rattle.ground.specs.declared.Step.{Step}
+use Rattle.ground.specs.declared.Step.the-variants.{At, Nothing}
+use Rattle.ground.specs.Choice.{pick}
+use Rattle.ground.specs.Folds.{listTo}
+use Rattle.kinds.specs.declared.Task.{Task}
+use Rattle.kinds.specs.declared.Table.{Table}
+use Rattle.kinds.specs.declared.Policy.{Policy}
+use Rattle.kinds.specs.declared.Settings.{Settings}
+use Rattle.kinds.specs.declared.Refusal.the-variants.{NoStepPasses}
+use Rattle.kinds.specs.declared.Answer.{Answer}
+use Rattle.kinds.specs.Answer.{Handed, accepted, refused, handed, isAccepted, stepOf}
+use Rattle.kinds.specs.Limits.{mostProcessors}
+use Rattle.kinds.specs.Policy.{meant, isFirstFit}
+use Rattle.share.specs.Table.{GoodTable, shares, periodsAt}
+use Rattle.fit.specs.Fit.{placeAt}
+use Rattle.policy.specs.Passing.{passesAt, leastStep}
+use Rattle.admission.specs.declared.Admission.{Admission}
+use Rattle.admission.specs.declared.Admission.the-variants.{Admitted, Refused}
+use Rattle.admission.specs.Admission.{admission}
+
+-- the processor of task i at step k: "1 to m under policy 4, and 0 ("any") under 1 to 3"
+abbrev pub processorAt : Policy → ℕ → List Task → ℕ → ℕ → ℕ
+processorAt p m rows k i = pick (isFirstFit p) (placeAt m (shares rows k) i + 1) 0
+
+unfoldable pub processorsAt : Policy → ℕ → List Task → ℕ → ℕ → List ℕ
+processorsAt p m rows n k = listTo (processorAt p m rows k) n
+
+-- an admitted call is answered by the least passing step, or refused by 7
+abbrev pub decided : Admission → Step → Handed ℕ
+decided (Refused r) step = refused 0 r
+decided Admitted (At k) = accepted k
+decided Admitted Nothing = refused 0 NoStepPasses
+
+-- "An accepted call writes an output up to the entries needed and no further"; in a refusal "lent buffers keep their bytes"
+abbrev pub written : Handed ℕ → List ℕ → ℕ → List ℕ → List ℕ
+written h front n old = pick (eqb (h .number) 0) (front ++ drop n old) old
+
+-- what stands in the two outputs after a call on the first n of some records
+abbrev pub periodsAfter : Handed ℕ → List Task → ℕ → List ℕ → List ℕ
+periodsAfter h rows n old = written h (periodsAt rows n (h .value)) n old
+
+abbrev pub processorsAfter : Handed ℕ → Settings → List Task → ℕ → List ℕ → List ℕ
+processorsAfter h s rows n old = written h (processorsAt (meant (s .policy)) (s .m) rows n (h .value)) n old
+
+-- number, place and step, and the two outputs as the call leaves them
+pub record Outcome : Type 0 where
+  pub handed : Handed ℕ
+  pub periods : List ℕ
+  pub processors : List ℕ
+
+-- the admission, and the least passing step where it admits; a finder serves policy 4, or does not
+unfoldable pub found : Bool → Settings → List Task → ℕ → ℕ → Handed ℕ
+found serves s rows n room = decided (admission serves s rows n room) (leastStep (meant (s .policy)) (s .m) rows n)
+
+-- a finder's call, with the two outputs as they are lent
+unfoldable pub outcome : Bool → Settings → List Task → ℕ → List ℕ → List ℕ → Outcome
+outcome serves s rows n periods processors =
+    let h = found serves s rows n (min (length periods) (length processors)) in
+    record { handed = h; periods = periodsAfter h rows n periods; processors = processorsAfter h s rows n processors }
+
+-- an answer and the two outputs at exit are those of the outcome
+pub record Meets (o : Outcome) (answer : Answer) (periods processors : List ℕ) : Type 0 where
+  pub answers : handed answer ≡ o .handed
+  pub grants : periods ≡ o .periods
+  pub places : processors ≡ o .processors
+
+-- what the writing of a plan at step k relies on
+pub record Grantable (p : Policy) (m : ℕ) (t : Table) (k room : ℕ) : Type 0 where
+  pub table : GoodTable t
+  pub m-most : m ≤ mostProcessors
+  pub roomy : t .n ≤ room
+  pub passing : passesAt p m (t .rows) (t .n) k ≡ true
+
+pub record MayGrant (answer : Answer) (s : Settings) (t : Table) (periods processors : ℕ) : Type 0 where
+  pub to-periods : isAccepted answer ≡ true → Grantable (meant (s .policy)) (s .m) t (stepOf answer) periods
+  pub to-processors : isAccepted answer ≡ true → Grantable (meant (s .policy)) (s .m) t (stepOf answer) processors
+
+-- what the writing of a plan leaves in the two outputs
+pub record Leaves (h : Handed ℕ) (s : Settings) (rows : List Task) (n : ℕ) (oldPeriods oldProcessors periods processors : List ℕ) : Type 0 where
+  pub periods-are : periods ≡ periodsAfter h rows n oldPeriods
+  pub processors-are : processors ≡ processorsAfter h s rows n oldProcessors
