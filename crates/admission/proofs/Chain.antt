@@ -6,9 +6,9 @@ use mathlib.Core.List.{List}
 use mathlib.Core.Path.{_≡_, refl}
 use native.Mathlib.Omega.{arith}
 use lib.Dec.{ltb}
-use borrow.Author.Tests.{ltb-false, ltb-true, lt-ltb}
-use Rattle.ground.specs.Choice.{pick, both, either}
-use Rattle.ground.proofs.Cases.{by-bool, true-false}
+use borrow.Author.Tests.{ltb-false}
+use Rattle.ground.specs.Choice.{both, either}
+use Rattle.ground.proofs.Cases.{true-false}
 use Rattle.kinds.specs.declared.Task.{Task}
 use Rattle.kinds.specs.declared.Settings.{Settings}
 use Rattle.kinds.specs.declared.Refusal.{Refusal}

@@ -2,17 +2,17 @@
 -- task is placed the loads of the processors add up to the sum of the tasks' loads.
 -- Assumes nothing.
 use Prim.Native.Nat.{ℕ, zero, suc, _+_, _≤_, _<_}
-use mathlib.Core.Bool.{Bool, true, false}
+use mathlib.Core.Bool.{true}
 use mathlib.Core.List.{List}
-use mathlib.Core.Path.{_≡_, refl, sym, ap, _∙_}
+use mathlib.Core.Path.{_≡_, refl, ap, _∙_}
 use native.Mathlib.Omega.{arith}
 use lib.Dec.{leb, eqb}
-use lib.ListN.{length, getD, set, replicate, length-set, length-replicate, getD-replicate}
+use lib.ListN.{length, getD, replicate, length-set, length-replicate, getD-replicate}
 use lib.Seq.{getD-set-same, getD-set-other}
-use borrow.Author.Tests.{leb-true, leb-false, le-leb, eqb-true}
+use borrow.Author.Tests.{leb-true, leb-false, eqb-true}
 use Rattle.ground.specs.First.{firstBelow, IsFirst}
 use Rattle.ground.specs.Folds.{sumTo}
-use Rattle.ground.proofs.Cases.{by-le, by-eq}
+use Rattle.ground.proofs.Cases.{by-eq}
 use Rattle.ground.proofs.First.{first-is, first-cong}
 use Rattle.ground.proofs.Folds.{sum-cong}
 use Rattle.ground.proofs.Buffer.{list-cong}

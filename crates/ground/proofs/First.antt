@@ -1,8 +1,8 @@
 -- The computed first number is the first in words, and no other number is.
 -- Assumes nothing.
-use Prim.Native.Nat.{ℕ, zero, suc, _+_, _≤_, _<_}
+use Prim.Native.Nat.{ℕ, zero, suc, _+_, _<_}
 use mathlib.Core.Bool.{Bool, true, false}
-use mathlib.Core.Path.{_≡_, refl, sym, _∙_}
+use mathlib.Core.Path.{_≡_, sym, _∙_}
 use native.Mathlib.Omega.{arith}
 use Rattle.ground.specs.First.{firstFrom, firstBelow, IsFirst}
 use Rattle.ground.proofs.Cases.{by-bool, by-le, true-false, below-next}

@@ -1,6 +1,6 @@
 -- The computed least step passes, no smaller one does, and none means that none passes; no other answer is right.
 -- Assumes nothing.
-use Prim.Native.Nat.{ℕ, suc, _+_, _≤_, _<_}
+use Prim.Native.Nat.{ℕ, suc, _≤_, _<_}
 use mathlib.Core.Bool.{Bool, true, false}
 use mathlib.Core.Path.{_≡_, refl, ap, sym, _∙_}
 use native.Mathlib.Omega.{arith}
@@ -8,7 +8,7 @@ use lib.Dec.{leb}
 use borrow.Author.Tests.{leb-true, leb-false}
 use Rattle.ground.specs.declared.Step.{Step}
 use Rattle.ground.specs.declared.Step.the-variants.{At, Nothing}
-use Rattle.ground.specs.First.{firstBelow, IsFirst}
+use Rattle.ground.specs.First.{IsFirst}
 use Rattle.ground.specs.Least.{upTo, leastUpTo, LeastAt, IsLeast}
 use Rattle.ground.proofs.Cases.{by-bool, by-le, true-false}
 use Rattle.ground.proofs.First.{first-is}

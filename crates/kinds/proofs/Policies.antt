@@ -1,12 +1,11 @@
 -- A policy's number, there and back.
 -- Assumes nothing.
 use Prim.Native.Nat.{ℕ}
-use mathlib.Core.Path.{_≡_, refl, ap}
+use mathlib.Core.Path.{_≡_, ap}
 use lib.Dec.{eqb}
 use borrow.Author.Tests.{eqb-true}
 use Rattle.ground.proofs.Cases.{by-bool}
 use Rattle.kinds.specs.declared.Policy.{Policy}
-use Rattle.kinds.specs.declared.Policy.the-variants.{Pooled, GlobalEdf, GlobalRm, FirstFit, Further}
 use Rattle.kinds.specs.Policy.{policyOf, policyNumber, meant}
 
 -- what is read is written back, whatever the number

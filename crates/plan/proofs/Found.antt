@@ -1,10 +1,11 @@
 -- What an accepted answer has passed, so that its plan may be written.
 -- Assumes nothing.
-use Prim.Native.Nat.{ℕ, _≤_, _<_, min}
-use mathlib.Core.Bool.{Bool, true, false}
+use Prim.Native.Nat.{ℕ, _≤_, min}
+use mathlib.Core.Bool.{Bool}
 use mathlib.Core.List.{List}
-use mathlib.Core.Path.{_≡_, refl, sym, ap, _∙_}
+use mathlib.Core.Path.{_≡_, refl, sym, ap}
 use native.Mathlib.Omega.{arith}
+use lib.ListN.{length}
 use Rattle.ground.specs.declared.Step.{Step}
 use Rattle.ground.specs.declared.Step.the-variants.{At, Nothing}
 use Rattle.ground.proofs.Cases.{true-false}
@@ -13,8 +14,9 @@ use Rattle.kinds.specs.declared.Table.{Table}
 use Rattle.kinds.specs.declared.Settings.{Settings}
 use Rattle.kinds.specs.declared.Answer.{Answer}
 use Rattle.kinds.specs.declared.Answer.the-variants.{Accepted, Refused}
+use Rattle.kinds.specs.declared.Refusal.{Refusal}
 use Rattle.kinds.specs.declared.Refusal.the-variants.{NoStepPasses}
-use Rattle.kinds.specs.Answer.{Handed, accepted, handed, isAccepted, stepOf}
+use Rattle.kinds.specs.Answer.{Handed, accepted, handed}
 use Rattle.kinds.specs.Policy.{meant}
 use Rattle.kinds.proofs.Answers.{not-refused}
 use Rattle.share.proofs.Tables.{good-table}
@@ -23,7 +25,7 @@ use Rattle.policy.proofs.Demand.{step-at}
 use Rattle.admission.specs.declared.Admission as adm
 use Rattle.admission.specs.Admission.{admission}
 use Rattle.admission.proofs.Chain.{Ready, admitted}
-use Rattle.plan.specs.Plan.{decided, found, Grantable, MayGrant}
+use Rattle.plan.specs.Plan.{decided, found, outcome, Meets, Leaves, Grantable, MayGrant}
 
 -- an acceptance was admitted, and its step is the least that passes
 decided-accepted : (a : adm.Admission) (step : Step) (k : ℕ) → accepted k ≡ decided a step → (a ≡ adm.the-variants.Admitted) × (step ≡ At k)
@@ -55,3 +57,22 @@ may-grant serves (Accepted k) s t a b e = record { to-periods = λ _. grantable 
           roomy = omega (arith, p .roomy);
           passing = step-at (meant (s .policy)) (s .m) (t .rows) (t .n) k (g .step) .passes;
         }
+
+-- as a finder works it out: without a step where the admission refuses, else with the least one
+module _ (serves : Bool) (s : Settings) (rows : List Task) (n room : ℕ) (a : adm.Admission) (is : a ≡ admission serves s rows n room) where
+  pub refused-found : (r : Refusal) (step : Step) → a ≡ adm.the-variants.Refused r → decided a step ≡ found serves s rows n room
+  unfolding found
+  refused-found r step e = rw (← is, e)
+
+  pub admitted-found : (step : Step) → step ≡ leastStep (meant (s .policy)) (s .m) rows n → decided a step ≡ found serves s rows n room
+  unfolding found
+  admitted-found step e = rw (is, e)
+
+-- an answer that is found, with what it leaves in the outputs, meets the outcome
+pub meets : (serves : Bool) (answer : Answer) (s : Settings) (rows : List Task) (n : ℕ) (periods processors new-periods new-processors : List ℕ)
+    → handed answer ≡ found serves s rows n (min (length periods) (length processors))
+    → Leaves (handed answer) s rows n periods processors new-periods new-processors
+    → Meets (outcome serves s rows n periods processors) answer new-periods new-processors
+unfolding outcome
+meets serves answer s rows n periods processors new-periods new-processors e l =
+    record { answers = e; grants = rw e at (l .periods-are); places = rw e at (l .processors-are) }

@@ -2,11 +2,10 @@
 -- the same whether that policy is served or not.
 -- Assumes nothing.
 use Prim.Native.Nat.{ℕ, _+_, _≤_, _<_, min}
-use mathlib.Core.Bool.{Bool, true, false, not}
+use mathlib.Core.Bool.{Bool, true, false}
 use mathlib.Core.List.{List}
 use mathlib.Core.Path.{_≡_, refl, sym, ap, ap₂, _∙_}
 use native.Mathlib.Omega.{arith}
-use lib.Dec.{eqb}
 use lib.ListN.{length}
 use borrow.Author.Tests.{ne-eqb}
 use Rattle.ground.specs.declared.Step.{Step}
@@ -17,10 +16,9 @@ use Rattle.kinds.specs.declared.Task.{Task}
 use Rattle.kinds.specs.declared.Policy.{Policy}
 use Rattle.kinds.specs.declared.Settings.{Settings}
 use Rattle.kinds.specs.declared.Answer.{Answer}
-use Rattle.kinds.specs.Answer.{Handed, handed}
+use Rattle.kinds.specs.Answer.{Handed}
 use Rattle.kinds.specs.Limits.{mostTasks}
 use Rattle.kinds.specs.Policy.{meant, isFirstFit}
-use Rattle.kinds.specs.Refusal.{numberOf}
 use Rattle.kinds.specs.Task.{at}
 use Rattle.kinds.proofs.Answers.{handed-one}
 use Rattle.kinds.proofs.Refusals.{refusal-numbered}
@@ -28,13 +26,12 @@ use Rattle.share.specs.Share.{shareAt}
 use Rattle.share.specs.Table.{shares, periodsAt}
 use Rattle.share.proofs.Tables.{periods-same}
 use Rattle.fit.proofs.Placing.{place-same}
-use Rattle.fit.specs.Fit.{placeAt}
 use Rattle.policy.specs.Passing.{leastStep}
 use Rattle.policy.proofs.Demand.{step-same}
 use Rattle.admission.specs.declared.Admission as adm
 use Rattle.admission.specs.Admission.{admission}
 use Rattle.admission.proofs.Chain.{admitted, admission-same, admission-many, admission-serves}
-use Rattle.plan.specs.Plan.{processorAt, processorsAt, decided, written, periodsAfter, processorsAfter, Outcome, found, outcome, Meets}
+use Rattle.plan.specs.Plan.{processorAt, processorsAt, decided, written, Outcome, found, outcome, Meets}
 
 -- two answers, with their outputs, that meet one outcome are equal
 pub no-second-answer : (o : Outcome) (a b : Answer) (ps qs ps′ qs′ : List ℕ) → Meets o a ps qs → Meets o b ps′ qs′ → (a ≡ b) × (ps ≡ ps′) × (qs ≡ qs′)

@@ -5,7 +5,6 @@ use mathlib.Core.Bool.{false}
 use mathlib.Core.List.{List}
 use mathlib.Core.Path.{_≡_, ap, _∙_}
 use native.Mathlib.Omega.{arith}
-use Rattle.ground.specs.declared.Step.{Step}
 use Rattle.ground.specs.declared.Step.the-variants.{At, Nothing}
 use Rattle.ground.specs.Least.{leastUpTo, LeastAt, IsLeast}
 use Rattle.ground.proofs.Least.{least-is, least-at, least-nothing, least-cong}

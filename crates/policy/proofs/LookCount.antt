@@ -10,7 +10,7 @@ use borrow.Author.Tests.{le-ltb}
 use Rattle.ground.specs.declared.Step.{Step}
 use Rattle.ground.specs.declared.Step.the-variants.{At, Nothing}
 use Rattle.ground.specs.Choice.{both}
-use Rattle.ground.specs.Folds.{maxTo, anyTo, countTo}
+use Rattle.ground.specs.Folds.{maxTo}
 use Rattle.ground.proofs.Cases.{by-bool}
 use Rattle.ground.proofs.Folds.{max-reached, count-le, count-lt, count-cong, any-cong}
 use Rattle.kinds.specs.declared.Task.{Task}

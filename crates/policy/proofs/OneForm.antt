@@ -1,6 +1,6 @@
 -- The one form of the tests is what document 01 prints for each policy.
 -- Assumes nothing.
-use Prim.Native.Nat.{ℕ, _+_, _-_, _*_, _≤_}
+use Prim.Native.Nat.{ℕ, _*_, _≤_}
 use mathlib.Core.Path.{_≡_, refl}
 use native.Mathlib.Nat.{mul-le-mul}
 use native.Mathlib.Omega.{arith}
@@ -8,7 +8,7 @@ use Rattle.kinds.specs.declared.Policy.{Policy}
 use Rattle.kinds.specs.declared.Policy.the-variants.{Pooled, GlobalEdf, GlobalRm, FirstFit, Further}
 use Rattle.kinds.specs.Limits.{scale, mostProcessors}
 use Rattle.policy.specs.declared.Weights.{Weights}
-use Rattle.policy.specs.Sides.{leftSide, rightSide, left, right, weightsOf, Light, SideIs}
+use Rattle.policy.specs.Sides.{leftSide, rightSide, left, right, weightsOf, Light}
 
 pub one-left : (p : Policy) (m sum max : ℕ) → left (weightsOf p m) sum max ≡ leftSide p m sum max
 one-left Pooled m sum max = omega arith

@@ -1,14 +1,14 @@
 -- Passing: what document 01 prints, that it stays once reached, and the margin that goes with it.
 -- Assumes nothing.
 use Prim.Native.Nat.{ℕ, suc, _+_, _-_, _*_, _≤_, _<_}
-use mathlib.Core.Bool.{Bool, true, false}
+use mathlib.Core.Bool.{true, false}
 use mathlib.Core.List.{List}
 use mathlib.Core.Path.{_≡_, refl, sym, ap, ap₂, _∙_}
 use native.Mathlib.Nat.{mul-le-mul-left}
 use native.Mathlib.Omega.{arith}
-use lib.Dec.{leb, ltb}
-use lib.IntN.{ℤ, pos, negsuc, subℕ}
-use borrow.Author.Tests.{leb-true, leb-false, le-leb, le-ltb, lt-ltb}
+use lib.Dec.{leb}
+use lib.IntN.{pos, negsuc, subℕ}
+use borrow.Author.Tests.{leb-true, leb-false, le-leb}
 use Rattle.ground.specs.Folds.{sumTo, maxTo}
 use Rattle.ground.specs.Least.{Rising}
 use Rattle.ground.proofs.Cases.{by-bool, true-false}

@@ -1,9 +1,8 @@
 -- The walk that works out the sum and the max of the loads together.
 -- Assumes nothing.
-use Prim.Native.Nat.{ℕ, _+_, _*_, _≤_, max}
+use Prim.Native.Nat.{ℕ, _+_, _≤_, max}
 use mathlib.Core.Path.{_≡_, sym}
 use native.Mathlib.Omega.{arith}
-use Rattle.ground.specs.Folds.{sumTo, maxTo}
 use Rattle.ground.proofs.Folds.{sum-none, sum-more, max-none, max-more}
 use Rattle.kinds.specs.Limits.{scale}
 use Rattle.policy.specs.Sides.{TotalIs}

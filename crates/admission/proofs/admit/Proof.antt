@@ -1,12 +1,9 @@
 -- `admission::admit` meets its contract. Assumes nothing.
 use mathlib.Core.Bool.{not}
-use mathlib.Core.Path.{_≡_, sym, ap, _∙_}
-use native.Mathlib.Omega.{arith}
+use mathlib.Core.Path.{_≡_, sym, _∙_}
 use borrow.Author.Tests.{lt-ltb, le-ltb}
-use lib.Dec.{ltb}
 use Rattle.ground.specs.Choice.{both}
 use Rattle.kinds.specs.Policy.{meant, isFirstFit, isFurther}
-use Rattle.admission.specs.declared.Admission.the-variants.{Admitted, Refused}
 use Rattle.admission.specs.Admission.{gate, admission}
 use Rattle.admission.proofs.Chain.{gate-passed}
 use borrow.Author.Needs.{needs}

@@ -1,5 +1,4 @@
 -- `plan::stepped` meets its contract. Assumes nothing.
-use mathlib.Core.Path.{sym, ap}
 use borrow.Author.Needs.{needs}
 use Rattle.plan.proofs.stepped.Statement.{statement}
 use Rattle.plan.proofs.stepped.Tie as tie

@@ -1,12 +1,11 @@
 -- `plan::write_periods` meets its contract. Assumes nothing.
-use Prim.Native.Nat.{_-_, _≤_}
+use Prim.Native.Nat.{_-_, _≤_, ℕ}
 use mathlib.Core.Path.{_≡_}
 use native.Mathlib.Omega.{arith}
 use Rattle.ground.proofs.Buffer.{Front, front-none, front-more}
 use Rattle.kinds.specs.Task.{at}
 use Rattle.share.specs.Share.{periodAt}
 use Rattle.share.specs.Table.{periodsAt}
-use Prim.Native.Nat.{ℕ}
 use Rattle.plan.proofs.write_periods.Statement.{statement}
 use Rattle.plan.proofs.write_periods.Tie as tie
 

@@ -1,6 +1,5 @@
 -- `policy::margin_at` meets its contract. Assumes nothing.
 use mathlib.Core.Path.{_∙_}
-use Rattle.share.specs.Table.{shares}
 use Rattle.policy.proofs.Tests.{margin-worked-out}
 use borrow.Author.Needs.{needs}
 use Rattle.policy.proofs.margin_at.Statement.{statement}

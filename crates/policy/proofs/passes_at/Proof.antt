@@ -1,6 +1,5 @@
 -- `policy::passes_at` meets its contract. Assumes nothing.
 use mathlib.Core.Path.{_∙_, sym}
-use Rattle.share.specs.Table.{shares}
 use Rattle.policy.proofs.Tests.{passes-worked-out, first-fit-passes, others-fail}
 use borrow.Author.Needs.{needs}
 use Rattle.policy.proofs.passes_at.Statement.{statement}

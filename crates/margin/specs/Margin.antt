@@ -1,0 +1,24 @@
+-- Document 01, "Margin", for every input.
+-- Assumes nothing.
+use Prim.Native.Nat.{ℕ}
+use mathlib.Core.Bool.{false}
+use mathlib.Core.List.{List}
+use lib.IntN.{ℤ, pos}
+use Rattle.kinds.specs.declared.Task.{Task}
+use Rattle.kinds.specs.declared.Settings.{Settings}
+use Rattle.kinds.specs.Answer.{Handed, accepted, refused}
+use Rattle.kinds.specs.Policy.{meant}
+use Rattle.share.specs.Table.{shares}
+use Rattle.policy.specs.Sides.{marginOf}
+use Rattle.admission.specs.declared.Admission.{Admission}
+use Rattle.admission.specs.declared.Admission.the-variants.{Admitted, Refused}
+use Rattle.admission.specs.Admission.{admission}
+
+-- an admitted call is answered by the margin
+abbrev pub reported : Admission → ℤ → Handed ℤ
+reported (Refused r) x = refused (pos 0) r
+reported Admitted x = accepted x
+
+-- at step k, of the first n of some records. Nothing is lent, so refusal 5 is never given; policy 4 is not served
+unfoldable pub marginHanded : Settings → List Task → ℕ → ℕ → Handed ℤ
+marginHanded s rows n k = reported (admission false s rows n n) (marginOf (meant (s .policy)) (s .m) (shares rows k) n)
