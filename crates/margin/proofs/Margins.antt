@@ -1,0 +1,46 @@
+-- One margin for every call: no second answer is handed back, and it depends on the first n records only.
+-- Assumes nothing.
+use Prim.Native.Nat.{ℕ, _≤_, _<_}
+use mathlib.Core.Bool.{false}
+use mathlib.Core.List.{List}
+use mathlib.Core.Path.{_≡_, refl, sym, ap, ap₂, _∙_}
+use native.Mathlib.Omega.{arith}
+use lib.IntN.{ℤ}
+use Rattle.ground.proofs.Cases.{by-le}
+use Rattle.kinds.specs.declared.Task.{Task}
+use Rattle.kinds.specs.declared.Settings.{Settings}
+use Rattle.kinds.specs.declared.Margin.{Margin}
+use Rattle.kinds.specs.Answer.{Handed, handedMargin}
+use Rattle.kinds.specs.Limits.{mostTasks}
+use Rattle.kinds.specs.Policy.{meant}
+use Rattle.kinds.specs.Task.{at}
+use Rattle.kinds.proofs.Answers.{margin-one}
+use Rattle.share.specs.Share.{shareAt}
+use Rattle.share.specs.Table.{shares}
+use Rattle.policy.specs.Sides.{marginOf}
+use Rattle.policy.proofs.Tests.{margin-same}
+use Rattle.admission.specs.declared.Admission.{Admission}
+use Rattle.admission.specs.declared.Admission.the-variants.{Admitted, Refused}
+use Rattle.admission.specs.Admission.{admission}
+use Rattle.admission.proofs.Chain.{admitted, admission-same, admission-many}
+use Rattle.margin.specs.Margin.{reported, marginHanded}
+
+pub no-second-margin : (s : Settings) (rows : List Task) (n k : ℕ) (x y : Margin)
+    → handedMargin x ≡ marginHanded s rows n k → handedMargin y ≡ marginHanded s rows n k → x ≡ y
+no-second-margin s rows n k x y p q = margin-one x y (p ∙ sym q)
+
+-- a call that is not admitted is refused, whatever the margin
+reported-apart : (a : Admission) (x y : ℤ) → (a ≡ Admitted → ⊥) → reported a x ≡ reported a y
+reported-apart Admitted x y h = absurd (h refl)
+reported-apart (Refused r) x y h = refl
+
+pub margin-handed-same : (s : Settings) (xs ys : List Task) (n k : ℕ) → (n ≤ mostTasks → (i : ℕ) → i < n → at xs i ≡ at ys i)
+    → marginHanded s xs n k ≡ marginHanded s ys n k
+unfolding marginHanded
+margin-handed-same s xs ys n k same =
+    by-le n mostTasks
+    (λ few. ap₂ reported (admission-same false s xs ys n n (same few))
+    (margin-same (meant (s .policy)) (s .m) (shares xs k) (shares ys k) n (λ i l. ap (λ (t : Task). shareAt t k) (same few i l))))
+    (λ many.
+    ap (λ (a : Admission). reported a (marginOf (meant (s .policy)) (s .m) (shares xs k) n)) (admission-many false s xs ys n n many)
+    ∙ reported-apart (admission false s ys n n) _ _ (λ e. omega (arith, admitted false s ys n n e .passed .few)))

@@ -1,0 +1,30 @@
+-- What the cores say of the table of the lent rows, they say of the rows.
+-- Assumes nothing.
+use Prim.Native.Nat.{ℕ, _≤_}
+use mathlib.Core.Bool.{Bool}
+use mathlib.Core.List.{List}
+use mathlib.Core.Path.{_≡_}
+use lib.ListN.{length}
+use Rattle.kinds.specs.declared.Settings.{Settings}
+use Rattle.kinds.specs.declared.Task.{Task}
+use Rattle.kinds.specs.Limits.{mostTasks}
+use Rattle.kinds.specs.Task.{at, noTask}
+use Rattle.plan.specs.Plan.{outcome}
+use Rattle.plan.proofs.Outcomes.{outcome-same}
+use Rattle.margin.specs.Margin.{marginHanded}
+use Rattle.margin.proofs.Margins.{margin-handed-same}
+use Rattle.walk.proofs.Padding.{padded-at}
+use Rattle.rows.specs.Gathered.{tableOf}
+
+-- the record number i of the table is the list's
+table-at : (rows : List Task) → length rows ≤ mostTasks → (i : ℕ) → at (tableOf rows .rows) i ≡ at rows i
+table-at rows few i = padded-at noTask mostTasks rows few i
+
+pub outcome-over : (serves : Bool) (s : Settings) (rows : List Task) (periods processors : List ℕ)
+    → outcome serves s (tableOf rows .rows) (length rows) periods processors ≡ outcome serves s rows (length rows) periods processors
+outcome-over serves s rows periods processors =
+    outcome-same serves s (tableOf rows .rows) rows (length rows) periods processors (λ few i _. table-at rows few i)
+
+pub margin-over : (s : Settings) (rows : List Task) (k : ℕ)
+    → marginHanded s (tableOf rows .rows) (length rows) k ≡ marginHanded s rows (length rows) k
+margin-over s rows k = margin-handed-same s (tableOf rows .rows) rows (length rows) k (λ few i _. table-at rows few i)

@@ -1,0 +1,88 @@
+// The public calls over a lent slice of whole task records. Each is a thin call, `core(gather(rows), ..)`: `gather` copies the rows
+// into a table by value, on which the covered core of another crate works. Contracts cite the cores' definitions and
+// `specs/Gathered`; the last law of `proofs/Bridge` ties what is said of the table to the rows. `proofs/Lent` says how to add a call.
+ghost use mathlib.Core.Bool.{true};
+ghost use mathlib.Core.List.{[]};
+ghost use mathlib.Core.Path.{_≡_};
+ghost use Prim.Native.Nat.{min};
+ghost use lib.ListN.{length};
+ghost use Rattle.kinds.specs.Answer.{handedMargin};
+ghost use Rattle.kinds.specs.Limits.{mostTasks};
+ghost use Rattle.plan.specs.Plan.{outcome, Meets};
+ghost use Rattle.margin.specs.Margin.{marginHanded};
+ghost use Rattle.rows.specs.Gathered.{tableOf, tableWith, front};
+use kinds::Answer;
+use kinds::Margin;
+use kinds::Settings;
+use kinds::Table;
+use kinds::Task;
+
+// How many of n rows a table takes.
+fn capped(n: usize) -> usize
+    ensures { λ r. ⌜ r ≡ min n mostTasks ⌝ }
+{
+    if n < Table::MOST_TASKS {
+        n
+    } else {
+        Table::MOST_TASKS
+    }
+}
+
+// The table of no rows, with the count n.
+fn empty(n: usize) -> Table
+    ensures { λ r. ⌜ r ≡ tableWith [] n ⌝ }
+{
+    let unused = Task {
+        c: 0,
+        tmin: 0,
+        tmax: 0,
+        e: 0,
+    };
+    Table {
+        rows: [unused; Table::MOST_TASKS],
+        n,
+    }
+}
+
+// The table of the lent rows. Its count is theirs, also where there are more than it takes, so that the core can refuse them.
+fn gather(rows: &[Task]) -> Table
+    ensures { λ r. ⌜ r ≡ tableOf (now (rows .entry)) ⌝ }
+{
+    let n = rows.len();
+    let kept = capped(n);
+    let mut table = empty(n);
+    let mut i: usize = 0;
+    while i < kept {
+        table.rows[i] = rows[i];
+        i += 1;
+    }
+    table
+}
+
+// The plain finder over lent rows. More rows than a table takes are refused by 3 at their number.
+pub fn find_plain(
+    rows: &[Task],
+    settings: Settings,
+    periods: &mut [u32],
+    processors: &mut [u16],
+) -> Answer
+    ensures { λ r. ⌜ Meets (outcome true settings (now (rows .entry)) (length (now (rows .entry))) (now (periods .entry)) (now (processors .entry))) r (now (periods .exit)) (now (processors .exit)) ⌝ }
+{
+    plain::find(gather(rows), settings, periods, processors)
+}
+
+// The margin over lent rows, at any step.
+pub fn margin_at(rows: &[Task], settings: Settings, step: u32) -> Margin
+    ensures { λ r. ⌜ handedMargin r ≡ marginHanded settings (now (rows .entry)) (length (now (rows .entry))) step ⌝ }
+{
+    margin::margin_at(gather(rows), settings, step)
+}
+
+// Lends the rows of a table that count to the plain finder, so that a function that makes no slice of records can run the call.
+pub fn find_plain_over(table: Table, settings: Settings, periods: &mut [u32], processors: &mut [u16]) -> Answer
+    ensures { λ r. ⌜ Meets (outcome true settings (front table) (length (front table)) (now (periods .entry)) (now (processors .entry))) r (now (periods .exit)) (now (processors .exit)) ⌝ }
+{
+    let rows = table.rows;
+    let n = capped(table.n);
+    find_plain(&rows[..n], settings, periods, processors)
+}

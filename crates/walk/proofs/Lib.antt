@@ -1,0 +1,10 @@
+pub mod Gets
+pub mod Thin
+pub mod ThinVmm
+pub mod ThinVv
+pub mod Item
+pub mod Padding
+pub mod Tabled
+pub mod GatherRows
+pub mod Lends
+pub mod LendVmm
