@@ -5,14 +5,12 @@ use mathlib.Core.Bool.{Bool, true, false, not}
 use mathlib.Core.List.{List}
 use mathlib.Core.Path.{_≡_, refl}
 use native.Mathlib.Omega.{arith}
-use lib.Dec.{ltb}
 use borrow.Author.Tests.{ltb-false}
 use Rattle.ground.specs.Choice.{both, either}
 use Rattle.ground.proofs.Cases.{true-false}
 use Rattle.kinds.specs.declared.Task.{Task}
 use Rattle.kinds.specs.declared.Settings.{Settings}
 use Rattle.kinds.specs.declared.Refusal.{Refusal}
-use Rattle.kinds.specs.declared.Refusal.the-variants.{BadRecord}
 use Rattle.kinds.specs.Limits.{mostTasks, mostProcessors}
 use Rattle.kinds.specs.Policy.{meant, isFirstFit, isFurther}
 use Rattle.kinds.specs.Task.{at}
@@ -20,7 +18,7 @@ use Rattle.share.specs.Table.{firstBad}
 use Rattle.share.proofs.Tables.{bad-same}
 use Rattle.admission.specs.declared.Admission.{Admission}
 use Rattle.admission.specs.declared.Admission.the-variants.{Admitted, Refused}
-use Rattle.admission.specs.Admission.{check, gate, andThen, admission}
+use Rattle.admission.specs.Admission.{check, gate, gateOf, recordsGood, andThen, admission}
 
 -- an admission was refused nowhere
 unchecked : (test : Bool) (r : Refusal) (rest : Admission) → check test r rest ≡ Admitted → (test ≡ false) × (rest ≡ Admitted)
@@ -80,11 +78,9 @@ module _ (serves : Bool) (s : Settings) (xs ys : List Task) (n room : ℕ) where
 
   pub admission-many : mostTasks < n → admission serves s xs n room ≡ admission serves s ys n room
   unfolding admission
-  admission-many h = by (gate (isFurther (meant (s .policy))) (s .m) n (both (isFirstFit (meant (s .policy))) (not serves)) room) refl
+  admission-many h = by (gateOf serves s n room) refl
     where
-      by : (a : Admission) → gate (isFurther (meant (s .policy))) (s .m) n (both (isFirstFit (meant (s .policy))) (not serves)) room ≡ a
-          → andThen a (check (ltb (firstBad xs n) n) (BadRecord (firstBad xs n)) Admitted)
-          ≡ andThen a (check (ltb (firstBad ys n) n) (BadRecord (firstBad ys n)) Admitted)
+      by : (a : Admission) → gateOf serves s n room ≡ a → andThen a (recordsGood xs n) ≡ andThen a (recordsGood ys n)
       by Admitted e = absurd (omega (arith, gate-passed _ _ _ _ _ e .few))
       by (Refused r) e = refl
 

@@ -34,9 +34,14 @@ abbrev pub andThen : Admission → Admission → Admission
 andThen Admitted rest = rest
 andThen (Refused r) rest = Refused r
 
--- 1 to 6: n tasks, the room of the shortest lent output, and whether the call serves policy 4
+-- 1 to 5 of a call on n tasks that serves policy 4, or does not; the room is that of the shortest lent output
+abbrev pub gateOf : Bool → Settings → ℕ → ℕ → Admission
+gateOf serves s n room =
+    gate (isFurther (meant (s .policy))) (s .m) n (both (isFirstFit (meant (s .policy))) (not serves)) room
+
+-- 6
+abbrev pub recordsGood : List Task → ℕ → Admission
+recordsGood rows n = check (ltb (firstBad rows n) n) (BadRecord (firstBad rows n)) Admitted
+
 unfoldable pub admission : Bool → Settings → List Task → ℕ → ℕ → Admission
-admission serves s rows n room =
-    andThen
-    (gate (isFurther (meant (s .policy))) (s .m) n (both (isFirstFit (meant (s .policy))) (not serves)) room)
-    (check (ltb (firstBad rows n) n) (BadRecord (firstBad rows n)) Admitted)
+admission serves s rows n room = andThen (gateOf serves s n room) (recordsGood rows n)

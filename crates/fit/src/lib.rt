@@ -1,5 +1,6 @@
 // First fit: take tasks in record order, give each to the lowest-numbered processor whose load with it is at most S. Contracts cite
 // `specs/Fit`.
+use kinds::Settings;
 use kinds::Share;
 use kinds::Table;
 ghost use Prim.Native.Nat.{_≤_};
@@ -10,7 +11,7 @@ ghost use Rattle.fit.specs.Fit.{FitIs};
 // How a trial ended: whether every task is placed, and the processor of each task that was, from 1.
 pub struct Fit {
     pub placed: bool,
-    pub processors: [u16; 32],
+    pub processors: [u16; Table::MOST_TASKS],
 }
 
 // The trial at step k on m processors. Document 01: "The first task that fits nowhere ends the whole trial at once."
@@ -19,8 +20,8 @@ pub fn first_fit(table: Table, m: usize, k: u32) -> Fit
     ensures { λ r. ⌜ FitIs m (shares (table .rows) k) (table .n) r ⌝ }
 {
     let n = table.n;
-    let mut loads = [0u64; 16];
-    let mut processors = [0u16; 32];
+    let mut loads = [0u64; Settings::MOST_PROCESSORS as usize];
+    let mut processors = [0u16; Table::MOST_TASKS];
     let mut i: usize = 0;
     'tasks: while i < n {
         let load = share::load_at(table.rows[i], k);

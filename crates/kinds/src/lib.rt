@@ -56,7 +56,7 @@ impl Task {
 
 // The task table by value: room for the most tasks, of which the first n count. A lent count may be greater than the room.
 pub struct Table {
-    pub rows: [Task; 32],
+    pub rows: [Task; Table::MOST_TASKS],
     pub n: usize,
 }
 
@@ -165,7 +165,7 @@ pub struct Granted {
 
 // The results section of a sheet: room for the most tasks, of which the first n count.
 pub struct Results {
-    pub rows: [Granted; 32],
+    pub rows: [Granted; Table::MOST_TASKS],
     pub n: usize,
 }
 

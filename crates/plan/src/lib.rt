@@ -49,12 +49,12 @@ pub fn write_periods(table: Table, k: u32, out: &mut [u32])
 }
 
 // Writes the first n of some processors, and nothing past them.
-fn write_front(from: [u16; 32], n: usize, out: &mut [u16])
+fn write_front(from: [u16; Table::MOST_TASKS], n: usize, out: &mut [u16])
     requires { ⌜ (n ≤ mostTasks) × (n ≤ length (now out)) ⌝ }
     ensures { λ _. ⌜ now (out .exit) ≡ listTo (λ (i : ℕ). getD from i 0) n ++ drop n (now (out .entry)) ⌝ }
 {
-    for i in 0..n {
-        out[i] = from[i];
+    for j in 0..n {
+        out[j] = from[j];
     }
 }
 
@@ -69,7 +69,7 @@ pub fn write_processors(policy: Policy, m: u16, table: Table, k: u32, out: &mut 
         let processors = trial.processors;
         write_front(processors, n, out);
     } else {
-        write_front([0u16; 32], n, out);
+        write_front([0u16; Table::MOST_TASKS], n, out);
     }
 }
 

@@ -79,7 +79,12 @@ pub fn margin_at(rows: &[Task], settings: Settings, step: u32) -> Margin
 }
 
 // Lends the rows of a table that count to the plain finder, so that a function that makes no slice of records can run the call.
-pub fn find_plain_over(table: Table, settings: Settings, periods: &mut [u32], processors: &mut [u16]) -> Answer
+pub fn find_plain_over(
+    table: Table,
+    settings: Settings,
+    periods: &mut [u32],
+    processors: &mut [u16],
+) -> Answer
     ensures { λ r. ⌜ Meets (outcome true settings (front table) (length (front table)) (now (periods .entry)) (now (processors .entry))) r (now (periods .exit)) (now (processors .exit)) ⌝ }
 {
     let rows = table.rows;

@@ -1,10 +1,8 @@
 -- `admission::admit` meets its contract. Assumes nothing.
-use mathlib.Core.Bool.{not}
 use mathlib.Core.Path.{_≡_, sym, _∙_}
 use borrow.Author.Tests.{lt-ltb, le-ltb}
-use Rattle.ground.specs.Choice.{both}
-use Rattle.kinds.specs.Policy.{meant, isFirstFit, isFurther}
-use Rattle.admission.specs.Admission.{gate, admission}
+use Rattle.kinds.specs.Policy.{meant}
+use Rattle.admission.specs.Admission.{gateOf, admission}
 use Rattle.admission.proofs.Chain.{gate-passed}
 use borrow.Author.Needs.{needs}
 use Rattle.admission.proofs.admit.Statement.{statement}
@@ -12,7 +10,7 @@ use Rattle.admission.proofs.admit.Tie as tie
 
 -- the gate as the definition has it
 through : (c : tie.After-gate) → let a = c .before .before .before .before .args in
-    c .gate .result ≡ gate (isFurther (meant (a .settings .policy))) (a .settings .m) (a .table .n) (both (isFirstFit (meant (a .settings .policy))) (not (a .serves))) (a .room)
+    c .gate .result ≡ gateOf (a .serves) (a .settings) (a .table .n) (a .room)
 through c =
     let u = c .before in
     let f = u .before in

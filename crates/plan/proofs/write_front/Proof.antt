@@ -8,10 +8,10 @@ use Rattle.plan.proofs.write_front.Statement.{statement}
 use Rattle.plan.proofs.write_front.Tie as tie
 
 abbrev Inv-loop : tie.InvT-loop
-Inv-loop n out₀ from i₀ out i = (i ≤ n) × Front (λ (j : ℕ). getD from j 0) out₀ out i
+Inv-loop n out₀ from j₀ out j = (j ≤ n) × Front (λ (i : ℕ). getD from i 0) out₀ out j
 
 abbrev μ-loop : tie.MeasureT-loop
-μ-loop n out₀ from i₀ out i = n - i
+μ-loop n out₀ from j₀ out j = n - j
 
 loop-holds : tie.Need-loop-holds Inv-loop μ-loop
 loop-holds c = (omega arith, front-none _ _)
@@ -28,8 +28,8 @@ mul-out-2 c = omega arith
 slice-write-out : tie.Need-slice-write-out Inv-loop μ-loop
 slice-write-out c = omega arith
 
-add-i : tie.Need-add-i Inv-loop μ-loop
-add-i c = omega arith
+add-j : tie.Need-add-j Inv-loop μ-loop
+add-j c = omega arith
 
 loop-less : tie.Need-loop-less Inv-loop μ-loop
 loop-less c = omega arith
@@ -37,13 +37,13 @@ loop-less c = omega arith
 loop-again : tie.Need-loop-again Inv-loop μ-loop
 loop-again c =
     let l = c .before in
-    (omega arith, front-more (λ (j : ℕ). getD (l .before .args .t1) j 0) _ _ _ _ (omega arith) refl (l .loop .inv .1))
+    (omega arith, front-more (λ (i : ℕ). getD (l .before .args .t1) i 0) _ _ _ _ (omega arith) refl (l .loop .inv .1))
 
 same-length : tie.Need-same-length Inv-loop μ-loop
 same-length c = c .before .loop .inv .1 .long
 
 returns : tie.Need-returns Inv-loop μ-loop
-returns c = let e : c .before .loop .i ≡ c .before .before .args .n = omega arith in rw e at (c .before .loop .inv .1 .is)
+returns c = let e : c .before .loop .j ≡ c .before .before .args .n = omega arith in rw e at (c .before .loop .inv .1 .is)
 
 pub write-front-spec : {M : Type 1} → statement M
 write-front-spec =
@@ -56,7 +56,7 @@ write-front-spec =
     array-read-out
     mul-out-2
     slice-write-out
-    add-i
+    add-j
     loop-less
     loop-again
     same-length
