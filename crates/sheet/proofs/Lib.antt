@@ -3,3 +3,7 @@ pub mod RowFields
 pub mod Stages
 pub mod HeadSteps
 pub mod RowSteps
+pub mod Lengths
+pub mod Whole
+pub mod Beyond
+pub mod OneReading
