@@ -27,24 +27,26 @@ stored-front out run size e h =
     let k : 0 + length run ≡ size = omega arith in
     sets-eq run out 0 l ∙ ap (λ (n : ℕ). run ++ drop n out) k
 
-pub put-none : (out : List ℕ) (at : ℕ) → Put out at [] at out
+pub put-none : (out : List ℕ) (at : ℕ) → Put out at 0 [] at out
 unfolding stored
-put-none out at = record { next-is = sym (add-zero at); new-is = refl }
+put-none out at = record { next-is = sym (add-zero at); run-long = refl; new-is = refl }
 
 -- a run after a run is one run
-pub put-then : {out mid new : List ℕ} {at next end : ℕ} {xs ys : List ℕ} → Put out at xs next mid → Put mid next ys end new → Put out at (xs ++ ys) end new
+pub put-then : {out mid new : List ℕ} {at m next n end : ℕ} {xs ys : List ℕ} → Put out at m xs next mid → Put mid next n ys end new → Put out at (m + n) (xs ++ ys) end new
 unfolding stored
-put-then {out} {mid} {new} {at} {next} {end} {xs} {ys} p q =
+put-then {out} {mid} {new} {at} {m} {next} {n} {end} {xs} {ys} p q =
+    let e : next ≡ at + length xs = omega (arith, p .next-is, p .run-long) in
     record {
-      next-is = omega (arith, p .next-is, q .next-is, length-append xs ys);
+      next-is = omega (arith, p .next-is, q .next-is);
+      run-long = length-append xs ys ∙ omega (arith, p .run-long, q .run-long);
       new-is =
           q .new-is
           ∙ (ap (λ (l : List ℕ). sets l next ys) (p .new-is)
-          ∙ (ap (λ (n : ℕ). sets (sets out at xs) n ys) (p .next-is) ∙ sets-append out at xs ys));
+          ∙ (ap (λ (k : ℕ). sets (sets out at xs) k ys) e ∙ sets-append out at xs ys));
     }
 
-pub put-long : {out new : List ℕ} {at next : ℕ} {run : List ℕ} → Put out at run next new → length new ≡ length out
-put-long {out} {new} {at} {next} {run} p = ap length (p .new-is) ∙ stored-long out at run
+pub put-long : {out new : List ℕ} {at size next : ℕ} {run : List ℕ} → Put out at size run next new → length new ≡ length out
+put-long {out} {new} {at} {size} {next} {run} p = ap length (p .new-is) ∙ stored-long out at run
 
 -- a place 2 or 3 on, as `sets` counts it
 pub two-on : (at : ℕ) → at + 2 ≡ suc (suc at)

@@ -10,7 +10,8 @@ use lib.Seq.{sets}
 unfoldable pub stored : List ℕ → ℕ → List ℕ → List ℕ
 stored out at run = sets out at run
 
--- a run was stored from a place on and nothing else; next is the place after it
-pub record Put (old : List ℕ) (at : ℕ) (run : List ℕ) (next : ℕ) (new : List ℕ) : Type 0 where
-  pub next-is : next ≡ at + length run
+-- a run of so many bytes was stored from a place on, and nothing else; next is the place after it
+pub record Put (old : List ℕ) (at size : ℕ) (run : List ℕ) (next : ℕ) (new : List ℕ) : Type 0 where
+  pub next-is : next ≡ at + size
+  pub run-long : length run ≡ size
   pub new-is : new ≡ stored old at run

@@ -66,7 +66,7 @@ pub fn read_u32(s: &[u8], at: usize) -> Field32
 // Stores a number in the 2 bytes at a place, and nothing else; returns the place after it.
 pub fn put_u16(out: &mut [u8], at: usize, v: u16) -> usize
     requires { ⌜ at + 2 ≤ length (now out) ⌝ }
-    ensures { λ r. ⌜ Put (now (out .entry)) at (bytesOf 2 v) r (now (out .exit)) ⌝ }
+    ensures { λ r. ⌜ Put (now (out .entry)) at 2 (bytesOf 2 v) r (now (out .exit)) ⌝ }
 {
     out[at] = (v % 256) as u8;
     out[at + 1] = (v / 256 % 256) as u8;
@@ -76,7 +76,7 @@ pub fn put_u16(out: &mut [u8], at: usize, v: u16) -> usize
 // Stores a number in the 4 bytes at a place, and nothing else; returns the place after it.
 pub fn put_u32(out: &mut [u8], at: usize, v: u32) -> usize
     requires { ⌜ at + 4 ≤ length (now out) ⌝ }
-    ensures { λ r. ⌜ Put (now (out .entry)) at (bytesOf 4 v) r (now (out .exit)) ⌝ }
+    ensures { λ r. ⌜ Put (now (out .entry)) at 4 (bytesOf 4 v) r (now (out .exit)) ⌝ }
 {
     out[at] = (v % 256) as u8;
     out[at + 1] = (v / 256 % 256) as u8;

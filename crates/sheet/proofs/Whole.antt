@@ -2,25 +2,23 @@
 -- `whole-accepted` the other way.
 -- Assumes nothing.
 use Prim.Native.Nat.{ℕ, _≤_}
-use mathlib.Core.Bool.{Bool, true, false}
+use mathlib.Core.Bool.{true}
 use mathlib.Core.List.{List}
 use mathlib.Core.Path.{_≡_, refl, sym, ap, _∙_}
 use native.Mathlib.Omega.{arith}
 use lib.Dec.{leb, eqb}
 use lib.ListN.{length}
 use borrow.Author.Tests.{leb-true, eqb-true}
-use Rattle.ground.specs.Choice.{pick}
 use Rattle.kinds.specs.declared.Sheet.{Sheet}
-use Rattle.kinds.specs.declared.Refusal.{Refusal}
 use Rattle.kinds.specs.declared.Refusal.the-variants.{TooManyTasks, SheetEnds, NotTwoSettings, WrongResultCount, BytesAfterLast}
 use Rattle.kinds.specs.Limits.{mostTasks}
-use Rattle.kinds.specs.Answer.{Handed, accepted, refused}
-use Rattle.kinds.proofs.Answers.{not-refused}
+use Rattle.kinds.specs.Answer.{Handed, accepted}
 use Rattle.field.specs.Number.{u16At}
 use Rattle.sheet.specs.declared.Verdict.the-variants as verdict
 use Rattle.sheet.specs.declared.Reading.{Reading}
 use Rattle.sheet.specs.Sections.{settingsCount, settingsPlace, policyPlace, tasksPlace, recordsPlace, resultsPlace, grantedPlace, resultsFit}
-use Rattle.sheet.specs.Reading.{noSheet, taskCount, resultCount, endOf, sheetIn, judged, readRows, readSheet, handedBy, handedReading}
+use Rattle.sheet.specs.Reading.{noSheet, taskCount, resultCount, endOf, sheetIn, readRows, readSheet, handedReading}
+use Rattle.sheet.proofs.Judging.{judged-passed}
 use Rattle.sheet.proofs.Stages.{fits-few, head-whole, rows-whole}
 
 -- bytes that are a sheet
@@ -33,20 +31,14 @@ pub record Whole (s : List ℕ) : Type 0 where
 pub few-results : {s : List ℕ} → Whole s → resultCount s ≤ mostTasks
 few-results {s} w = omega (arith, fits-few (resultCount s) (taskCount s) (w .fit), w .few)
 
--- where something is judged and the answer is an acceptance, the test held
-module _ {x : Sheet} where
-  passed : (test : Bool) (refusal : Refusal) (rest : Handed Sheet) → judged test refusal rest ≡ accepted x → (test ≡ true) × (rest ≡ accepted x)
-  passed true refusal rest e = (refl, e)
-  passed false refusal rest e = not-refused x noSheet refusal (sym e)
-
 module _ (s : List ℕ) where
   rows-accepted : (x : Sheet) → readRows s ≡ accepted x → (resultsFit (resultCount s) (taskCount s) ≡ true) × ((endOf s ≡ length s) × (x ≡ sheetIn s))
   unfolding readRows
   rows-accepted x e =
-      let p₁ = passed (leb (grantedPlace (taskCount s)) (length s)) (SheetEnds (length s)) _ e in
-      let p₂ = passed (resultsFit (resultCount s) (taskCount s)) (WrongResultCount (resultsPlace (taskCount s))) _ (p₁ .1) in
-      let p₃ = passed (leb (endOf s) (length s)) (SheetEnds (length s)) _ (p₂ .1) in
-      let p₄ = passed (leb (length s) (endOf s)) (BytesAfterLast (endOf s)) _ (p₃ .1) in
+      let p₁ = judged-passed noSheet (leb (grantedPlace (taskCount s)) (length s)) (SheetEnds (length s)) _ e in
+      let p₂ = judged-passed noSheet (resultsFit (resultCount s) (taskCount s)) (WrongResultCount (resultsPlace (taskCount s))) _ (p₁ .1) in
+      let p₃ = judged-passed noSheet (leb (endOf s) (length s)) (SheetEnds (length s)) _ (p₂ .1) in
+      let p₄ = judged-passed noSheet (leb (length s) (endOf s)) (BytesAfterLast (endOf s)) _ (p₃ .1) in
       let a = leb-true (endOf s) (length s) (p₃ .0) in
       let b = leb-true (length s) (endOf s) (p₄ .0) in
       (p₂ .0, (omega arith, ap (λ (h : Handed Sheet). h .value) (sym (p₄ .1))))
@@ -55,10 +47,10 @@ module _ (s : List ℕ) where
   pub whole : (x : Sheet) → readSheet s ≡ accepted x → Whole s × (x ≡ sheetIn s)
   unfolding readSheet
   whole x e =
-      let p₁ = passed (leb policyPlace (length s)) (SheetEnds (length s)) _ e in
-      let p₂ = passed (eqb (u16At s settingsPlace) settingsCount) NotTwoSettings _ (p₁ .1) in
-      let p₃ = passed (leb recordsPlace (length s)) (SheetEnds (length s)) _ (p₂ .1) in
-      let p₄ = passed (leb (taskCount s) mostTasks) (TooManyTasks tasksPlace) _ (p₃ .1) in
+      let p₁ = judged-passed noSheet (leb policyPlace (length s)) (SheetEnds (length s)) _ e in
+      let p₂ = judged-passed noSheet (eqb (u16At s settingsPlace) settingsCount) NotTwoSettings _ (p₁ .1) in
+      let p₃ = judged-passed noSheet (leb recordsPlace (length s)) (SheetEnds (length s)) _ (p₂ .1) in
+      let p₄ = judged-passed noSheet (leb (taskCount s) mostTasks) (TooManyTasks tasksPlace) _ (p₃ .1) in
       let r = rows-accepted x (p₄ .1) in (
         record {
           two = eqb-true (u16At s settingsPlace) settingsCount (p₂ .0);

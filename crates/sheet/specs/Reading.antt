@@ -6,7 +6,6 @@ use mathlib.Core.List.{List}
 use mathlib.Core.Path.{_≡_}
 use lib.Dec.{leb, eqb}
 use lib.ListN.{length, drop, replicate}
-use Rattle.ground.specs.Choice.{pick}
 use Rattle.kinds.specs.declared.Policy.the-variants.{Further}
 use Rattle.kinds.specs.declared.Settings.{Settings}
 use Rattle.kinds.specs.declared.Sheet.{Sheet}
@@ -24,6 +23,7 @@ use Rattle.sheet.specs.declared.Head.{Head}
 use Rattle.sheet.specs.declared.Head.the-variants as head
 use Rattle.sheet.specs.Sections.{settingsCount, taskSize, grantedSize, settingsPlace, policyPlace, mPlace, tasksPlace, recordsPlace, resultsPlace, grantedPlace, endPlace, resultsFit}
 use Rattle.sheet.specs.Rows.{taskAt, grantedAt, noGranted, rowsAt}
+use Rattle.sheet.specs.Judged.{judged}
 
 -- document 01: "A refused reading hands back a sheet of zeros (policy: the further choice 0)"
 unfoldable pub noSheet : Sheet
@@ -58,27 +58,27 @@ sheetIn s =
           record { rows = rowsAt noGranted grantedSize grantedAt s (grantedPlace (taskCount s)) (resultCount s); n = resultCount s };
     }
 
--- 8: a field is due that ends at a place; the rest where the sheet reaches so far
-abbrev pub due : List ℕ → ℕ → Handed Sheet → Handed Sheet
-due s place rest = pick (leb place (length s)) rest (refused noSheet (SheetEnds (length s)))
+-- something is judged: the rest where the test holds, else the refusal, with a sheet of zeros
+abbrev pub judge : Bool → Refusal → Handed Sheet → Handed Sheet
+judge = judged noSheet
 
--- something is judged: the rest where the test holds, else the refusal
-abbrev pub judged : Bool → Refusal → Handed Sheet → Handed Sheet
-judged test refusal rest = pick test rest (refused noSheet refusal)
+-- 8: a field is due that ends at a place
+abbrev pub due : List ℕ → ℕ → Handed Sheet → Handed Sheet
+due s place = judge (leb place (length s)) (SheetEnds (length s))
 
 -- from the task records on
 unfoldable pub readRows : List ℕ → Handed Sheet
 readRows s =
     due s (grantedPlace (taskCount s))
-    (judged (resultsFit (resultCount s) (taskCount s)) (WrongResultCount (resultsPlace (taskCount s)))
-    (due s (endOf s) (judged (leb (length s) (endOf s)) (BytesAfterLast (endOf s)) (accepted (sheetIn s)))))
+    (judge (resultsFit (resultCount s) (taskCount s)) (WrongResultCount (resultsPlace (taskCount s)))
+    (due s (endOf s) (judge (leb (length s) (endOf s)) (BytesAfterLast (endOf s)) (accepted (sheetIn s)))))
 
 -- document 01: "8, 9, 3, 10, 11, whichever it meets first from the left"
 unfoldable pub readSheet : List ℕ → Handed Sheet
 readSheet s =
     due s policyPlace
-    (judged (eqb (u16At s settingsPlace) settingsCount) NotTwoSettings
-    (due s recordsPlace (judged (leb (taskCount s) mostTasks) (TooManyTasks tasksPlace) (readRows s))))
+    (judge (eqb (u16At s settingsPlace) settingsCount) NotTwoSettings
+    (due s recordsPlace (judge (leb (taskCount s) mostTasks) (TooManyTasks tasksPlace) (readRows s))))
 
 -- the sheet that stands from a place on
 abbrev pub readFrom : List ℕ → ℕ → Handed Sheet

@@ -32,7 +32,7 @@ same-length c = search needs
 
 returns : tie.Need-returns
 unfolding stored bytesOf
-returns c = record { next-is = refl; new-is = simp (add-one) }
+returns c = record { next-is = refl; run-long = refl; new-is = simp (add-one) }
 
 pub put-u16-spec : {M : Type 1} → statement M
 put-u16-spec =

@@ -51,7 +51,7 @@ same-length c = search needs
 
 returns : tie.Need-returns
 unfolding stored bytesOf
-returns c = record { next-is = refl; new-is = simp (add-one, two-on, three-on) }
+returns c = record { next-is = refl; run-long = refl; new-is = simp (add-one, two-on, three-on) }
 
 pub put-u32-spec : {M : Type 1} → statement M
 put-u32-spec =
