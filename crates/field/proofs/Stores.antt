@@ -48,6 +48,10 @@ put-then {out} {mid} {new} {at} {m} {next} {n} {end} {xs} {ys} p q =
 pub put-long : {out new : List ℕ} {at size next : ℕ} {run : List ℕ} → Put out at size run next new → length new ≡ length out
 put-long {out} {new} {at} {size} {next} {run} p = ap length (p .new-is) ∙ stored-long out at run
 
+-- the size of a run, counted another way
+pub put-sized : {out new : List ℕ} {at m n next : ℕ} {run : List ℕ} → m ≡ n → Put out at m run next new → Put out at n run next new
+put-sized e p = rw (← e) p
+
 -- a place 2 or 3 on, as `sets` counts it
 pub two-on : (at : ℕ) → at + 2 ≡ suc (suc at)
 two-on at = omega arith

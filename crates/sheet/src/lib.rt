@@ -40,7 +40,7 @@ const TASK: usize = 16;
 
 const GRANTED: usize = 6;
 
-const SETTINGS: u16 = 2;
+pub const SETTINGS: u16 = 2;
 
 // Where the task records start.
 pub fn records_place() -> usize
