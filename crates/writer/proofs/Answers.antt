@@ -75,6 +75,16 @@ accepts x room k e =
       is = ap (λ (h : Handed ℕ). h .value) (sym (p₃ .1));
     }
 
+pub write-accepts : (x : Sheet) (room : ℕ) → x .table .n ≤ mostTasks → resultsFit (x .results .n) (x .table .n) ≡ true → lengthOf x ≤ room
+    → writeSheet x room ≡ accepted (lengthOf x)
+unfolding writeSheet
+write-accepts x room a b d = rw (le-leb (x .table .n) mostTasks a, b, le-leb (lengthOf x) room d)
+
+-- the buffer after an accepted call
+pub accepted-after : (x : Sheet) (old : List ℕ) (k : ℕ) → writeSheet x (length old) ≡ accepted k → afterWrite x old ≡ encode x ++ drop (lengthOf x) old
+unfolding afterWrite
+accepted-after x old k e = rw e
+
 -- what is handed back tells the answer
 pub written-one : (r q : Written) → handedWritten r ≡ handedWritten q → r ≡ q
 written-one (Bytes m) (Bytes n) e = ap Bytes (ap (λ (h : Handed ℕ). h .value) e)

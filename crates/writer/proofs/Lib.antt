@@ -1,2 +1,5 @@
 pub mod Rows
 pub mod Answers
+pub mod Back
+pub mod Forth
+pub mod RoundTrip
