@@ -31,6 +31,19 @@ pub struct Reading {
     pub sheet: Sheet,
 }
 
+// An unused place of the task section, and of the results section.
+const NO_TASK: Task = Task {
+    c: 0,
+    tmin: 0,
+    tmax: 0,
+    e: 0,
+};
+
+const NO_RESULT: Granted = Granted {
+    period: 0,
+    processor: 0,
+};
+
 // The bytes of a count, of a setting, of a task record and of a result, and how many settings there are.
 const COUNT: usize = 2;
 
@@ -122,14 +135,14 @@ fn read_granted(s: &[u8], at: usize) -> GrantedField
 // The rows of the task section: whether all are there, the rows, and the place after them.
 pub struct TaskRows {
     pub whole: bool,
-    pub rows: [Task; 32],
+    pub rows: [Task; Table::MOST_TASKS],
     pub next: usize,
 }
 
 // The rows of the results section: whether all are there, the rows, and the place after them.
 pub struct GrantedRows {
     pub whole: bool,
-    pub rows: [Granted; 32],
+    pub rows: [Granted; Table::MOST_TASKS],
     pub next: usize,
 }
 
@@ -138,20 +151,14 @@ fn read_tasks(s: &[u8], from: usize, n: usize) -> TaskRows
     requires { ⌜ (n ≤ mostTasks) × (from ≤ length (now s)) ⌝ }
     ensures { λ r. ⌜ r ≡ taskRows (now (s .entry)) from n ⌝ }
 {
-    let none = Task {
-        c: 0,
-        tmin: 0,
-        tmax: 0,
-        e: 0,
-    };
-    let mut rows = [none; 32];
+    let mut rows = [NO_TASK; Table::MOST_TASKS];
     let mut at = from;
     let mut i: usize = 0;
     while i < n {
         let TaskField::Value(row, next) = read_task(s, at) else {
             return TaskRows {
                 whole: false,
-                rows: [none; 32],
+                rows: [NO_TASK; Table::MOST_TASKS],
                 next: from,
             };
         };
@@ -171,18 +178,14 @@ fn read_results(s: &[u8], from: usize, n: usize) -> GrantedRows
     requires { ⌜ (n ≤ mostTasks) × (from ≤ length (now s)) ⌝ }
     ensures { λ r. ⌜ r ≡ grantedRows (now (s .entry)) from n ⌝ }
 {
-    let none = Granted {
-        period: 0,
-        processor: 0,
-    };
-    let mut rows = [none; 32];
+    let mut rows = [NO_RESULT; Table::MOST_TASKS];
     let mut at = from;
     let mut i: usize = 0;
     while i < n {
         let GrantedField::Value(row, next) = read_granted(s, at) else {
             return GrantedRows {
                 whole: false,
-                rows: [none; 32],
+                rows: [NO_RESULT; Table::MOST_TASKS],
                 next: from,
             };
         };
@@ -203,22 +206,12 @@ pub fn no_sheet() -> Sheet
 {
     let policy = Policy::Further(0);
     let settings = Settings { policy, m: 0 };
-    let task = Task {
-        c: 0,
-        tmin: 0,
-        tmax: 0,
-        e: 0,
-    };
     let table = Table {
-        rows: [task; 32],
+        rows: [NO_TASK; Table::MOST_TASKS],
         n: 0,
     };
-    let granted = Granted {
-        period: 0,
-        processor: 0,
-    };
     let results = Results {
-        rows: [granted; 32],
+        rows: [NO_RESULT; Table::MOST_TASKS],
         n: 0,
     };
     Sheet {

@@ -41,7 +41,7 @@ fn put_granted(out: &mut [u8], at: usize, granted: Granted) -> usize
 }
 
 // Stores the first n task records from a place on; returns the place after them.
-fn put_tasks(out: &mut [u8], from: usize, rows: [Task; 32], n: usize) -> usize
+fn put_tasks(out: &mut [u8], from: usize, rows: [Task; Table::MOST_TASKS], n: usize) -> usize
     requires { ⌜ (n ≤ mostTasks) × (from + taskSize * n ≤ length (now out)) ⌝ }
     ensures { λ r. ⌜ Put (now (out .entry)) from (taskSize * n) (tasksBytes rows n) r (now (out .exit)) ⌝ }
 {
@@ -55,7 +55,7 @@ fn put_tasks(out: &mut [u8], from: usize, rows: [Task; 32], n: usize) -> usize
 }
 
 // Stores the first n results from a place on; returns the place after them.
-fn put_results(out: &mut [u8], from: usize, rows: [Granted; 32], n: usize) -> usize
+fn put_results(out: &mut [u8], from: usize, rows: [Granted; Table::MOST_TASKS], n: usize) -> usize
     requires { ⌜ (n ≤ mostTasks) × (from + grantedSize * n ≤ length (now out)) ⌝ }
     ensures { λ r. ⌜ Put (now (out .entry)) from (grantedSize * n) (resultsBytes rows n) r (now (out .exit)) ⌝ }
 {

@@ -12,11 +12,11 @@ use Rattle.sheet.proofs.read_results.Statement.{statement}
 use Rattle.sheet.proofs.read_results.Tie as tie
 
 abbrev Inv-loop : tie.InvT-loop
-Inv-loop s from n none rows₀ at₀ i₀ rows at i =
+Inv-loop s from n rows₀ at₀ i₀ rows at i =
     (i ≤ n) × ((at ≡ from + grantedSize * i) × ((at ≤ length s) × (rows ≡ rowsAt noGranted grantedSize grantedAt s from i)))
 
 abbrev μ-loop : tie.MeasureT-loop
-μ-loop s from n none rows₀ at₀ i₀ rows at i = n - i
+μ-loop s from n rows₀ at₀ i₀ rows at i = n - i
 
 loop-holds : tie.Need-loop-holds Inv-loop μ-loop
 loop-holds c = (search needs, (omega arith, (search needs, sym (padded-none _ _))))
