@@ -1,23 +1,21 @@
 -- The first 715 bytes of an input settle its reading: beyond 714 bytes nothing changes the reader's answer.
 -- Assumes nothing.
 use Prim.Native.Nat.{ℕ, _+_, _≤_, _<_}
-use mathlib.Core.Bool.{Bool, true, false}
 use mathlib.Core.List.{List, _++_}
-use mathlib.Core.Path.{_≡_, refl, sym, ap, _∙_}
+use mathlib.Core.Path.{_≡_, sym, ap, _∙_}
 use native.Mathlib.Omega.{arith}
-use lib.Dec.{eqb, leb}
+use lib.Dec.{eqb}
 use lib.ListN.{length, take, drop, length-append, take-append-drop}
 use lib.Seq.{length-take-le}
-use borrow.Author.Tests.{le-leb, leb-true, eqb-true, eqb-false}
+use borrow.Author.Tests.{eqb-true, eqb-false}
 use Rattle.ground.proofs.Cases.{by-bool, by-le}
-use Rattle.kinds.specs.declared.Sheet.{Sheet}
-use Rattle.kinds.specs.declared.Refusal.the-variants.{TooManyTasks, WrongResultCount, BytesAfterLast}
+use Rattle.kinds.specs.declared.Refusal.the-variants.{WrongResultCount, BytesAfterLast}
 use Rattle.kinds.specs.Limits.{mostTasks}
-use Rattle.kinds.specs.Answer.{Handed, refused}
+use Rattle.kinds.specs.Answer.{refused}
 use Rattle.field.specs.Number.{u16At}
 use Rattle.field.proofs.Numbers.{number-front}
 use Rattle.sheet.specs.Sections.{settingsCount, settingsPlace, tasksPlace, resultsPlace, endPlace, resultsFit}
-use Rattle.sheet.specs.Reading.{noSheet, taskCount, resultCount, endOf, readRows, readSheet}
+use Rattle.sheet.specs.Reading.{noSheet, taskCount, resultCount, readRows, readSheet}
 use Rattle.sheet.proofs.Stages.{fits-few, settings-wrong, too-many, head-whole, count-wrong, bytes-after}
 
 module _ (s t : List ℕ) (long : 714 < length s) where

@@ -1,6 +1,6 @@
 -- The head of a sheet, read field by field: what each way through `read_head` shows of the definition.
 -- Assumes nothing.
-use Prim.Native.Nat.{ℕ, _+_, _≤_, _<_}
+use Prim.Native.Nat.{ℕ, _≤_, _<_}
 use mathlib.Core.List.{List}
 use mathlib.Core.Path.{_≡_, sym, ap, _∙_}
 use native.Mathlib.Omega.{arith}
@@ -13,8 +13,8 @@ use Rattle.kinds.specs.Answer.{refused}
 use Rattle.field.specs.Number.{u16At}
 use Rattle.field.proofs.Fields.{Got}
 use Rattle.sheet.specs.Sections.{settingsCount, settingsPlace, policyPlace, mPlace, tasksPlace, recordsPlace}
-use Rattle.sheet.specs.Reading.{noSheet, taskCount, settingsIn, readSheet, readRows, Begins}
-use Rattle.sheet.proofs.Stages.{settings-missing, settings-wrong, tasks-missing, too-many, head-whole}
+use Rattle.sheet.specs.Reading.{noSheet, taskCount, settingsIn, readSheet, Begins}
+use Rattle.sheet.proofs.Stages.{settings-wrong, tasks-missing, too-many, head-whole}
 
 module _ (s : List ℕ) (settings at-policy : ℕ) (g₁ : Got s settingsPlace 2 u16At settings at-policy) where
   pub not-two : (settings ≡ settingsCount → ⊥) → refused noSheet NotTwoSettings ≡ readSheet s

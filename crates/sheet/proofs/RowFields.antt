@@ -5,10 +5,8 @@ use mathlib.Core.Bool.{Bool, true, false}
 use mathlib.Core.List.{List}
 use mathlib.Core.Path.{_≡_, refl, sym, ap, _∙_}
 use native.Mathlib.Omega.{arith}
-use lib.Dec.{leb}
 use lib.ListN.{length, set, replicate}
 use borrow.Author.Tests.{le-leb, lt-leb}
-use Rattle.ground.specs.Choice.{pick}
 use Rattle.ground.proofs.Cases.{by-le, true-false}
 use Rattle.kinds.specs.declared.Task.{Task}
 use Rattle.kinds.specs.declared.Granted.{Granted}
@@ -25,7 +23,7 @@ use Rattle.sheet.specs.declared.GrantedField.the-variants as granted-fie
 use Rattle.sheet.specs.declared.TaskRows.{TaskRows}
 use Rattle.sheet.specs.declared.GrantedRows.{GrantedRows}
 use Rattle.sheet.specs.Sections.{taskSize, grantedSize}
-use Rattle.sheet.specs.Rows.{granted, taskAt, grantedAt, noGranted, taskField, grantedField, padded, rowsAt, rowsBy, madeTasks, madeGranted, taskRows, grantedRows}
+use Rattle.sheet.specs.Rows.{granted, taskAt, grantedAt, noGranted, taskField, grantedField, rowsAt, rowsBy, madeTasks, madeGranted, taskRows, grantedRows}
 use Rattle.sheet.proofs.Padding.{padded-more}
 
 module _ (s : List ℕ) (at : ℕ) where

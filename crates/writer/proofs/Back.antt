@@ -1,12 +1,11 @@
 -- What was read is written back byte for byte: `back`. Each field, row and section stands in the bytes that it was read from.
 -- Assumes nothing.
-use Prim.Native.Nat.{ℕ, zero, suc, _+_, _*_, _≤_, _<_}
-use mathlib.Core.List.{List, [], _++_}
-use mathlib.Core.Path.{_≡_, refl, sym, ap, _∙_}
+use Prim.Native.Nat.{ℕ, zero, suc, _+_, _*_, _≤_}
+use mathlib.Core.List.{List}
+use mathlib.Core.Path.{_≡_, refl}
 use native.Mathlib.Nat.{mul-zero, mul-suc, mul-le-mul-left}
 use native.Mathlib.Omega.{arith}
-use lib.ListN.{length, getD}
-use Rattle.kinds.specs.declared.Sheet.{Sheet}
+use lib.ListN.{length}
 use Rattle.kinds.specs.Limits.{mostTasks}
 use Rattle.kinds.specs.Task.{noTask}
 use Rattle.kinds.specs.Policy.{policyOf, policyNumber}
@@ -18,7 +17,7 @@ use Rattle.sheet.specs.Rows.{taskAt, grantedAt, noGranted, rowsAt}
 use Rattle.sheet.specs.Reading.{taskCount, resultCount, endOf, settingsIn, sheetIn}
 use Rattle.sheet.proofs.Padding.{padded-in}
 use Rattle.sheet.proofs.Whole.{Whole, few-results}
-use Rattle.writer.specs.Encode.{taskBytes, grantedBytes, rowsBytes, tasksBytes, resultsBytes, settingsBytes, encode}
+use Rattle.writer.specs.Encode.{taskBytes, grantedBytes, rowsBytes, settingsBytes, encode}
 
 -- rows that were read, where each stands in its own bytes
 module _ {A : Type 0} (bytes : A → List ℕ) (none : A) (size : ℕ) (rowAt : List ℕ → ℕ → A) (s : List ℕ)

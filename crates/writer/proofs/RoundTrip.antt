@@ -4,31 +4,25 @@ use Prim.Native.Nat.{ℕ, _≤_}
 use mathlib.Core.List.{List, _++_}
 use mathlib.Core.Path.{_≡_, refl, sym, ap, _∙_}
 use native.Mathlib.Omega.{arith}
-use lib.ListN.{length, take, drop, getD}
+use lib.ListN.{length, take, drop}
 use lib.Seq.{take-at}
-use borrow.Author.Tests.{le-leb}
-use Rattle.kinds.specs.declared.Policy.{Policy}
-use Rattle.kinds.specs.declared.Settings.{Settings}
 use Rattle.kinds.specs.declared.Sheet.{Sheet}
 use Rattle.kinds.specs.Limits.{mostTasks}
 use Rattle.kinds.specs.Task.{noTask, at}
-use Rattle.kinds.specs.Policy.{meant}
 use Rattle.kinds.specs.Answer.{accepted}
-use Rattle.kinds.proofs.Policies.{meant-once}
 use Rattle.field.specs.Number.{Bytes}
 use Rattle.sheet.specs.Sections.{resultsFit}
-use Rattle.sheet.specs.Rows.{noGranted, padded}
+use Rattle.sheet.specs.Rows.{noGranted}
 use Rattle.sheet.specs.Reading.{sheetIn, readSheet}
 use Rattle.sheet.proofs.Padding.{padded-is, padded-out}
-use Rattle.sheet.proofs.Stages.{fits-few}
-use Rattle.sheet.proofs.Whole.{Whole, whole}
+use Rattle.sheet.proofs.Whole.{whole}
 use Rattle.writer.specs.declared.Written.{Written}
 use Rattle.writer.specs.declared.Written.the-variants as written
 use Rattle.writer.specs.Encode.{encode, lengthOf}
-use Rattle.writer.specs.Writing.{handedWritten, writeSheet, afterWrite, Writes}
+use Rattle.writer.specs.Writing.{writeSheet, Writes}
 use Rattle.writer.specs.Canonical.{grantedIn, canonical, Canonical, SheetHeld}
 use Rattle.writer.proofs.Rows.{encode-long}
-use Rattle.writer.proofs.Answers.{Accepts, accepts, accepted-after, written-one, write-accepts}
+use Rattle.writer.proofs.Answers.{accepts, accepted-after, written-one, write-accepts}
 use Rattle.writer.proofs.Back.{back}
 use Rattle.writer.proofs.Forth.{forth}
 

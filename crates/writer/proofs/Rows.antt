@@ -1,8 +1,8 @@
 -- How long the bytes of a row, of rows and of a sheet are, and one row more.
 -- Assumes nothing.
 use Prim.Native.Nat.{ℕ, zero, suc, _+_, _*_}
-use mathlib.Core.List.{List, [], _++_}
-use mathlib.Core.Path.{_≡_, refl, sym, ap, _∙_}
+use mathlib.Core.List.{List}
+use mathlib.Core.Path.{_≡_, sym, _∙_}
 use native.Mathlib.Nat.{mul-zero, mul-suc}
 use native.Mathlib.Numerals.{add-one}
 use native.Mathlib.Omega.{arith}
@@ -12,7 +12,6 @@ use Rattle.kinds.specs.declared.Granted.{Granted}
 use Rattle.kinds.specs.declared.Settings.{Settings}
 use Rattle.kinds.specs.declared.Sheet.{Sheet}
 use Rattle.kinds.specs.Task.{noTask}
-use Rattle.field.specs.Number.{bytesOf}
 use Rattle.field.specs.Stored.{Put}
 use Rattle.field.proofs.Numbers.{bytes-long}
 use Rattle.field.proofs.Stores.{put-none, put-then}

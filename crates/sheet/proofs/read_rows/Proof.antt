@@ -1,5 +1,5 @@
 -- `sheet::read_rows` meets its contract. Assumes nothing.
-use mathlib.Core.Path.{_≡_, sym, _∙_}
+use mathlib.Core.Path.{sym, _∙_}
 use borrow.Author.Tests.{not-true, not-false}
 use borrow.Author.Needs.{needs}
 use Rattle.sheet.proofs.RowSteps.{tasks-end, tasks-read, count-end, count-read, count-wrong, results-due, results-end, results-read, bytes-after, all-read}
