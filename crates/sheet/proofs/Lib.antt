@@ -8,3 +8,4 @@ pub mod Lengths
 pub mod Whole
 pub mod Beyond
 pub mod OneReading
+pub mod Examples

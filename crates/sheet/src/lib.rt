@@ -89,13 +89,13 @@ pub fn results_fit(r: usize, n: usize) -> bool
 }
 
 // A task record and the place after it, or the refusal.
-pub enum TaskField {
+enum TaskField {
     Value(Task, usize),
     Refused(Refusal),
 }
 
 // A result and the place after it, or the refusal.
-pub enum GrantedField {
+enum GrantedField {
     Value(Granted, usize),
     Refused(Refusal),
 }
@@ -133,17 +133,17 @@ fn read_granted(s: &[u8], at: usize) -> GrantedField
 }
 
 // The rows of the task section: whether all are there, the rows, and the place after them.
-pub struct TaskRows {
-    pub whole: bool,
-    pub rows: [Task; Table::MOST_TASKS],
-    pub next: usize,
+struct TaskRows {
+    whole: bool,
+    rows: [Task; Table::MOST_TASKS],
+    next: usize,
 }
 
 // The rows of the results section: whether all are there, the rows, and the place after them.
-pub struct GrantedRows {
-    pub whole: bool,
-    pub rows: [Granted; Table::MOST_TASKS],
-    pub next: usize,
+struct GrantedRows {
+    whole: bool,
+    rows: [Granted; Table::MOST_TASKS],
+    next: usize,
 }
 
 // The n task records from a place on; the first field that is not there ends them.
@@ -231,7 +231,7 @@ fn refusing(refusal: Refusal) -> Reading
 }
 
 // The settings, the task count and the place after it, or the refusal.
-pub enum Head {
+enum Head {
     Value(Settings, usize, usize),
     Refused(Refusal),
 }

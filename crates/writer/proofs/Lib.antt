@@ -3,3 +3,4 @@ pub mod Answers
 pub mod Back
 pub mod Forth
 pub mod RoundTrip
+pub mod Examples
