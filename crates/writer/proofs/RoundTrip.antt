@@ -1,21 +1,25 @@
 -- Both round trips between bytes and sheets, as the promises of `read` and `write` give them, and when a sheet is its own canonical form.
 -- Assumes nothing.
-use Prim.Native.Nat.{ℕ, _≤_}
+use Prim.Native.Nat.{ℕ, _+_, _*_, _≤_}
 use mathlib.Core.List.{List, _++_}
 use mathlib.Core.Path.{_≡_, refl, sym, ap, _∙_}
 use native.Mathlib.Omega.{arith}
 use lib.ListN.{length, take, drop}
 use lib.Seq.{take-at}
+use Rattle.kinds.specs.declared.Task.{Task}
+use Rattle.kinds.specs.declared.Granted.{Granted}
 use Rattle.kinds.specs.declared.Sheet.{Sheet}
 use Rattle.kinds.specs.Limits.{mostTasks}
 use Rattle.kinds.specs.Task.{noTask, at}
+use Rattle.kinds.specs.Policy.{policyOf}
 use Rattle.kinds.specs.Answer.{accepted}
-use Rattle.field.specs.Number.{Bytes}
-use Rattle.sheet.specs.Sections.{resultsFit}
-use Rattle.sheet.specs.Rows.{noGranted}
-use Rattle.sheet.specs.Reading.{sheetIn, readSheet}
-use Rattle.sheet.proofs.Padding.{padded-is, padded-out}
-use Rattle.sheet.proofs.Whole.{whole}
+use Rattle.kinds.proofs.Policies.{number-back}
+use Rattle.field.specs.Number.{Bytes, u16At}
+use Rattle.sheet.specs.Sections.{taskSize, grantedSize, policyPlace, recordsPlace, grantedPlace, resultsFit}
+use Rattle.sheet.specs.Rows.{noGranted, taskAt, grantedAt}
+use Rattle.sheet.specs.Reading.{taskCount, resultCount, settingsIn, sheetIn, readSheet}
+use Rattle.sheet.proofs.Padding.{padded-long, padded-is, padded-out}
+use Rattle.sheet.proofs.Whole.{whole, few-results}
 use Rattle.writer.specs.declared.Written.{Written}
 use Rattle.writer.specs.declared.Written.the-variants as written
 use Rattle.writer.specs.Encode.{encode, lengthOf}
@@ -56,11 +60,12 @@ write-read x h old new k p =
     ap readSheet front ∙ forth x h (a .few) (a .fit)
 
 -- which is the sheet itself exactly where its policy is the one meant and its unused places are zeros
-pub canonical-same : (x : Sheet) → SheetHeld x → x .table .n ≤ mostTasks → x .results .n ≤ mostTasks → Canonical x → canonical x ≡ x
+pub canonical-same : (x : Sheet) → length (x .table .rows) ≡ mostTasks → length (x .results .rows) ≡ mostTasks → x .table .n ≤ mostTasks → x .results .n ≤ mostTasks
+    → Canonical x → canonical x ≡ x
 unfolding canonical
-canonical-same x h few few′ c =
-    let tasks = padded-is noTask (at (x .table .rows)) (x .table .n) (x .table .rows) few (h .tasks-room) (λ i l. refl) (c .tasks-unused) in
-    let results = padded-is noGranted (grantedIn x) (x .results .n) (x .results .rows) few′ (h .results-room) (λ i l. refl) (c .results-unused) in
+canonical-same x room room′ few few′ c =
+    let tasks = padded-is noTask (at (x .table .rows)) (x .table .n) (x .table .rows) few room (λ i l. refl) (c .tasks-unused) in
+    let results = padded-is noGranted (grantedIn x) (x .results .n) (x .results .rows) few′ room′ (λ i l. refl) (c .results-unused) in
     λ i.
     record {
       settings = record { policy = c .policy-meant i; m = x .settings .m };
@@ -76,3 +81,22 @@ same-canonical x e =
       tasks-unused = λ i l. sym (ap (λ (y : Sheet). at (y .table .rows) i) e) ∙ padded-out noTask (at (x .table .rows)) (x .table .n) i l;
       results-unused = λ i l. sym (ap (λ (y : Sheet). grantedIn y i) e) ∙ padded-out noGranted (grantedIn x) (x .results .n) i l;
     }
+
+-- a sheet that was read is its own canonical form
+pub read-canonical : (s : List ℕ) (x : Sheet) → readSheet s ≡ accepted x → canonical x ≡ x
+unfolding sheetIn settingsIn
+read-canonical s x e =
+    let w = whole s x e in
+    let tasks : ℕ → Task = λ i. taskAt s (recordsPlace + taskSize * i) in
+    let results : ℕ → Granted = λ i. grantedAt s (grantedPlace (taskCount s) + grantedSize * i) in
+    rw (w .1)
+    (canonical-same (sheetIn s)
+    (padded-long noTask tasks (taskCount s))
+    (padded-long noGranted results (resultCount s))
+    (w .0 .few)
+    (few-results (w .0))
+    (record {
+      policy-meant = ap policyOf (number-back (u16At s policyPlace));
+      tasks-unused = padded-out noTask tasks (taskCount s);
+      results-unused = padded-out noGranted results (resultCount s);
+    }))
