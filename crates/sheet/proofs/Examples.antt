@@ -1,7 +1,6 @@
 -- Readings worked out over the definition: counts are judged as soon as they are there, and document 01's whole case is a sheet.
 -- Assumes nothing.
-use Prim.Native.Nat.{ℕ, zero, suc}
-use mathlib.Core.List.{List, [], _∷_}
+use mathlib.Core.List.{[], _∷_}
 use mathlib.Core.Path.{_≡_, refl}
 use lib.ListN.{replicate}
 use Rattle.kinds.specs.declared.Policy.the-variants.{Pooled}

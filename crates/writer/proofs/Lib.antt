@@ -4,3 +4,4 @@ pub mod Back
 pub mod Forth
 pub mod RoundTrip
 pub mod Examples
+pub mod Elements

@@ -13,6 +13,7 @@ ghost use Rattle.field.specs.Stored.{Put};
 ghost use Rattle.sheet.specs.Sections.{taskSize, grantedSize, tasksPlace};
 ghost use Rattle.writer.specs.Encode.{taskBytes, grantedBytes, settingsBytes, tasksBytes, resultsBytes, encode, lengthOf};
 ghost use Rattle.writer.specs.Writing.{Writes};
+ghost use Rattle.writer.specs.Canonical.{SheetHeld};
 
 // How many bytes were written, or the refusal.
 pub enum Written {
@@ -96,6 +97,15 @@ fn put_sheet(out: &mut [u8], x: Sheet) -> usize
     let at_results = put_tasks(out, at_tasks, tasks, n);
     let at_granted = field::put_u16(out, at_results, r as u16);
     put_results(out, at_granted, granted, r)
+}
+
+// Every sheet by value is held: its numbers fit their fields, and its tables have room for the most tasks.
+pub fn held(x: Sheet)
+    ensures { λ _. ⌜ SheetHeld x ⌝ }
+{
+    let settings = x.settings;
+    let policy = settings.policy;
+    policy.number();
 }
 
 // Writes a station sheet into a lent buffer.
