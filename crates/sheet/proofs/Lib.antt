@@ -7,5 +7,6 @@ pub mod RowSteps
 pub mod Lengths
 pub mod Whole
 pub mod Beyond
+pub mod Truncated
 pub mod OneReading
 pub mod Examples
