@@ -44,7 +44,7 @@ const NO_RESULT: Granted = Granted {
     processor: 0,
 };
 
-// The bytes of a count, of a setting, of a task record and of a result, and how many settings there are.
+// How many bytes a count, a setting, a task record and a result take, and how many settings there are.
 const COUNT: usize = 2;
 
 const SETTING: usize = 2;
