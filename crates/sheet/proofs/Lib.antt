@@ -8,5 +8,6 @@ pub mod Lengths
 pub mod Whole
 pub mod Beyond
 pub mod Truncated
+pub mod After
 pub mod OneReading
 pub mod Examples
