@@ -1,0 +1,13 @@
+pub mod Padding
+pub mod RowFields
+pub mod Judging
+pub mod Stages
+pub mod HeadSteps
+pub mod RowSteps
+pub mod Lengths
+pub mod Whole
+pub mod Beyond
+pub mod Truncated
+pub mod After
+pub mod OneReading
+pub mod Examples

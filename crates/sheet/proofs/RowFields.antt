@@ -1,0 +1,148 @@
+-- What the reading of a row says, and of the rows of a section: all there, or not. Said once for both sections where it can be.
+-- Assumes nothing.
+use Prim.Native.Nat.{ℕ, _+_, _*_, _≤_, _<_}
+use mathlib.Core.Bool.{Bool, true, false}
+use mathlib.Core.List.{List}
+use mathlib.Core.Path.{_≡_, refl, sym, ap, _∙_}
+use native.Mathlib.Omega.{arith}
+use lib.ListN.{length, set, replicate}
+use borrow.Author.Tests.{le-leb, lt-leb}
+use Rattle.ground.proofs.Cases.{by-le, true-false}
+use Rattle.kinds.specs.declared.Task.{Task}
+use Rattle.kinds.specs.declared.Granted.{Granted}
+use Rattle.kinds.specs.declared.Refusal.{Refusal}
+use Rattle.kinds.specs.declared.Refusal.the-variants.{SheetEnds}
+use Rattle.kinds.specs.Limits.{mostTasks}
+use Rattle.kinds.specs.Task.{task, noTask}
+use Rattle.field.specs.Number.{u16At, u32At}
+use Rattle.field.proofs.Fields.{Got, there, missing, got-by, missed-by}
+use Rattle.sheet.specs.declared.TaskField.{TaskField}
+use Rattle.sheet.specs.declared.TaskField.the-variants as task-field
+use Rattle.sheet.specs.declared.GrantedField.{GrantedField}
+use Rattle.sheet.specs.declared.GrantedField.the-variants as granted-field
+use Rattle.sheet.specs.declared.TaskRows.{TaskRows}
+use Rattle.sheet.specs.declared.GrantedRows.{GrantedRows}
+use Rattle.sheet.specs.Sections.{taskSize, grantedSize}
+use Rattle.sheet.specs.Rows.{granted, taskAt, grantedAt, noGranted, taskField, grantedField, rowsAt, rowsBy, madeTasks, madeGranted, taskRows, grantedRows}
+use Rattle.sheet.proofs.Padding.{padded-more}
+
+module _ (s : List ℕ) (at : ℕ) where
+  pub task-there : at + taskSize ≤ length s → taskField s at ≡ task-field.Value (taskAt s at) (at + taskSize)
+  unfolding taskField
+  task-there = there task-field.Value task-field.Refused taskSize taskAt s at
+
+  pub task-missing : length s < at + taskSize → taskField s at ≡ task-field.Refused (SheetEnds (length s))
+  unfolding taskField
+  task-missing = missing task-field.Value task-field.Refused taskSize taskAt s at
+
+  pub task-got : (r : TaskField) (v : Task) (next : ℕ) → r ≡ taskField s at → r ≡ task-field.Value v next → Got s at taskSize taskAt v next
+  unfolding taskField
+  task-got =
+      got-by task-field.Value task-field.Refused taskSize taskAt s at
+      (λ v n e k. let z : _≡_ {A = ℕ} 0 1 = cc in omega arith)
+      (λ v w m n k. (cc, cc))
+
+  pub task-missed : (r : TaskField) (e : Refusal) → r ≡ taskField s at → r ≡ task-field.Refused e → length s < at + taskSize
+  unfolding taskField
+  task-missed =
+      missed-by task-field.Value task-field.Refused taskSize taskAt s at
+      (λ v n e k. let z : _≡_ {A = ℕ} 0 1 = cc in omega arith)
+
+  pub granted-there : at + grantedSize ≤ length s → grantedField s at ≡ granted-field.Value (grantedAt s at) (at + grantedSize)
+  unfolding grantedField
+  granted-there = there granted-field.Value granted-field.Refused grantedSize grantedAt s at
+
+  pub granted-missing : length s < at + grantedSize → grantedField s at ≡ granted-field.Refused (SheetEnds (length s))
+  unfolding grantedField
+  granted-missing = missing granted-field.Value granted-field.Refused grantedSize grantedAt s at
+
+  pub granted-got : (r : GrantedField) (v : Granted) (next : ℕ) → r ≡ grantedField s at → r ≡ granted-field.Value v next → Got s at grantedSize grantedAt v next
+  unfolding grantedField
+  granted-got =
+      got-by granted-field.Value granted-field.Refused grantedSize grantedAt s at
+      (λ v n e k. let z : _≡_ {A = ℕ} 0 1 = cc in omega arith)
+      (λ v w m n k. (cc, cc))
+
+  pub granted-missed : (r : GrantedField) (e : Refusal) → r ≡ grantedField s at → r ≡ granted-field.Refused e → length s < at + grantedSize
+  unfolding grantedField
+  granted-missed =
+      missed-by granted-field.Value granted-field.Refused grantedSize grantedAt s at
+      (λ v n e k. let z : _≡_ {A = ℕ} 0 1 = cc in omega arith)
+
+-- a row is read field by field
+module _ (s : List ℕ) (at : ℕ) where
+  pub task-read : (c a₁ tmin a₂ tmax a₃ e next : ℕ) → Got s at 4 u32At c a₁ → Got s a₁ 4 u32At tmin a₂ → Got s a₂ 4 u32At tmax a₃ → Got s a₃ 4 u32At e next
+      → task-field.Value (task c tmin tmax e) next ≡ taskField s at
+  task-read c a₁ tmin a₂ tmax a₃ e next g₁ g₂ g₃ g₄ =
+      let e₁ : a₁ ≡ at + 4 = omega arith in
+      let e₂ : a₂ ≡ at + 8 = omega arith in
+      let e₃ : a₃ ≡ at + 12 = omega arith in
+      let e₄ : next ≡ at + taskSize = omega arith in
+      cc (task-there s at (omega arith))
+
+  pub granted-read : (period a₁ processor next : ℕ) → Got s at 4 u32At period a₁ → Got s a₁ 2 u16At processor next
+      → granted-field.Value (granted period processor) next ≡ grantedField s at
+  granted-read period a₁ processor next g₁ g₂ =
+      let e₁ : a₁ ≡ at + 4 = omega arith in
+      let e₂ : next ≡ at + grantedSize = omega arith in
+      cc (granted-there s at (omega arith))
+
+-- one row more
+pub rows-more : {A : Type 0} (none : A) (size : ℕ) (rowAt : List ℕ → ℕ → A) (s : List ℕ) (from i at : ℕ) (rows : List A) (row : A)
+    → rows ≡ rowsAt none size rowAt s from i → at ≡ from + size * i → row ≡ rowAt s at → set rows i row ≡ rowsAt none size rowAt s from (i + 1)
+rows-more none size rowAt s from i at rows row e a r =
+    rw (e, r, a) (sym (padded-more none (λ k. rowAt s (from + size * k)) i))
+
+-- the two cases of the rows of a section, and how an answer tells them
+module _ {A R : Type 0} (made : Bool → List A → ℕ → R) (none : A) (size : ℕ) (rowAt : List ℕ → ℕ → A) (s : List ℕ) (from n : ℕ) where
+  rows-there : from + size * n ≤ length s → rowsBy made none size rowAt s from n ≡ made true (rowsAt none size rowAt s from n) (from + size * n)
+  rows-there h = rw (le-leb (from + size * n) (length s) h)
+
+  rows-missing : length s < from + size * n → rowsBy made none size rowAt s from n ≡ made false (replicate mostTasks none) from
+  rows-missing h = rw (lt-leb (from + size * n) (length s) h)
+
+  module _ (whole : R → Bool) (tells : (b : Bool) (rows : List A) (next : ℕ) → whole (made b rows next) ≡ b) (r : R) (e : r ≡ rowsBy made none size rowAt s from n) where
+    rows-got : whole r ≡ true → (from + size * n ≤ length s) × (r ≡ made true (rowsAt none size rowAt s from n) (from + size * n))
+    rows-got w =
+        by-le (from + size * n) (length s)
+        (λ h. (h, e ∙ rows-there h))
+        (λ h. true-false w (ap whole (e ∙ rows-missing h) ∙ tells false _ _))
+
+    rows-missed : whole r ≡ false → length s < from + size * n
+    rows-missed w =
+        by-le (from + size * n) (length s) (λ h. true-false (ap whole (e ∙ rows-there h) ∙ tells true _ _) w) (λ h. h)
+
+module _ (s : List ℕ) (from n : ℕ) where
+  pub tasks-there : from + taskSize * n ≤ length s → taskRows s from n ≡ madeTasks true (rowsAt noTask taskSize taskAt s from n) (from + taskSize * n)
+  unfolding taskRows
+  tasks-there = rows-there madeTasks noTask taskSize taskAt s from n
+
+  pub tasks-missing : length s < from + taskSize * n → taskRows s from n ≡ madeTasks false (replicate mostTasks noTask) from
+  unfolding taskRows
+  tasks-missing = rows-missing madeTasks noTask taskSize taskAt s from n
+
+  pub tasks-got : (r : TaskRows) → r ≡ taskRows s from n → r .whole ≡ true
+      → (from + taskSize * n ≤ length s) × (r ≡ madeTasks true (rowsAt noTask taskSize taskAt s from n) (from + taskSize * n))
+  unfolding taskRows
+  tasks-got = rows-got madeTasks noTask taskSize taskAt s from n (λ (r : TaskRows). r .whole) (λ b rows next. refl)
+
+  pub tasks-missed : (r : TaskRows) → r ≡ taskRows s from n → r .whole ≡ false → length s < from + taskSize * n
+  unfolding taskRows
+  tasks-missed = rows-missed madeTasks noTask taskSize taskAt s from n (λ (r : TaskRows). r .whole) (λ b rows next. refl)
+
+  pub results-there : from + grantedSize * n ≤ length s → grantedRows s from n ≡ madeGranted true (rowsAt noGranted grantedSize grantedAt s from n) (from + grantedSize * n)
+  unfolding grantedRows
+  results-there = rows-there madeGranted noGranted grantedSize grantedAt s from n
+
+  pub results-missing : length s < from + grantedSize * n → grantedRows s from n ≡ madeGranted false (replicate mostTasks noGranted) from
+  unfolding grantedRows
+  results-missing = rows-missing madeGranted noGranted grantedSize grantedAt s from n
+
+  pub results-got : (r : GrantedRows) → r ≡ grantedRows s from n → r .whole ≡ true
+      → (from + grantedSize * n ≤ length s) × (r ≡ madeGranted true (rowsAt noGranted grantedSize grantedAt s from n) (from + grantedSize * n))
+  unfolding grantedRows
+  results-got = rows-got madeGranted noGranted grantedSize grantedAt s from n (λ (r : GrantedRows). r .whole) (λ b rows next. refl)
+
+  pub results-missed : (r : GrantedRows) → r ≡ grantedRows s from n → r .whole ≡ false → length s < from + grantedSize * n
+  unfolding grantedRows
+  results-missed = rows-missed madeGranted noGranted grantedSize grantedAt s from n (λ (r : GrantedRows). r .whole) (λ b rows next. refl)

@@ -1,0 +1,80 @@
+-- `sheet::read_results` meets its contract: the rows so far are those of the definition, and the place is after them. Assumes nothing.
+use Prim.Native.Nat.{_+_, _*_, _-_, _≤_}
+use mathlib.Core.Path.{_≡_, sym}
+use native.Mathlib.Omega.{arith}
+use lib.ListN.{length}
+use borrow.Author.Needs.{needs}
+use Rattle.sheet.specs.Rows.{grantedAt, noGranted, rowsAt}
+use Rattle.sheet.specs.Sections.{grantedSize}
+use Rattle.sheet.proofs.Padding.{padded-none}
+use Rattle.sheet.proofs.RowFields.{granted-got, granted-missed, rows-more, results-there, results-missing}
+use Rattle.sheet.proofs.read_results.Statement.{statement}
+use Rattle.sheet.proofs.read_results.Tie as tie
+
+abbrev Inv-loop : tie.InvT-loop
+Inv-loop s from n rows₀ at₀ i₀ rows at i =
+    (i ≤ n) × ((at ≡ from + grantedSize * i) × ((at ≤ length s) × (rows ≡ rowsAt noGranted grantedSize grantedAt s from i)))
+
+abbrev μ-loop : tie.MeasureT-loop
+μ-loop s from n rows₀ at₀ i₀ rows at i = n - i
+
+loop-holds : tie.Need-loop-holds Inv-loop μ-loop
+loop-holds c = (search needs, (omega arith, (search needs, sym (padded-none _ _))))
+
+read-granted-requires : tie.Need-read-granted-requires Inv-loop μ-loop
+read-granted-requires c κs = search needs
+
+enum-known-row : tie.Need-enum-known-row Inv-loop μ-loop
+enum-known-row c = search needs
+
+enum-told : tie.Need-enum-told Inv-loop μ-loop
+enum-told c = search needs
+
+returns : tie.Need-returns Inv-loop μ-loop
+returns c =
+    let m = granted-missed _ _ _ _ (c .before .before .read-granted .ensures) (c .enum-told .given .1) in
+    sym (results-missing _ _ _ (omega arith))
+
+mul-rows : tie.Need-mul-rows Inv-loop μ-loop
+mul-rows c = search needs
+
+array-set-from-rows : tie.Need-array-set-from-rows Inv-loop μ-loop
+array-set-from-rows c = search needs
+
+add-i : tie.Need-add-i Inv-loop μ-loop
+add-i c = search needs
+
+loop-less : tie.Need-loop-less Inv-loop μ-loop
+loop-less c = search needs
+
+loop-again : tie.Need-loop-again Inv-loop μ-loop
+loop-again c =
+    let g = granted-got _ _ _ _ _ (c .before .before .before .read-granted .ensures) (c .before .row .given .1) in
+    let inv = c .before .before .before .before .before .loop .inv in
+    (search needs, (omega arith, (omega arith, rows-more noGranted grantedSize grantedAt _ _ _ _ _ _ (inv .1 .1 .1) (inv .1 .0) (g .is))))
+
+returns-2 : tie.Need-returns-2 Inv-loop μ-loop
+returns-2 c =
+    let a = c .before .before .before .args in
+    let l = c .before .loop in
+    let e : l .i ≡ a .n = omega arith in
+    let k : l .at ≡ a .from + grantedSize * a .n = omega arith in
+    cc (results-there (a .s .now) (a .from) (a .n) (omega arith))
+
+pub read-results-spec : {M : Type 1} → statement M
+read-results-spec =
+    tie.close
+    (tie.spec
+    Inv-loop
+    μ-loop
+    loop-holds
+    read-granted-requires
+    enum-known-row
+    enum-told
+    returns
+    mul-rows
+    array-set-from-rows
+    add-i
+    loop-less
+    loop-again
+    returns-2)

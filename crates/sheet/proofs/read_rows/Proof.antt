@@ -1,0 +1,107 @@
+-- `sheet::read_rows` meets its contract. Assumes nothing.
+use mathlib.Core.Path.{sym, _∙_}
+use borrow.Author.Tests.{not-true, not-false}
+use borrow.Author.Needs.{needs}
+use Rattle.sheet.proofs.RowSteps.{tasks-end, tasks-read, count-end, count-read, count-wrong, results-due, results-end, results-read, bytes-after, all-read}
+use Rattle.sheet.proofs.read_rows.Statement.{statement}
+use Rattle.sheet.proofs.read_rows.Tie as tie
+
+read-tasks-requires : tie.Need-read-tasks-requires
+read-tasks-requires c κs = search needs
+
+refusing-requires : tie.Need-refusing-requires
+refusing-requires c κs = search needs
+
+returns : tie.Need-returns
+returns c = c .refusing .ensures ∙ tasks-end (c .before .before .before .before .pre) (c .before .before .read-tasks .ensures) (not-true _ (c .before .if1 .taken))
+
+read-u16-requires : tie.Need-read-u16-requires
+read-u16-requires c κs = search needs
+
+enum-known-count : tie.Need-enum-known-count
+enum-known-count c = search needs
+
+enum-told : tie.Need-enum-told
+enum-told c = search needs
+
+refusing-requires-2 : tie.Need-refusing-requires-2
+refusing-requires-2 c κs = search needs
+
+returns-2 : tie.Need-returns-2
+returns-2 c =
+    let tasks = tasks-read (c .before .before .before .before .before .before .before .pre) (c .before .before .before .before .before .read-tasks .ensures) (not-false _ (c .before .before .before .before .if1 .left)) in
+    c .refusing2 .ensures ∙ count-end tasks (c .before .before .before .read-u16 .ensures) (c .before .enum-told .given .1)
+
+cast-r : tie.Need-cast-r
+cast-r c = search needs
+
+results-fit-requires : tie.Need-results-fit-requires
+results-fit-requires c κs = search needs
+
+refusing-requires-3 : tie.Need-refusing-requires-3
+refusing-requires-3 c κs = search needs
+
+returns-3 : tie.Need-returns-3
+returns-3 c =
+    let tasks = tasks-read (c .before .before .before .before .before .before .before .before .before .before .pre) (c .before .before .before .before .before .before .before .before .read-tasks .ensures) (not-false _ (c .before .before .before .before .before .before .before .if1 .left)) in
+    let count = count-read tasks (c .before .before .before .before .before .before .read-u16 .ensures) (c .before .before .before .before .count .given .1) in
+    c .refusing3 .ensures ∙ count-wrong count (sym (c .before .before .results-fit .ensures) ∙ not-true _ (c .before .if2 .taken))
+
+read-results-requires : tie.Need-read-results-requires
+read-results-requires c κs =
+    let tasks = tasks-read (c .before .before .before .before .before .before .before .before .before .pre) (c .before .before .before .before .before .before .before .read-tasks .ensures) (not-false _ (c .before .before .before .before .before .before .if1 .left)) in
+    let count = count-read tasks (c .before .before .before .before .before .read-u16 .ensures) (c .before .before .before .count .given .1) in
+    let fit = sym (c .before .results-fit .ensures) ∙ not-false _ (c .if2 .left) in
+    results-due count fit
+
+refusing-requires-4 : tie.Need-refusing-requires-4
+refusing-requires-4 c κs = search needs
+
+returns-4 : tie.Need-returns-4
+returns-4 c =
+    let tasks = tasks-read (c .before .before .before .before .before .before .before .before .before .before .before .before .pre) (c .before .before .before .before .before .before .before .before .before .before .read-tasks .ensures) (not-false _ (c .before .before .before .before .before .before .before .before .before .if1 .left)) in
+    let count = count-read tasks (c .before .before .before .before .before .before .before .before .read-u16 .ensures) (c .before .before .before .before .before .before .count .given .1) in
+    let fit = sym (c .before .before .before .before .results-fit .ensures) ∙ not-false _ (c .before .before .before .if2 .left) in
+    c .refusing4 .ensures ∙ results-end count fit (c .before .before .read-results .ensures) (not-true _ (c .before .if3 .taken))
+
+refusing-requires-5 : tie.Need-refusing-requires-5
+refusing-requires-5 c κs = search needs
+
+returns-5 : tie.Need-returns-5
+returns-5 c =
+    let tasks = tasks-read (c .before .before .before .before .before .before .before .before .before .before .before .before .before .pre) (c .before .before .before .before .before .before .before .before .before .before .before .read-tasks .ensures) (not-false _ (c .before .before .before .before .before .before .before .before .before .before .if1 .left)) in
+    let count = count-read tasks (c .before .before .before .before .before .before .before .before .before .read-u16 .ensures) (c .before .before .before .before .before .before .before .count .given .1) in
+    let fit = sym (c .before .before .before .before .before .results-fit .ensures) ∙ not-false _ (c .before .before .before .before .if2 .left) in
+    let results = results-read count fit (c .before .before .before .read-results .ensures) (not-false _ (c .before .before .if3 .left)) in
+    c .refusing5 .ensures ∙ bytes-after results (c .before .if4 .taken)
+
+returns-6 : tie.Need-returns-6
+returns-6 c =
+    let tasks = tasks-read (c .before .before .before .before .before .before .before .before .before .before .before .before .before .before .pre) (c .before .before .before .before .before .before .before .before .before .before .before .before .read-tasks .ensures) (not-false _ (c .before .before .before .before .before .before .before .before .before .before .before .if1 .left)) in
+    let count = count-read tasks (c .before .before .before .before .before .before .before .before .before .before .read-u16 .ensures) (c .before .before .before .before .before .before .before .before .count .given .1) in
+    let fit = sym (c .before .before .before .before .before .before .results-fit .ensures) ∙ not-false _ (c .before .before .before .before .before .if2 .left) in
+    let results = results-read count fit (c .before .before .before .before .read-results .ensures) (not-false _ (c .before .before .before .if3 .left)) in
+    all-read results (c .before .before .if4 .left)
+
+pub read-rows-spec : {M : Type 1} → statement M
+read-rows-spec =
+    tie.close
+    (tie.spec
+    read-tasks-requires
+    refusing-requires
+    returns
+    read-u16-requires
+    enum-known-count
+    enum-told
+    refusing-requires-2
+    returns-2
+    cast-r
+    results-fit-requires
+    refusing-requires-3
+    returns-3
+    read-results-requires
+    refusing-requires-4
+    returns-4
+    refusing-requires-5
+    returns-5
+    returns-6)

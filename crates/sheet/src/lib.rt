@@ -1,0 +1,352 @@
+// Reading a station sheet: fields, rows and sections on a slice and a place, and above them the `Reader`, which holds both. Callers use
+// `read`. Contracts cite `specs/Sections`, `specs/Rows` and `specs/Reading`.
+use field::Field16;
+use field::Field32;
+use kinds::Granted;
+use kinds::Policy;
+use kinds::Refusal;
+use kinds::Results;
+use kinds::Settings;
+use kinds::Sheet;
+use kinds::Table;
+use kinds::Task;
+ghost use mathlib.Core.Path.{_≡_};
+ghost use Prim.Native.Nat.{_≤_};
+ghost use lib.ListN.{length};
+ghost use Rattle.kinds.specs.Limits.{mostTasks};
+ghost use Rattle.kinds.specs.Answer.{refused};
+ghost use Rattle.sheet.specs.Sections.{recordsPlace, resultsPlace, endPlace, resultsFit};
+ghost use Rattle.sheet.specs.Rows.{taskField, grantedField, taskRows, grantedRows};
+ghost use Rattle.sheet.specs.Reading.{noSheet, readRows, readSheet, readFrom, Begins, HeadTells, handedReading};
+
+// Whether a sheet was read, or the refusal.
+pub enum Verdict {
+    Accepted,
+    Refused(Refusal),
+}
+
+// A verdict, and the sheet: that of zeros where it was refused.
+pub struct Reading {
+    pub verdict: Verdict,
+    pub sheet: Sheet,
+}
+
+// An unused place of the task section, and of the results section.
+const NO_TASK: Task = Task {
+    c: 0,
+    tmin: 0,
+    tmax: 0,
+    e: 0,
+};
+
+const NO_RESULT: Granted = Granted {
+    period: 0,
+    processor: 0,
+};
+
+// How many bytes a count, a setting, a task record and a result take, and how many settings there are.
+const COUNT: usize = 2;
+
+const SETTING: usize = 2;
+
+const TASK: usize = 16;
+
+const GRANTED: usize = 6;
+
+pub const SETTINGS: u16 = 2;
+
+// Where the task records start.
+pub fn records_place() -> usize
+    ensures { λ r. ⌜ r ≡ recordsPlace ⌝ }
+{
+    COUNT + SETTING * SETTINGS as usize + COUNT
+}
+
+// Where the result count of a sheet with n tasks stands.
+pub fn results_place(n: usize) -> usize
+    requires { ⌜ n ≤ mostTasks ⌝ }
+    ensures { λ r. ⌜ r ≡ resultsPlace n ⌝ }
+{
+    records_place() + TASK * n
+}
+
+// How many bytes a sheet with n tasks and r results is long.
+pub fn end_place(n: usize, r: usize) -> usize
+    requires { ⌜ (n ≤ mostTasks) × (r ≤ mostTasks) ⌝ }
+    ensures { λ e. ⌜ e ≡ endPlace n r ⌝ }
+{
+    results_place(n) + COUNT + GRANTED * r
+}
+
+// Document 01, 10: whether a sheet with n tasks may have r results.
+pub fn results_fit(r: usize, n: usize) -> bool
+    ensures { λ b. ⌜ b ≡ resultsFit r n ⌝ }
+{
+    if r == 0 {
+        return true;
+    }
+    r == n
+}
+
+// A task record and the place after it, or the refusal.
+enum TaskField {
+    Value(Task, usize),
+    Refused(Refusal),
+}
+
+// A result and the place after it, or the refusal.
+enum GrantedField {
+    Value(Granted, usize),
+    Refused(Refusal),
+}
+
+// The task record at a place.
+fn read_task(s: &[u8], at: usize) -> TaskField
+    ensures { λ r. ⌜ r ≡ taskField (now (s .entry)) at ⌝ }
+{
+    let Field32::Value(c, at_tmin) = field::read_u32(s, at) else {
+        return TaskField::Refused(Refusal::SheetEnds(s.len()));
+    };
+    let Field32::Value(tmin, at_tmax) = field::read_u32(s, at_tmin) else {
+        return TaskField::Refused(Refusal::SheetEnds(s.len()));
+    };
+    let Field32::Value(tmax, at_e) = field::read_u32(s, at_tmax) else {
+        return TaskField::Refused(Refusal::SheetEnds(s.len()));
+    };
+    let Field32::Value(e, next) = field::read_u32(s, at_e) else {
+        return TaskField::Refused(Refusal::SheetEnds(s.len()));
+    };
+    TaskField::Value(Task { c, tmin, tmax, e }, next)
+}
+
+// The result at a place.
+fn read_granted(s: &[u8], at: usize) -> GrantedField
+    ensures { λ r. ⌜ r ≡ grantedField (now (s .entry)) at ⌝ }
+{
+    let Field32::Value(period, at_processor) = field::read_u32(s, at) else {
+        return GrantedField::Refused(Refusal::SheetEnds(s.len()));
+    };
+    let Field16::Value(processor, next) = field::read_u16(s, at_processor) else {
+        return GrantedField::Refused(Refusal::SheetEnds(s.len()));
+    };
+    GrantedField::Value(Granted { period, processor }, next)
+}
+
+// The rows of the task section: whether all are there, the rows, and the place after them.
+struct TaskRows {
+    whole: bool,
+    rows: [Task; Table::MOST_TASKS],
+    next: usize,
+}
+
+// The rows of the results section: whether all are there, the rows, and the place after them.
+struct GrantedRows {
+    whole: bool,
+    rows: [Granted; Table::MOST_TASKS],
+    next: usize,
+}
+
+// The n task records from a place on; the first field that is not there ends them.
+fn read_tasks(s: &[u8], from: usize, n: usize) -> TaskRows
+    requires { ⌜ (n ≤ mostTasks) × (from ≤ length (now s)) ⌝ }
+    ensures { λ r. ⌜ r ≡ taskRows (now (s .entry)) from n ⌝ }
+{
+    let mut rows = [NO_TASK; Table::MOST_TASKS];
+    let mut at = from;
+    let mut i: usize = 0;
+    while i < n {
+        let TaskField::Value(row, next) = read_task(s, at) else {
+            return TaskRows {
+                whole: false,
+                rows: [NO_TASK; Table::MOST_TASKS],
+                next: from,
+            };
+        };
+        rows[i] = row;
+        at = next;
+        i += 1;
+    }
+    TaskRows {
+        whole: true,
+        rows,
+        next: at,
+    }
+}
+
+// The n results from a place on; the first field that is not there ends them.
+fn read_results(s: &[u8], from: usize, n: usize) -> GrantedRows
+    requires { ⌜ (n ≤ mostTasks) × (from ≤ length (now s)) ⌝ }
+    ensures { λ r. ⌜ r ≡ grantedRows (now (s .entry)) from n ⌝ }
+{
+    let mut rows = [NO_RESULT; Table::MOST_TASKS];
+    let mut at = from;
+    let mut i: usize = 0;
+    while i < n {
+        let GrantedField::Value(row, next) = read_granted(s, at) else {
+            return GrantedRows {
+                whole: false,
+                rows: [NO_RESULT; Table::MOST_TASKS],
+                next: from,
+            };
+        };
+        rows[i] = row;
+        at = next;
+        i += 1;
+    }
+    GrantedRows {
+        whole: true,
+        rows,
+        next: at,
+    }
+}
+
+// Document 01: "a sheet of zeros (policy: the further choice 0)".
+pub fn no_sheet() -> Sheet
+    ensures { λ r. ⌜ r ≡ noSheet ⌝ }
+{
+    let policy = Policy::Further(0);
+    let settings = Settings { policy, m: 0 };
+    let table = Table {
+        rows: [NO_TASK; Table::MOST_TASKS],
+        n: 0,
+    };
+    let results = Results {
+        rows: [NO_RESULT; Table::MOST_TASKS],
+        n: 0,
+    };
+    Sheet {
+        settings,
+        table,
+        results,
+    }
+}
+
+// A refused reading.
+fn refusing(refusal: Refusal) -> Reading
+    ensures { λ r. ⌜ handedReading r ≡ refused noSheet refusal ⌝ }
+{
+    let sheet = no_sheet();
+    let verdict = Verdict::Refused(refusal);
+    Reading { verdict, sheet }
+}
+
+// The settings, the task count and the place after it, or the refusal.
+enum Head {
+    Value(Settings, usize, usize),
+    Refused(Refusal),
+}
+
+// The settings section and the task count. Document 01: "a count is judged as soon as its two bytes are there."
+fn read_head(s: &[u8]) -> Head
+    ensures { λ r. ⌜ HeadTells (now (s .entry)) r ⌝ }
+{
+    let Field16::Value(settings, at_policy) = field::read_u16(s, 0) else {
+        return Head::Refused(Refusal::SheetEnds(s.len()));
+    };
+    if settings != SETTINGS {
+        return Head::Refused(Refusal::NotTwoSettings);
+    }
+    let Field16::Value(number, at_m) = field::read_u16(s, at_policy) else {
+        return Head::Refused(Refusal::SheetEnds(s.len()));
+    };
+    let Field16::Value(m, at_tasks) = field::read_u16(s, at_m) else {
+        return Head::Refused(Refusal::SheetEnds(s.len()));
+    };
+    let Field16::Value(count, from) = field::read_u16(s, at_tasks) else {
+        return Head::Refused(Refusal::SheetEnds(s.len()));
+    };
+    let n = count as usize;
+    if Table::MOST_TASKS < n {
+        return Head::Refused(Refusal::TooManyTasks(at_tasks));
+    }
+    let policy = Policy::of(number);
+    Head::Value(Settings { policy, m }, n, from)
+}
+
+// The rows of a sheet whose head was read: its tasks, its results, and nothing after them.
+fn read_rows(s: &[u8], settings: Settings, n: usize, from: usize) -> Reading
+    requires { ⌜ Begins (now s) settings n from ⌝ }
+    ensures { λ r. ⌜ handedReading r ≡ readRows (now (s .entry)) ⌝ }
+{
+    let tasks = read_tasks(s, from, n);
+    let tasks_there = tasks.whole;
+    if !tasks_there {
+        return refusing(Refusal::SheetEnds(s.len()));
+    }
+    let at = tasks.next;
+    let Field16::Value(count, first) = field::read_u16(s, at) else {
+        return refusing(Refusal::SheetEnds(s.len()));
+    };
+    let r = count as usize;
+    let fit = results_fit(r, n);
+    if !fit {
+        return refusing(Refusal::WrongResultCount(at));
+    }
+    let granted = read_results(s, first, r);
+    let results_there = granted.whole;
+    if !results_there {
+        return refusing(Refusal::SheetEnds(s.len()));
+    }
+    let end = granted.next;
+    if end < s.len() {
+        return refusing(Refusal::BytesAfterLast(end));
+    }
+    let rows = tasks.rows;
+    let table = Table { rows, n };
+    let rows = granted.rows;
+    let results = Results { rows, n: r };
+    let sheet = Sheet {
+        settings,
+        table,
+        results,
+    };
+    let verdict = Verdict::Accepted;
+    Reading { verdict, sheet }
+}
+
+// The sheet that a slice is, from its front to its end.
+fn read_sheet(s: &[u8]) -> Reading
+    ensures { λ r. ⌜ handedReading r ≡ readSheet (now (s .entry)) ⌝ }
+{
+    match read_head(s) {
+        Head::Refused(refusal) => refusing(refusal),
+        Head::Value(settings, n, from) => read_rows(s, settings, n, from),
+    }
+}
+
+// The sheet that stands from a place on; past the end none does.
+fn read_from(s: &[u8], at: usize) -> Reading
+    ensures { λ r. ⌜ handedReading r ≡ readFrom (now (s .entry)) at ⌝ }
+{
+    if s.len() < at {
+        return read_sheet(&s[..0]);
+    }
+    read_sheet(&s[at..])
+}
+
+// Document 01: "a reader that holds the lent sheet and its place in it."
+pub struct Reader<'a> {
+    pub sheet: &'a [u8],
+    pub at: usize,
+}
+
+// A reader at the front of a lent sheet.
+pub fn open<'a>(sheet: &'a [u8]) -> Reader<'a>
+    ensures { λ r. ⌜ (r .sheet ≡ sheet .entry) × (r .at ≡ 0) ⌝ }
+{
+    Reader { sheet, at: 0 }
+}
+
+// What a reader reads from its place on.
+pub fn rest<'a>(reader: Reader<'a>) -> Reading
+    ensures { λ r. ⌜ handedReading r ≡ readFrom (now (reader .entry .sheet)) (reader .entry .at) ⌝ }
+{
+    read_from(reader.sheet, reader.at)
+}
+
+// Reads a station sheet.
+pub fn read(bytes: &[u8]) -> Reading
+    ensures { λ r. ⌜ handedReading r ≡ readSheet (now (bytes .entry)) ⌝ }
+{
+    rest(open(bytes))
+}

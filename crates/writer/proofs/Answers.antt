@@ -1,0 +1,96 @@
+-- What the writer answers in each case, with the buffer after it, and that no second answer meets its promise.
+-- Assumes nothing.
+use Prim.Native.Nat.{ℕ, _≤_, _<_}
+use mathlib.Core.Bool.{true, false}
+use mathlib.Core.List.{List, _++_}
+use mathlib.Core.Path.{_≡_, sym, ap, _∙_}
+use native.Mathlib.Omega.{arith}
+use lib.Dec.{leb}
+use lib.ListN.{length, drop}
+use borrow.Author.Tests.{le-leb, lt-leb, leb-true}
+use Rattle.kinds.specs.declared.Sheet.{Sheet}
+use Rattle.kinds.specs.declared.Refusal.the-variants.{TooManyTasks, OutputTooShort, WrongResultCount}
+use Rattle.kinds.specs.Limits.{mostTasks}
+use Rattle.kinds.specs.Answer.{Handed, accepted}
+use Rattle.kinds.proofs.Answers.{not-refused, refused-one}
+use Rattle.field.specs.Stored.{Put}
+use Rattle.field.proofs.Stores.{stored-front}
+use Rattle.sheet.specs.Sections.{resultsFit}
+use Rattle.sheet.proofs.Judging.{judged-passed}
+use Rattle.writer.specs.declared.Written.{Written}
+use Rattle.writer.specs.declared.Written.the-variants.{Bytes, Refused}
+use Rattle.writer.specs.Encode.{encode, lengthOf}
+use Rattle.writer.specs.Writing.{handedWritten, writeSheet, afterWrite, Writes}
+
+module _ (x : Sheet) (old : List ℕ) where
+  -- 3, then 10, then 5, each with the buffer as it was
+  pub too-many : mostTasks < x .table .n → Writes x old (Refused (TooManyTasks (x .table .n))) old
+  unfolding writeSheet afterWrite
+  too-many a = record { answer = rw (lt-leb (x .table .n) mostTasks a); buffer = rw (lt-leb (x .table .n) mostTasks a) }
+
+  module _ (a : x .table .n ≤ mostTasks) where
+    pub wrong-count : resultsFit (x .results .n) (x .table .n) ≡ false → Writes x old (Refused (WrongResultCount 0)) old
+    unfolding writeSheet afterWrite
+    wrong-count b = record { answer = rw (le-leb (x .table .n) mostTasks a, b); buffer = rw (le-leb (x .table .n) mostTasks a, b) }
+
+    module _ (b : resultsFit (x .results .n) (x .table .n) ≡ true) where
+      pub too-short : length old < lengthOf x → Writes x old (Refused (OutputTooShort (lengthOf x))) old
+      unfolding writeSheet afterWrite
+      too-short d =
+          record {
+            answer = rw (le-leb (x .table .n) mostTasks a, b, lt-leb (lengthOf x) (length old) d);
+            buffer = rw (le-leb (x .table .n) mostTasks a, b, lt-leb (lengthOf x) (length old) d);
+          }
+
+      -- else the sheet's bytes, and nothing past them
+      pub wrote : lengthOf x ≤ length old → (written : ℕ) (new : List ℕ) → Put old 0 (lengthOf x) (encode x) written new → Writes x old (Bytes written) new
+      unfolding writeSheet afterWrite
+      wrote d written new p =
+          let e : written ≡ lengthOf x = omega (arith, p .next-is) in
+          record {
+            answer = rw (le-leb (x .table .n) mostTasks a, b, le-leb (lengthOf x) (length old) d) (ap accepted e);
+            buffer =
+                rw (le-leb (x .table .n) mostTasks a, b, le-leb (lengthOf x) (length old) d)
+                (p .new-is ∙ stored-front old (encode x) (lengthOf x) (p .run-long) d);
+          }
+
+-- an accepted call: the counts were right, there was room, and the length written is the sheet's
+pub record Accepts (x : Sheet) (room k : ℕ) : Type 0 where
+  pub few : x .table .n ≤ mostTasks
+  pub fit : resultsFit (x .results .n) (x .table .n) ≡ true
+  pub fits : lengthOf x ≤ room
+  pub is : k ≡ lengthOf x
+
+pub accepts : (x : Sheet) (room k : ℕ) → writeSheet x room ≡ accepted k → Accepts x room k
+unfolding writeSheet
+accepts x room k e =
+    let p₁ = judged-passed 0 (leb (x .table .n) mostTasks) (TooManyTasks (x .table .n)) _ e in
+    let p₂ = judged-passed 0 (resultsFit (x .results .n) (x .table .n)) (WrongResultCount 0) _ (p₁ .1) in
+    let p₃ = judged-passed 0 (leb (lengthOf x) room) (OutputTooShort (lengthOf x)) _ (p₂ .1) in
+    record {
+      few = leb-true (x .table .n) mostTasks (p₁ .0);
+      fit = p₂ .0;
+      fits = leb-true (lengthOf x) room (p₃ .0);
+      is = ap (λ (h : Handed ℕ). h .value) (sym (p₃ .1));
+    }
+
+pub write-accepts : (x : Sheet) (room : ℕ) → x .table .n ≤ mostTasks → resultsFit (x .results .n) (x .table .n) ≡ true → lengthOf x ≤ room
+    → writeSheet x room ≡ accepted (lengthOf x)
+unfolding writeSheet
+write-accepts x room a b d = rw (le-leb (x .table .n) mostTasks a, b, le-leb (lengthOf x) room d)
+
+-- the buffer after an accepted call
+pub accepted-after : (x : Sheet) (old : List ℕ) (k : ℕ) → writeSheet x (length old) ≡ accepted k → afterWrite x old ≡ encode x ++ drop (lengthOf x) old
+unfolding afterWrite
+accepted-after x old k e = rw e
+
+-- what is handed back tells the answer
+pub written-one : (r q : Written) → handedWritten r ≡ handedWritten q → r ≡ q
+written-one (Bytes m) (Bytes n) e = ap Bytes (ap (λ (h : Handed ℕ). h .value) e)
+written-one (Bytes m) (Refused q) e = not-refused m 0 q e
+written-one (Refused r) (Bytes n) e = not-refused n 0 r (sym e)
+written-one (Refused r) (Refused q) e = ap Refused (refused-one 0 r q e)
+
+-- no second answer, with its buffer, meets the promise of `write`
+pub write-one : (x : Sheet) (old : List ℕ) (r q : Written) (new other : List ℕ) → Writes x old r new → Writes x old q other → (r ≡ q) × (new ≡ other)
+write-one x old r q new other a b = (written-one r q (a .answer ∙ sym (b .answer)), a .buffer ∙ sym (b .buffer))

@@ -1,0 +1,102 @@
+-- Both round trips between bytes and sheets, as the promises of `read` and `write` give them, and when a sheet is its own canonical form.
+-- Assumes nothing.
+use Prim.Native.Nat.{ℕ, _+_, _*_, _≤_}
+use mathlib.Core.List.{List, _++_}
+use mathlib.Core.Path.{_≡_, refl, sym, ap, _∙_}
+use native.Mathlib.Omega.{arith}
+use lib.ListN.{length, take, drop}
+use lib.Seq.{take-at}
+use Rattle.kinds.specs.declared.Task.{Task}
+use Rattle.kinds.specs.declared.Granted.{Granted}
+use Rattle.kinds.specs.declared.Sheet.{Sheet}
+use Rattle.kinds.specs.Limits.{mostTasks}
+use Rattle.kinds.specs.Task.{noTask, at}
+use Rattle.kinds.specs.Policy.{policyOf}
+use Rattle.kinds.specs.Answer.{accepted}
+use Rattle.kinds.proofs.Policies.{number-back}
+use Rattle.field.specs.Number.{Bytes, u16At}
+use Rattle.sheet.specs.Sections.{taskSize, grantedSize, policyPlace, recordsPlace, grantedPlace, resultsFit}
+use Rattle.sheet.specs.Rows.{noGranted, taskAt, grantedAt}
+use Rattle.sheet.specs.Reading.{taskCount, resultCount, settingsIn, sheetIn, readSheet}
+use Rattle.sheet.proofs.Padding.{padded-long, padded-is, padded-out}
+use Rattle.sheet.proofs.Whole.{whole, few-results}
+use Rattle.writer.specs.declared.Written.{Written}
+use Rattle.writer.specs.declared.Written.the-variants as written
+use Rattle.writer.specs.Encode.{encode, lengthOf}
+use Rattle.writer.specs.Writing.{writeSheet, Writes}
+use Rattle.writer.specs.Canonical.{grantedIn, canonical, Canonical, SheetHeld}
+use Rattle.writer.proofs.Rows.{encode-long}
+use Rattle.writer.proofs.Answers.{accepts, accepted-after, written-one, write-accepts}
+use Rattle.writer.proofs.Back.{back}
+use Rattle.writer.proofs.Forth.{forth}
+
+-- whatever bytes the reader accepts, writing what was read gives the same bytes
+module _ (s : List ℕ) (bytes : Bytes s) (x : Sheet) (e : readSheet s ≡ accepted x) where
+  pub read-encode : encode x ≡ s
+  read-encode = let w = whole s x e in ap encode (w .1) ∙ back s bytes (w .0)
+
+  read-length : lengthOf x ≡ length s
+  read-length = sym (encode-long x) ∙ ap length read-encode
+
+  -- into any buffer that has the room
+  pub read-write : (old new : List ℕ) (r : Written) → Writes x old r new → length s ≤ length old → (r ≡ written.Bytes (length s)) × (new ≡ s ++ drop (length s) old)
+  unfolding sheetIn
+  read-write old new r p room =
+      let w = whole s x e in
+      let l = read-length in
+      let few : x .table .n ≤ mostTasks = rw (ap (λ (y : Sheet). y .table .n) (w .1)) (w .0 .few) in
+      let fit = ap (λ (y : Sheet). resultsFit (y .results .n) (y .table .n)) (w .1) ∙ w .0 .fit in
+      let a : writeSheet x (length old) ≡ accepted (lengthOf x) = write-accepts x (length old) few fit (omega arith) in (
+        written-one r (written.Bytes (length s)) (p .answer ∙ (a ∙ ap accepted l)),
+        p .buffer ∙ (accepted-after x old (lengthOf x) a ∙ rw (read-encode, l)),
+      )
+
+-- writing a sheet and reading it gives its canonical form
+pub write-read : (x : Sheet) → SheetHeld x → (old new : List ℕ) (k : ℕ) → Writes x old (written.Bytes k) new → readSheet (take k new) ≡ accepted (canonical x)
+write-read x h old new k p =
+    let a = accepts x (length old) k (sym (p .answer)) in
+    let front : take k new ≡ encode x =
+    ap (take k) (p .buffer ∙ accepted-after x old k (sym (p .answer))) ∙ take-at (encode x) (drop (lengthOf x) old) k (encode-long x ∙ sym (a .is)) in
+    ap readSheet front ∙ forth x h (a .few) (a .fit)
+
+-- which is the sheet itself exactly where its policy is the one meant and its unused places are zeros
+pub canonical-same : (x : Sheet) → length (x .table .rows) ≡ mostTasks → length (x .results .rows) ≡ mostTasks → x .table .n ≤ mostTasks → x .results .n ≤ mostTasks
+    → Canonical x → canonical x ≡ x
+unfolding canonical
+canonical-same x room room′ few few′ c =
+    let tasks = padded-is noTask (at (x .table .rows)) (x .table .n) (x .table .rows) few room (λ i l. refl) (c .tasks-unused) in
+    let results = padded-is noGranted (grantedIn x) (x .results .n) (x .results .rows) few′ room′ (λ i l. refl) (c .results-unused) in
+    λ i.
+    record {
+      settings = record { policy = c .policy-meant i; m = x .settings .m };
+      table = record { rows = tasks i; n = x .table .n };
+      results = record { rows = results i; n = x .results .n };
+    }
+
+pub same-canonical : (x : Sheet) → canonical x ≡ x → Canonical x
+unfolding canonical
+same-canonical x e =
+    record {
+      policy-meant = ap (λ (y : Sheet). y .settings .policy) e;
+      tasks-unused = λ i l. sym (ap (λ (y : Sheet). at (y .table .rows) i) e) ∙ padded-out noTask (at (x .table .rows)) (x .table .n) i l;
+      results-unused = λ i l. sym (ap (λ (y : Sheet). grantedIn y i) e) ∙ padded-out noGranted (grantedIn x) (x .results .n) i l;
+    }
+
+-- a sheet that was read is its own canonical form
+pub read-canonical : (s : List ℕ) (x : Sheet) → readSheet s ≡ accepted x → canonical x ≡ x
+unfolding sheetIn settingsIn
+read-canonical s x e =
+    let w = whole s x e in
+    let tasks : ℕ → Task = λ i. taskAt s (recordsPlace + taskSize * i) in
+    let results : ℕ → Granted = λ i. grantedAt s (grantedPlace (taskCount s) + grantedSize * i) in
+    rw (w .1)
+    (canonical-same (sheetIn s)
+    (padded-long noTask tasks (taskCount s))
+    (padded-long noGranted results (resultCount s))
+    (w .0 .few)
+    (few-results (w .0))
+    (record {
+      policy-meant = ap policyOf (number-back (u16At s policyPlace));
+      tasks-unused = padded-out noTask tasks (taskCount s);
+      results-unused = padded-out noGranted results (resultCount s);
+    }))

@@ -1,0 +1,60 @@
+-- How long the bytes of a row, of rows and of a sheet are, and one row more.
+-- Assumes nothing.
+use Prim.Native.Nat.{ℕ, zero, suc, _+_, _*_}
+use mathlib.Core.List.{List}
+use mathlib.Core.Path.{_≡_, sym, _∙_}
+use native.Mathlib.Nat.{mul-zero, mul-suc}
+use native.Mathlib.Numerals.{add-one}
+use native.Mathlib.Omega.{arith}
+use lib.ListN.{length, getD, length-append}
+use Rattle.kinds.specs.declared.Task.{Task}
+use Rattle.kinds.specs.declared.Granted.{Granted}
+use Rattle.kinds.specs.declared.Settings.{Settings}
+use Rattle.kinds.specs.declared.Sheet.{Sheet}
+use Rattle.kinds.specs.Task.{noTask}
+use Rattle.field.specs.Stored.{Put}
+use Rattle.field.proofs.Numbers.{bytes-long}
+use Rattle.field.proofs.Stores.{put-none, put-then}
+use Rattle.sheet.specs.Sections.{taskSize, grantedSize, tasksPlace}
+use Rattle.sheet.specs.Rows.{noGranted}
+use Rattle.writer.specs.Encode.{taskBytes, grantedBytes, rowsBytes, tasksBytes, resultsBytes, settingsBytes, encode, lengthOf}
+
+pub task-long : (t : Task) → length (taskBytes t) ≡ taskSize
+unfolding taskBytes
+task-long t = simp (length-append, bytes-long)
+
+pub granted-long : (g : Granted) → length (grantedBytes g) ≡ grantedSize
+unfolding grantedBytes
+granted-long g = simp (length-append, bytes-long)
+
+pub settings-long : (st : Settings) → length (settingsBytes st) ≡ tasksPlace
+unfolding settingsBytes
+settings-long st = simp (length-append, bytes-long)
+
+module _ {A : Type 0} (bytes : A → List ℕ) (none : A) (size : ℕ) (rows : List A) where
+  pub rows-long : ((a : A) → length (bytes a) ≡ size) → (n : ℕ) → length (rowsBytes bytes none rows n) ≡ size * n
+  unfolding rowsBytes
+  rows-long long zero = sym (mul-zero size)
+  rows-long long (suc n) =
+      length-append (rowsBytes bytes none rows n) (bytes (getD rows n none))
+      ∙ (rw (rows-long long n, long (getD rows n none)) (sym (mul-suc size n)))
+
+  -- no row yet, and one row more
+  pub put-no-row : (out : List ℕ) (from : ℕ) → Put out from (size * 0) (rowsBytes bytes none rows 0) from out
+  unfolding rowsBytes
+  put-no-row out from = rw (mul-zero size) (put-none out from)
+
+  pub put-row : {out mid new : List ℕ} {from at next : ℕ} (i : ℕ) → Put out from (size * i) (rowsBytes bytes none rows i) at mid
+      → Put mid at size (bytes (getD rows i none)) next new → Put out from (size * (i + 1)) (rowsBytes bytes none rows (i + 1)) next new
+  unfolding rowsBytes
+  put-row i p q = rw (add-one i) (rw (mul-suc size i) (put-then p q))
+
+pub tasks-long : (rows : List Task) (n : ℕ) → length (tasksBytes rows n) ≡ taskSize * n
+tasks-long rows n = rows-long taskBytes noTask taskSize rows task-long n
+
+pub results-long : (rows : List Granted) (n : ℕ) → length (resultsBytes rows n) ≡ grantedSize * n
+results-long rows n = rows-long grantedBytes noGranted grantedSize rows granted-long n
+
+pub encode-long : (x : Sheet) → length (encode x) ≡ lengthOf x
+unfolding encode
+encode-long x = simp (length-append, bytes-long, settings-long, tasks-long, results-long) (omega arith)

@@ -1,0 +1,51 @@
+-- The canonical form of a sheet: what comes back when it is written and read.
+-- Assumes nothing.
+use Prim.Native.Nat.{ℕ, _≤_, _<_}
+use mathlib.Core.Path.{_≡_}
+use lib.ListN.{length, getD}
+use Rattle.kinds.specs.declared.Task.{Task}
+use Rattle.kinds.specs.declared.Granted.{Granted}
+use Rattle.kinds.specs.declared.Sheet.{Sheet}
+use Rattle.kinds.specs.Limits.{mostTasks}
+use Rattle.kinds.specs.Task.{noTask, at}
+use Rattle.kinds.specs.Policy.{policyNumber, meant}
+use Rattle.field.specs.Number.{limit}
+use Rattle.sheet.specs.Rows.{noGranted, padded}
+
+abbrev pub grantedIn : Sheet → ℕ → Granted
+grantedIn x i = getD (x .results .rows) i noGranted
+
+-- a further choice that holds 1 to 4 is that policy, and the unused places are zeros
+unfoldable pub canonical : Sheet → Sheet
+canonical x =
+    record {
+      settings = record { policy = meant (x .settings .policy); m = x .settings .m };
+      table = record { rows = padded noTask (at (x .table .rows)) (x .table .n); n = x .table .n };
+      results = record { rows = padded noGranted (grantedIn x) (x .results .n); n = x .results .n };
+    }
+
+-- exactly then a sheet is its own canonical form
+pub record Canonical (x : Sheet) : Type 0 where
+  pub policy-meant : meant (x .settings .policy) ≡ x .settings .policy
+  pub tasks-unused : (i : ℕ) → x .table .n ≤ i → at (x .table .rows) i ≡ noTask
+  pub results-unused : (i : ℕ) → x .results .n ≤ i → grantedIn x i ≡ noGranted
+
+-- what every value of the kind has: its numbers fit their fields
+pub record TaskHeld (t : Task) : Type 0 where
+  pub c : t .c < limit 4
+  pub tmin : t .tmin < limit 4
+  pub tmax : t .tmax < limit 4
+  pub e : t .e < limit 4
+
+pub record GrantedHeld (g : Granted) : Type 0 where
+  pub period : g .period < limit 4
+  pub processor : g .processor < limit 2
+
+-- and its tables have room for the most tasks
+pub record SheetHeld (x : Sheet) : Type 0 where
+  pub policy : policyNumber (x .settings .policy) < limit 2
+  pub m : x .settings .m < limit 2
+  pub tasks : (i : ℕ) → TaskHeld (at (x .table .rows) i)
+  pub tasks-room : length (x .table .rows) ≡ mostTasks
+  pub results : (i : ℕ) → GrantedHeld (grantedIn x i)
+  pub results-room : length (x .results .rows) ≡ mostTasks

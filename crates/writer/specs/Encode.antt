@@ -1,0 +1,47 @@
+-- Document 01, "The station sheet": the bytes of a sheet. "Sections in fixed order, each after its 2-byte count."
+-- Assumes nothing.
+use Prim.Native.Nat.{ℕ, zero, suc}
+use mathlib.Core.List.{List, [], _++_}
+use lib.ListN.{getD}
+use Rattle.kinds.specs.declared.Task.{Task}
+use Rattle.kinds.specs.declared.Granted.{Granted}
+use Rattle.kinds.specs.declared.Settings.{Settings}
+use Rattle.kinds.specs.declared.Sheet.{Sheet}
+use Rattle.kinds.specs.Task.{noTask}
+use Rattle.kinds.specs.Policy.{policyNumber}
+use Rattle.field.specs.Number.{bytesOf}
+use Rattle.sheet.specs.Sections.{settingsCount, endPlace}
+use Rattle.sheet.specs.Rows.{noGranted}
+
+-- "C, Tmin, Tmax, E, 4 bytes each"
+unfoldable pub taskBytes : Task → List ℕ
+taskBytes t = bytesOf 4 (t .c) ++ (bytesOf 4 (t .tmin) ++ (bytesOf 4 (t .tmax) ++ bytesOf 4 (t .e)))
+
+-- "period 4 bytes, processor 2"
+unfoldable pub grantedBytes : Granted → List ℕ
+grantedBytes g = bytesOf 4 (g .period) ++ bytesOf 2 (g .processor)
+
+-- the bytes of the first n rows
+unfoldable pub rowsBytes : {A : Type 0} → (A → List ℕ) → A → List A → ℕ → List ℕ
+rowsBytes bytes none rows zero = []
+rowsBytes bytes none rows (suc n) = rowsBytes bytes none rows n ++ bytes (getD rows n none)
+
+abbrev pub tasksBytes : List Task → ℕ → List ℕ
+tasksBytes rows n = rowsBytes taskBytes noTask rows n
+
+abbrev pub resultsBytes : List Granted → ℕ → List ℕ
+resultsBytes rows n = rowsBytes grantedBytes noGranted rows n
+
+-- "settings (count 2: policy, m, 2 bytes each)"
+unfoldable pub settingsBytes : Settings → List ℕ
+settingsBytes st = bytesOf 2 settingsCount ++ (bytesOf 2 (policyNumber (st .policy)) ++ bytesOf 2 (st .m))
+
+unfoldable pub encode : Sheet → List ℕ
+encode x =
+    settingsBytes (x .settings)
+    ++ ((bytesOf 2 (x .table .n) ++ tasksBytes (x .table .rows) (x .table .n))
+    ++ (bytesOf 2 (x .results .n) ++ resultsBytes (x .results .rows) (x .results .n)))
+
+-- how many bytes a sheet takes
+abbrev pub lengthOf : Sheet → ℕ
+lengthOf x = endPlace (x .table .n) (x .results .n)

@@ -1,0 +1,132 @@
+// Writing a station sheet into a lent buffer: rows, sections, the sheet. Callers use `write`. Contracts cite `specs/Encode` and
+// `specs/Writing`.
+use kinds::Granted;
+use kinds::Refusal;
+use kinds::Settings;
+use kinds::Sheet;
+use kinds::Table;
+use kinds::Task;
+ghost use Prim.Native.Nat.{_+_, _*_, _≤_};
+ghost use lib.ListN.{length};
+ghost use Rattle.kinds.specs.Limits.{mostTasks};
+ghost use Rattle.field.specs.Stored.{Put};
+ghost use Rattle.sheet.specs.Sections.{taskSize, grantedSize, tasksPlace};
+ghost use Rattle.writer.specs.Encode.{taskBytes, grantedBytes, settingsBytes, tasksBytes, resultsBytes, encode, lengthOf};
+ghost use Rattle.writer.specs.Writing.{Writes};
+ghost use Rattle.writer.specs.Canonical.{SheetHeld};
+
+// How many bytes were written, or the refusal.
+pub enum Written {
+    Bytes(usize),
+    Refused(Refusal),
+}
+
+// Stores a task record at a place; returns the place after it.
+fn put_task(out: &mut [u8], at: usize, task: Task) -> usize
+    requires { ⌜ at + taskSize ≤ length (now out) ⌝ }
+    ensures { λ r. ⌜ Put (now (out .entry)) at taskSize (taskBytes task) r (now (out .exit)) ⌝ }
+{
+    let at_tmin = field::put_u32(out, at, task.c);
+    let at_tmax = field::put_u32(out, at_tmin, task.tmin);
+    let at_e = field::put_u32(out, at_tmax, task.tmax);
+    field::put_u32(out, at_e, task.e)
+}
+
+// Stores a result at a place; returns the place after it.
+fn put_granted(out: &mut [u8], at: usize, granted: Granted) -> usize
+    requires { ⌜ at + grantedSize ≤ length (now out) ⌝ }
+    ensures { λ r. ⌜ Put (now (out .entry)) at grantedSize (grantedBytes granted) r (now (out .exit)) ⌝ }
+{
+    let at_processor = field::put_u32(out, at, granted.period);
+    field::put_u16(out, at_processor, granted.processor)
+}
+
+// Stores the first n task records from a place on; returns the place after them.
+fn put_tasks(out: &mut [u8], from: usize, rows: [Task; Table::MOST_TASKS], n: usize) -> usize
+    requires { ⌜ (n ≤ mostTasks) × (from + taskSize * n ≤ length (now out)) ⌝ }
+    ensures { λ r. ⌜ Put (now (out .entry)) from (taskSize * n) (tasksBytes rows n) r (now (out .exit)) ⌝ }
+{
+    let mut at = from;
+    let mut i: usize = 0;
+    while i < n {
+        at = put_task(out, at, rows[i]);
+        i += 1;
+    }
+    at
+}
+
+// Stores the first n results from a place on; returns the place after them.
+fn put_results(out: &mut [u8], from: usize, rows: [Granted; Table::MOST_TASKS], n: usize) -> usize
+    requires { ⌜ (n ≤ mostTasks) × (from + grantedSize * n ≤ length (now out)) ⌝ }
+    ensures { λ r. ⌜ Put (now (out .entry)) from (grantedSize * n) (resultsBytes rows n) r (now (out .exit)) ⌝ }
+{
+    let mut at = from;
+    let mut i: usize = 0;
+    while i < n {
+        at = put_granted(out, at, rows[i]);
+        i += 1;
+    }
+    at
+}
+
+// Stores the settings section at the front; returns the place after it.
+fn put_settings(out: &mut [u8], settings: Settings) -> usize
+    requires { ⌜ tasksPlace ≤ length (now out) ⌝ }
+    ensures { λ r. ⌜ Put (now (out .entry)) 0 tasksPlace (settingsBytes settings) r (now (out .exit)) ⌝ }
+{
+    let policy = settings.policy;
+    let at_policy = field::put_u16(out, 0, sheet::SETTINGS);
+    let at_m = field::put_u16(out, at_policy, policy.number());
+    field::put_u16(out, at_m, settings.m)
+}
+
+// Stores a whole sheet at the front; returns its length.
+fn put_sheet(out: &mut [u8], x: Sheet) -> usize
+    requires { ⌜ (x .table .n ≤ mostTasks) × ((x .results .n ≤ mostTasks) × (lengthOf x ≤ length (now out))) ⌝ }
+    ensures { λ r. ⌜ Put (now (out .entry)) 0 (lengthOf x) (encode x) r (now (out .exit)) ⌝ }
+{
+    let table = x.table;
+    let tasks = table.rows;
+    let n = table.n;
+    let results = x.results;
+    let granted = results.rows;
+    let r = results.n;
+    let settings = x.settings;
+    let at_count = put_settings(out, settings);
+    let at_tasks = field::put_u16(out, at_count, n as u16);
+    let at_results = put_tasks(out, at_tasks, tasks, n);
+    let at_granted = field::put_u16(out, at_results, r as u16);
+    put_results(out, at_granted, granted, r)
+}
+
+// Every sheet by value is held: its numbers fit their fields, and its tables have room for the most tasks.
+pub fn held(x: Sheet)
+    ensures { λ _. ⌜ SheetHeld x ⌝ }
+{
+    let settings = x.settings;
+    let policy = settings.policy;
+    policy.number();
+}
+
+// Writes a station sheet into a lent buffer.
+pub fn write(x: Sheet, out: &mut [u8]) -> Written
+    ensures { λ r. ⌜ Writes x (now (out .entry)) r (now (out .exit)) ⌝ }
+{
+    let table = x.table;
+    let n = table.n;
+    let results = x.results;
+    let r = results.n;
+    if Table::MOST_TASKS < n {
+        return Written::Refused(Refusal::TooManyTasks(n));
+    }
+    let fit = sheet::results_fit(r, n);
+    if !fit {
+        return Written::Refused(Refusal::WrongResultCount(0));
+    }
+    let needed = sheet::end_place(n, r);
+    if out.len() < needed {
+        return Written::Refused(Refusal::OutputTooShort(needed));
+    }
+    let written = put_sheet(out, x);
+    Written::Bytes(written)
+}
