@@ -35,6 +35,12 @@ term-le-sum f zero i l = omega arith
 term-le-sum f (suc n) i l =
     by-le (suc i) n (λ h. omega (arith, term-le-sum f n i h)) (λ h. let e : i ≡ n = omega arith in omega (arith, ap f e))
 
+-- values that fall by j times a slope: the sum falls by j times the sum of the slopes
+pub sum-line : (f g slope : ℕ → ℕ) (j n : ℕ) → ((i : ℕ) → i < n → f i ≡ g i + j * slope i) → sumTo f n ≡ sumTo g n + j * sumTo slope n
+unfolding sumTo
+sum-line f g slope j zero h = omega arith
+sum-line f g slope j (suc n) h = omega (arith, sum-line f g slope j n (λ i l. h i (omega arith)), h n (omega arith))
+
 pub sum-cong : (f g : ℕ → ℕ) (n : ℕ) → ((i : ℕ) → i < n → f i ≡ g i) → sumTo f n ≡ sumTo g n
 unfolding sumTo
 sum-cong f g zero h = refl

@@ -37,6 +37,13 @@ pub fn later(a: u32, b: u32) -> u32
     if a < b { b } else { a }
 }
 
+// A number as one of 64 bits.
+pub fn wide(x: u32) -> u64
+    ensures { λ r. ⌜ r ≡ x ⌝ }
+{
+    x as u64
+}
+
 // The difference, taken as 0 when negative.
 pub fn less_or_zero(a: u64, b: u64) -> u64
     ensures { λ r. ⌜ r ≡ a - b ⌝ }

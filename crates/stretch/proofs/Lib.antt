@@ -1,0 +1,4 @@
+pub mod Columns
+pub mod Nexts
+pub mod Lines
+pub mod Stretches

@@ -1,0 +1,3 @@
+pub mod Spring
+pub mod Next
+pub mod Division

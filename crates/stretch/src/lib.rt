@@ -1,0 +1,265 @@
+// The springs of a table in lent columns of numbers, the test of a step on them, the next saturation step, and the division of the
+// stretch between two saturation steps. Contracts cite `specs/Spring`, `specs/Next` and `specs/Division`.
+use kinds::Table;
+use kinds::Task;
+use policy::Total;
+use policy::Weights;
+ghost use mathlib.Core.Path.{_≡_};
+ghost use Prim.Native.Nat.{ℕ, _≤_, _<_};
+ghost use lib.ListN.{getD};
+ghost use Rattle.kinds.specs.Limits.{scale, greatestElasticity, mostTasks};
+ghost use Rattle.kinds.specs.Task.{Good};
+ghost use Rattle.policy.specs.Sides.{Light, TotalIs};
+ghost use Rattle.rule.specs.Rule.{shareOf};
+ghost use Rattle.share.specs.Table.{GoodTable};
+ghost use Rattle.stretch.specs.Spring.{SpringIs, springIn, sharesOn, weighedAt, AllWithin, Sprung};
+ghost use Rattle.stretch.specs.Next.{nearer, nextTo};
+ghost use Rattle.stretch.specs.Division.{Fair, slopeOf, slopesIn, need, harder, needTo, divided, FallIs, Falls, Stretches};
+
+// The spring of a task, with its saturation step.
+pub struct Spring {
+    pub largest: u32,
+    pub least: u32,
+    pub elasticity: u32,
+    pub saturation: u32,
+}
+
+// The springs of a table, as columns.
+pub struct Springs {
+    pub largest: [u32; Table::MOST_TASKS],
+    pub least: [u32; Table::MOST_TASKS],
+    pub elasticity: [u32; Table::MOST_TASKS],
+    pub saturation: [u32; Table::MOST_TASKS],
+}
+
+// The spring of a task.
+pub fn spring_of(task: Task) -> Spring
+    requires { ⌜ Good task ⌝ }
+    ensures { λ r. ⌜ SpringIs task r ⌝ }
+{
+    let largest = share::largest(task);
+    let least = share::least(task);
+    Spring {
+        largest: largest.parts as u32,
+        least: least.parts as u32,
+        elasticity: task.e,
+        saturation: rule::saturation(largest.parts, least.parts, task.e) as u32,
+    }
+}
+
+// The springs of a table, worked out once for a call.
+pub fn springs_of(table: Table) -> Springs
+    requires { ⌜ GoodTable table ⌝ }
+    ensures { λ r. ⌜ Sprung (table .rows) (table .n) r ⌝ }
+{
+    let n = table.n;
+    let mut springs = Springs {
+        largest: [0; Table::MOST_TASKS],
+        least: [0; Table::MOST_TASKS],
+        elasticity: [0; Table::MOST_TASKS],
+        saturation: [0; Table::MOST_TASKS],
+    };
+    for i in 0..n {
+        let spring = spring_of(table.rows[i]);
+        springs.largest[i] = spring.largest;
+        springs.least[i] = spring.least;
+        springs.elasticity[i] = spring.elasticity;
+        springs.saturation[i] = spring.saturation;
+    }
+    springs
+}
+
+// The sum and the max of the shares at step k.
+pub fn total_at(
+    largest: &[u32; Table::MOST_TASKS],
+    least: &[u32; Table::MOST_TASKS],
+    elasticity: &[u32; Table::MOST_TASKS],
+    n: usize,
+    k: u32,
+) -> Total
+    requires { ⌜ (n ≤ mostTasks) × AllWithin (springIn (now largest) (now least) (now elasticity)) n ⌝ }
+    ensures { λ r. ⌜ TotalIs (sharesOn (springIn (now (largest .entry)) (now (least .entry)) (now (elasticity .entry))) k) n (r .sum) (r .max) ⌝ }
+{
+    let mut sum: u64 = 0;
+    let mut max: u64 = 0;
+    for i in 0..n {
+        let share = rule::share_at(
+            ground::wide(largest[i]),
+            ground::wide(least[i]),
+            elasticity[i],
+            k,
+        );
+        sum += share;
+        max = ground::larger(max, share);
+    }
+    Total { sum, max }
+}
+
+// Whether the test holds at step k.
+pub fn weighed_at(
+    w: Weights,
+    largest: &[u32; Table::MOST_TASKS],
+    least: &[u32; Table::MOST_TASKS],
+    elasticity: &[u32; Table::MOST_TASKS],
+    n: usize,
+    k: u32,
+) -> bool
+    requires { ⌜ Light w × (n ≤ mostTasks) × AllWithin (springIn (now largest) (now least) (now elasticity)) n ⌝ }
+    ensures { λ r. ⌜ r ≡ weighedAt w (springIn (now (largest .entry)) (now (least .entry)) (now (elasticity .entry))) n k ⌝ }
+{
+    let total = total_at(largest, least, elasticity, n, k);
+    policy::left_of(w, total.sum, total.max) <= policy::right_of(w, total.max)
+}
+
+// Of the steps above p, the nearer of what was found before (0: nothing) and x.
+pub fn nearer_of(p: u32, before: u32, x: u32) -> u32
+    ensures { λ r. ⌜ r ≡ nearer p before x ⌝ }
+{
+    if x <= p {
+        return before;
+    }
+    if before == 0 {
+        return x;
+    }
+    if before < x { before } else { x }
+}
+
+// The next saturation step above p, or 0 where there is none.
+pub fn next_due(saturation: &[u32; Table::MOST_TASKS], n: usize, p: u32) -> u32
+    requires { ⌜ n ≤ mostTasks ⌝ }
+    ensures { λ r. ⌜ r ≡ nextTo (λ (i : ℕ). getD (now (saturation .entry)) i 0) p n ⌝ }
+{
+    let mut nearest: u32 = 0;
+    for i in 0..n {
+        nearest = nearer_of(p, nearest, saturation[i]);
+    }
+    nearest
+}
+
+// By how much a share falls at each step after p, before the next saturation step.
+pub fn slope_of(elasticity: u32, saturation: u32, p: u32) -> u32
+    ensures { λ r. ⌜ r ≡ slopeOf elasticity saturation p ⌝ }
+{
+    if p < saturation { elasticity } else { 0 }
+}
+
+// By how much the sum of the shares falls.
+fn slope_sum(
+    elasticity: &[u32; Table::MOST_TASKS],
+    saturation: &[u32; Table::MOST_TASKS],
+    n: usize,
+    p: u32,
+) -> u64
+    requires { ⌜ (n ≤ mostTasks) × ((i : ℕ) → i < n → getD (now elasticity) i 0 ≤ greatestElasticity) ⌝ }
+    ensures { λ r. ⌜ FallIs (slopesIn (now (elasticity .entry)) (now (saturation .entry)) p) n r ⌝ }
+{
+    let mut fall: u64 = 0;
+    for i in 0..n {
+        fall += ground::wide(slope_of(elasticity[i], saturation[i], p));
+    }
+    fall
+}
+
+// The steps that are needed if a task with this share and slope has the max.
+fn need_of(w: Weights, sum: u64, fall: u64, share: u64, slope: u64) -> u64
+    requires { ⌜ Light w × Fair w × (sum ≤ 32000000) × (share ≤ scale) × (1 ≤ fall) × (fall ≤ 32000000) × (slope ≤ fall) × (slope ≤ greatestElasticity) ⌝ }
+    ensures { λ r. ⌜ r ≡ need w sum fall share slope ⌝ }
+{
+    let over = ground::less_or_zero(policy::left_of(w, sum, share), policy::right_of(w, share));
+    let by = ground::less_or_zero(policy::left_of(w, fall, slope), w.c * slope);
+    ground::ceil_div(over, by)
+}
+
+// The steps that are needed after p if a task with this spring has the max.
+fn need_of_task(
+    w: Weights,
+    largest: u32,
+    least: u32,
+    elasticity: u32,
+    saturation: u32,
+    p: u32,
+    sum: u64,
+    fall: u64,
+) -> u64
+    requires { ⌜ Light w × Fair w × (largest ≤ scale) × (least ≤ scale) × (elasticity ≤ greatestElasticity) × (sum ≤ 32000000) × (1 ≤ fall) × (fall ≤ 32000000) × (slopeOf elasticity saturation p ≤ fall) ⌝ }
+    ensures { λ r. ⌜ r ≡ need w sum fall (shareOf largest least elasticity p) (slopeOf elasticity saturation p) ⌝ }
+{
+    let share = rule::share_at(ground::wide(largest), ground::wide(least), elasticity, p);
+    let slope = ground::wide(slope_of(elasticity, saturation, p));
+    need_of(w, sum, fall, share, slope)
+}
+
+// The greater of two needs, or the smaller where the max counts the other way.
+fn harder_of(w: Weights, x: u64, y: u64) -> u64
+    ensures { λ r. ⌜ r ≡ harder w x y ⌝ }
+{
+    if w.c <= w.b {
+        return ground::larger(x, y);
+    }
+    ground::smaller(x, y)
+}
+
+// The steps that are needed after p, over all tasks.
+fn need_over(
+    w: Weights,
+    largest: &[u32; Table::MOST_TASKS],
+    least: &[u32; Table::MOST_TASKS],
+    elasticity: &[u32; Table::MOST_TASKS],
+    saturation: &[u32; Table::MOST_TASKS],
+    n: usize,
+    p: u32,
+    sum: u64,
+    fall: u64,
+) -> u64
+    requires { ⌜ Light w × Fair w × Falls (springIn (now largest) (now least) (now elasticity)) (now saturation) n p sum fall ⌝ }
+    ensures { λ r. ⌜ r ≡ needTo w (springIn (now (largest .entry)) (now (least .entry)) (now (elasticity .entry))) p sum fall n ⌝ }
+{
+    let mut hardest = need_of(w, sum, fall, 0, 0);
+    for i in 0..n {
+        let need = need_of_task(
+            w,
+            largest[i],
+            least[i],
+            elasticity[i],
+            saturation[i],
+            p,
+            sum,
+            fall,
+        );
+        hardest = harder_of(w, hardest, need);
+    }
+    hardest
+}
+
+// The least passing step of the stretch from p, which fails, to the next saturation step q, which passes.
+pub fn divide(
+    w: Weights,
+    largest: &[u32; Table::MOST_TASKS],
+    least: &[u32; Table::MOST_TASKS],
+    elasticity: &[u32; Table::MOST_TASKS],
+    saturation: &[u32; Table::MOST_TASKS],
+    n: usize,
+    p: u32,
+    q: u32,
+) -> u32
+    requires { ⌜ Light w × Fair w × Stretches (springIn (now largest) (now least) (now elasticity)) (now saturation) n p q ⌝ }
+    ensures { λ r. ⌜ r ≡ divided w (springIn (now (largest .entry)) (now (least .entry)) (now (elasticity .entry))) n p q ⌝ }
+{
+    let total = total_at(largest, least, elasticity, n, p);
+    let fall = slope_sum(elasticity, saturation, n, p);
+    let more = need_over(
+        w,
+        largest,
+        least,
+        elasticity,
+        saturation,
+        n,
+        p,
+        total.sum,
+        fall,
+    );
+    if more < (q - p) as u64 {
+        return p + more as u32;
+    }
+    q
+}
