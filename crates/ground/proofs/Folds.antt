@@ -1,7 +1,7 @@
 -- Laws of the folds. The last of each group says that a fold looks at the numbers below n only.
 -- Assumes nothing.
 use Prim.Native.Nat.{ℕ, zero, suc, _+_, _*_, _≤_, _<_, max}
-use mathlib.Core.Bool.{Bool, false}
+use mathlib.Core.Bool.{Bool, true, false}
 use mathlib.Core.Path.{_≡_, refl, ap, sym, _∙_}
 use native.Mathlib.Nat.{max-eq-left, max-eq-right}
 use native.Mathlib.Numerals.{add-one}
@@ -123,12 +123,31 @@ count-lt test (suc n) i l e =
     (λ m. by-bool (test n) (λ h. omega (arith, count-lt test n i m e, ap bit h)) (λ h. omega (arith, count-lt test n i m e, ap bit h)))
     (λ m. let q : i ≡ n = omega arith in omega (arith, count-le test n, ap bit (ap test (sym q) ∙ e)))
 
+-- a count is the sum of two where at each number one of the two tests takes the test's place
+pub count-split : (f g h : ℕ → Bool) (n : ℕ) → ((i : ℕ) → i < n → bit (f i) ≡ bit (g i) + bit (h i)) → countTo f n ≡ countTo g n + countTo h n
+unfolding countTo
+count-split f g h zero e = refl
+count-split f g h (suc n) e = omega (arith, count-split f g h n (λ i l. e i (omega arith)), e n (omega arith))
+
+pub count-none : (test : ℕ → Bool) (n : ℕ) → ((i : ℕ) → i < n → test i ≡ false) → countTo test n ≡ 0
+unfolding countTo
+count-none test zero h = refl
+count-none test (suc n) h = omega (arith, count-none test n (λ i l. h i (omega arith)), ap bit (h n (omega arith)))
+
 pub count-cong : (f g : ℕ → Bool) (n : ℕ) → ((i : ℕ) → i < n → f i ≡ g i) → countTo f n ≡ countTo g n
 unfolding countTo
 count-cong f g zero h = refl
 count-cong f g (suc n) h = omega (arith, count-cong f g n (λ i l. h i (omega arith)), ap bit (h n (omega arith)))
 
 -- whether the test holds at any
+pub any-has : (test : ℕ → Bool) (n i : ℕ) → i < n → test i ≡ true → anyTo test n ≡ true
+unfolding anyTo
+any-has test zero i l t = absurd (omega arith)
+any-has test (suc n) i l t =
+    by-le (suc i) n
+    (λ m. rw (any-has test n i m t))
+    (λ m. let z : i ≡ n = omega arith in by-bool (anyTo test n) (λ u. rw u) (λ u. rw u (ap test (sym z) ∙ t)))
+
 pub any-cong : (f g : ℕ → Bool) (n : ℕ) → ((i : ℕ) → i < n → f i ≡ g i) → anyTo f n ≡ anyTo g n
 unfolding anyTo
 any-cong f g zero h = refl

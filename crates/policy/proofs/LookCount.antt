@@ -55,7 +55,7 @@ module _ (f g : ℕ → ℕ) where
     counts-same : (i : ℕ) → i < n → counts f i ≡ counts g i
     counts-same i l = ap₂ both (ap (ltb 0) (h i l)) (new-same i (λ j k. h j (omega arith)))
 
-    for-same : (step : Step) → looksFor f n step ≡ looksFor g n step
+    pub for-same : (step : Step) → looksFor f n step ≡ looksFor g n step
     unfolding distinct distinctBelow
     for-same (At zero) = refl
     for-same (At (suc k)) =

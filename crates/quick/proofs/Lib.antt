@@ -1,0 +1,4 @@
+pub mod Counts
+pub mod Looking
+pub mod Loop
+pub mod Served

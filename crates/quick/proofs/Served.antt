@@ -1,0 +1,98 @@
+-- The search on the springs of a table is the search that demand 2 asks for, under each policy that has a formula.
+-- Assumes nothing.
+use Prim.Native.Nat.{ℕ, _+_, _≤_, _<_, min}
+use mathlib.Core.Bool.{Bool, true, false, not}
+use mathlib.Core.List.{List}
+use mathlib.Core.Path.{_≡_, refl, sym, ap, _∙_}
+use native.Mathlib.Omega.{arith}
+use lib.ListN.{length}
+use Rattle.ground.specs.declared.Step.{Step}
+use Rattle.ground.specs.Choice.{both}
+use Rattle.ground.specs.Folds.{maxTo}
+use Rattle.ground.specs.Least.{leastUpTo}
+use Rattle.ground.proofs.Cases.{by-le, true-false}
+use Rattle.ground.proofs.Folds.{max-cong}
+use Rattle.ground.proofs.Least.{least-cong}
+use Rattle.kinds.specs.declared.Task.{Task}
+use Rattle.kinds.specs.declared.Policy.{Policy}
+use Rattle.kinds.specs.declared.Policy.the-variants.{Pooled, GlobalEdf, GlobalRm, FirstFit, Further}
+use Rattle.kinds.specs.declared.Settings.{Settings}
+use Rattle.kinds.specs.Limits.{mostTasks}
+use Rattle.kinds.specs.Policy.{hasFormula, isFirstFit, isFurther, meant}
+use Rattle.kinds.specs.Task.{at}
+use Rattle.share.specs.Share.{saturationAt}
+use Rattle.share.specs.Table.{shares, fullCompression}
+use Rattle.policy.specs.Sides.{weightsOf}
+use Rattle.policy.specs.Looks.{looksFor, looksOf}
+use Rattle.policy.specs.Passing.{passes, passesAt, leastStep}
+use Rattle.policy.proofs.Demand.{step-same}
+use Rattle.policy.proofs.LookCount.{for-same, looks-bound, looks-same}
+use Rattle.policy.proofs.Tests.{passes-weighed, passes-same}
+use Rattle.admission.specs.declared.Admission as adm
+use Rattle.admission.specs.Admission.{admission}
+use Rattle.admission.proofs.Chain.{Ready, admitted, admission-same, admission-many}
+use Rattle.stretch.specs.declared.Springs.{Springs}
+use Rattle.stretch.specs.Spring.{springsOf, saturations, weighed, weighedAt, sharesOn, Sprung}
+use Rattle.stretch.specs.Division.{Fair}
+use Rattle.stretch.proofs.Columns.{shares-are, saturations-are}
+use Rattle.quick.specs.declared.Ended.{Ended}
+use Rattle.quick.specs.Looked.{looksAfter, looks}
+use Rattle.quick.specs.Search.{SearchEnds, LeastFound}
+
+-- the weights of the policies that have a formula
+pub fair : (p : Policy) (m : ℕ) → hasFormula p ≡ true → 1 ≤ m → Fair (weightsOf p m)
+fair Pooled m f h = omega arith
+fair GlobalEdf m f h = omega arith
+fair GlobalRm m f h = omega arith
+fair FirstFit m f h = true-false f refl
+fair (Further q) m f h = true-false f refl
+
+-- a policy that the call serves and knows has a formula
+pub formula : (p : Policy) → isFurther p ≡ false → both (isFirstFit p) (not false) ≡ false → hasFormula p ≡ true
+formula Pooled a b = refl
+formula GlobalEdf a b = refl
+formula GlobalRm a b = refl
+formula FirstFit a b = true-false refl b
+formula (Further q) a b = true-false refl a
+
+module _ (p : Policy) (m : ℕ) (rows : List Task) (n : ℕ) (s : Springs) (w : Sprung rows n s) (f : hasFormula p ≡ true) where
+  -- the test on the springs is the policy's on the shares
+  test-is : (k : ℕ) → weighedAt (weightsOf p m) (springsOf s) n k ≡ passesAt p m rows n k
+  unfolding weighed
+  test-is k =
+      sym (passes-weighed p m (sharesOn (springsOf s) k) n f)
+      ∙ passes-same p m (sharesOn (springsOf s) k) (shares rows k) n (λ i l. shares-are rows n s w k i l)
+
+  full-is : maxTo (saturations (springsOf s)) n ≡ fullCompression rows n
+  unfolding fullCompression
+  full-is = max-cong (saturations (springsOf s)) (λ i. saturationAt (at rows i)) n (saturations-are rows n s w)
+
+  looks-are : (step : Step) → looksFor (saturations (springsOf s)) n step ≡ looksOf rows n step
+  unfolding looksOf
+  looks-are step = for-same (saturations (springsOf s)) (λ i. saturationAt (at rows i)) n (saturations-are rows n s w) step
+
+  pub least-found : (r : Ended) → SearchEnds (weighedAt (weightsOf p m) (springsOf s) n) (saturations (springsOf s)) n r → LeastFound p m rows n r
+  unfolding leastStep
+  least-found r e =
+      let step : r .step ≡ leastStep p m rows n =
+      e .least ∙ (least-cong (weighedAt (weightsOf p m) (springsOf s) n) (passesAt p m rows n) _ test-is ∙ ap (leastUpTo (passesAt p m rows n)) full-is) in
+      record { least = step; count = e .count ∙ (looks-are (r .step) ∙ ap (looksOf rows n) step) }
+
+-- the looks of a call, as the code has them
+module _ (s : Settings) (rows : List Task) (n room : ℕ) (a : adm.Admission) (is : a ≡ admission false s rows n room) where
+  pub no-looks : {r : _} → a ≡ adm.the-variants.Refused r → 0 ≡ looks s rows n room
+  unfolding looks
+  no-looks e = rw (← is, e)
+
+  pub some-looks : (k : ℕ) → a ≡ adm.the-variants.Admitted → k ≡ looksOf rows n (leastStep (meant (s .policy)) (s .m) rows n) → k ≡ looks s rows n room
+  unfolding looks
+  some-looks k e q = rw (← is, e) q
+
+-- demand 3: at most tasks + 1
+after-few : (a : adm.Admission) (k n : ℕ) → k ≤ n + 1 → looksAfter a k ≤ n + 1
+after-few adm.the-variants.Admitted k n h = h
+after-few (adm.the-variants.Refused r) k n h = omega arith
+
+pub looks-few : (s : Settings) (rows : List Task) (n room : ℕ) → looks s rows n room ≤ n + 1
+unfolding looks
+looks-few s rows n room = after-few (admission false s rows n room) _ n (looks-bound (meant (s .policy)) (s .m) rows n)

@@ -1,0 +1,37 @@
+-- Demand 3, whole: demand 2's outcome, and the looks, for every input.
+-- Assumes nothing.
+use Prim.Native.Nat.{ℕ, _+_, _≤_, min}
+use mathlib.Core.Bool.{false}
+use mathlib.Core.List.{List}
+use mathlib.Core.Path.{_≡_}
+use lib.ListN.{length}
+use Rattle.kinds.specs.declared.Task.{Task}
+use Rattle.kinds.specs.declared.Settings.{Settings}
+use Rattle.kinds.specs.Answer.{handed}
+use Rattle.kinds.specs.Policy.{meant}
+use Rattle.policy.specs.Looks.{looksOf}
+use Rattle.policy.specs.Passing.{leastStep}
+use Rattle.admission.specs.declared.Admission.{Admission}
+use Rattle.admission.specs.declared.Admission.the-variants.{Admitted, Refused}
+use Rattle.admission.specs.Admission.{admission}
+use Rattle.plan.specs.Plan.{found, outcome, Meets}
+use Rattle.quick.specs.declared.Looked.{Looked}
+
+-- "Refusals before 7 report 0."
+abbrev pub looksAfter : Admission → ℕ → ℕ
+looksAfter (Refused r) looks = 0
+looksAfter Admitted looks = looks
+
+-- the looks of a call on the first n of some records
+unfoldable pub looks : Settings → List Task → ℕ → ℕ → ℕ
+looks s rows n room = looksAfter (admission false s rows n room) (looksOf rows n (leastStep (meant (s .policy)) (s .m) rows n))
+
+pub record FoundLooked (s : Settings) (rows : List Task) (n room : ℕ) (r : Looked) : Type 0 where
+  pub answers : handed (r .answer) ≡ found false s rows n room
+  pub count : r .looks ≡ looks s rows n room
+
+-- the whole promise: demand 2's outcome where policy 4 is not served, the looks, and their bound
+pub record MeetsLooked (s : Settings) (rows : List Task) (n : ℕ) (oldPeriods oldProcessors : List ℕ) (r : Looked) (periods processors : List ℕ) : Type 0 where
+  pub meets : Meets (outcome false s rows n oldPeriods oldProcessors) (r .answer) periods processors
+  pub count : r .looks ≡ looks s rows n (min (length oldPeriods) (length oldProcessors))
+  pub few : r .looks ≤ n + 1
