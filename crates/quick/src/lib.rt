@@ -56,9 +56,10 @@ pub fn decide(table: Table, settings: Settings, room: usize) -> Looked
 {
     let admission = admission::admit(table, settings, false, room);
     let Admission::Admitted = admission else {
+        let looks = 0;
         return Looked {
             answer: plan::decide(admission, Step::Nothing),
-            looks: 0,
+            looks,
         };
     };
     let asked = settings.policy;

@@ -13,6 +13,9 @@ use Rattle.plan.specs.Plan.{outcome}
 use Rattle.plan.proofs.Outcomes.{outcome-same}
 use Rattle.margin.specs.Margin.{marginHanded}
 use Rattle.margin.proofs.Margins.{margin-handed-same}
+use Rattle.quick.specs.declared.Looked.{Looked}
+use Rattle.quick.specs.Looked.{MeetsLooked}
+use Rattle.quick.proofs.Promises.{meets-looked-same}
 use Rattle.walk.proofs.Padding.{padded-at}
 use Rattle.rows.specs.Gathered.{tableOf}
 
@@ -28,3 +31,8 @@ outcome-over serves s rows periods processors =
 pub margin-over : (s : Settings) (rows : List Task) (k : ℕ)
     → marginHanded s (tableOf rows .rows) (length rows) k ≡ marginHanded s rows (length rows) k
 margin-over s rows k = margin-handed-same s (tableOf rows .rows) rows (length rows) k (λ few i _. table-at rows few i)
+
+pub meets-looked-over : (s : Settings) (rows : List Task) (periods processors : List ℕ) (r : Looked) (ps qs : List ℕ)
+    → MeetsLooked s (tableOf rows .rows) (length rows) periods processors r ps qs → MeetsLooked s rows (length rows) periods processors r ps qs
+meets-looked-over s rows periods processors r ps qs x =
+    meets-looked-same s (tableOf rows .rows) rows (length rows) (λ few i _. table-at rows few i) periods processors r ps qs x

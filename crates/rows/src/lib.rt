@@ -9,6 +9,7 @@ ghost use lib.ListN.{length};
 ghost use Rattle.kinds.specs.Answer.{handedMargin};
 ghost use Rattle.kinds.specs.Limits.{mostTasks};
 ghost use Rattle.plan.specs.Plan.{outcome, Meets};
+ghost use Rattle.quick.specs.Looked.{MeetsLooked};
 ghost use Rattle.margin.specs.Margin.{marginHanded};
 ghost use Rattle.rows.specs.Gathered.{tableOf, tableWith, front};
 use kinds::Answer;
@@ -16,6 +17,7 @@ use kinds::Margin;
 use kinds::Settings;
 use kinds::Table;
 use kinds::Task;
+use quick::Looked;
 
 // How many of n rows a table takes.
 fn capped(n: usize) -> usize
@@ -71,6 +73,18 @@ pub fn find_plain(
     plain::find(gather(rows), settings, periods, processors)
 }
 
+// The quick finder over lent rows, with its looks.
+pub fn find_quick(
+    rows: &[Task],
+    settings: Settings,
+    periods: &mut [u32],
+    processors: &mut [u16],
+) -> Looked
+    ensures { λ r. ⌜ MeetsLooked settings (now (rows .entry)) (length (now (rows .entry))) (now (periods .entry)) (now (processors .entry)) r (now (periods .exit)) (now (processors .exit)) ⌝ }
+{
+    quick::find(gather(rows), settings, periods, processors)
+}
+
 // The margin over lent rows, at any step.
 pub fn margin_at(rows: &[Task], settings: Settings, step: u32) -> Margin
     ensures { λ r. ⌜ handedMargin r ≡ marginHanded settings (now (rows .entry)) (length (now (rows .entry))) step ⌝ }
@@ -90,4 +104,13 @@ pub fn find_plain_over(
     let rows = table.rows;
     let n = capped(table.n);
     find_plain(&rows[..n], settings, periods, processors)
+}
+
+// The same for the quick finder.
+pub fn find_quick_over(table: Table, settings: Settings, periods: &mut [u32], processors: &mut [u16]) -> Looked
+    ensures { λ r. ⌜ MeetsLooked settings (front table) (length (front table)) (now (periods .entry)) (now (processors .entry)) r (now (periods .exit)) (now (processors .exit)) ⌝ }
+{
+    let rows = table.rows;
+    let n = capped(table.n);
+    find_quick(&rows[..n], settings, periods, processors)
 }

@@ -1,0 +1,67 @@
+-- One promise for every call: no second answer, looks included; the plain finder's outcome where policy 4 is not asked; and it depends on
+-- the first n records only.
+-- Assumes nothing.
+use Prim.Native.Nat.{ℕ, _≤_, _<_, min}
+use mathlib.Core.Bool.{true, false}
+use mathlib.Core.List.{List}
+use mathlib.Core.Path.{_≡_, refl, sym, ap, ap₂, _∙_}
+use native.Mathlib.Omega.{arith}
+use lib.ListN.{length}
+use Rattle.ground.proofs.Cases.{by-le}
+use Rattle.kinds.specs.declared.Task.{Task}
+use Rattle.kinds.specs.declared.Answer.{Answer}
+use Rattle.kinds.specs.declared.Settings.{Settings}
+use Rattle.kinds.specs.Limits.{mostTasks}
+use Rattle.kinds.specs.Policy.{meant, isFirstFit}
+use Rattle.kinds.specs.Task.{at}
+use Rattle.policy.specs.Looks.{looksOf}
+use Rattle.policy.specs.Passing.{leastStep}
+use Rattle.policy.proofs.Demand.{step-same}
+use Rattle.policy.proofs.LookCount.{looks-same}
+use Rattle.admission.specs.declared.Admission as adm
+use Rattle.admission.specs.Admission.{admission}
+use Rattle.admission.proofs.Chain.{admitted, admission-same, admission-many}
+use Rattle.plan.specs.Plan.{outcome, Meets}
+use Rattle.plan.proofs.Outcomes.{no-second-answer, outcome-same, outcome-serves}
+use Rattle.quick.specs.declared.Looked.{Looked}
+use Rattle.quick.specs.Looked.{looksAfter, looks, MeetsLooked}
+
+looked : Answer → ℕ → Looked
+looked answer looks = record { answer = answer; looks = looks }
+
+module _ (s : Settings) (rows : List Task) (n : ℕ) (periods processors : List ℕ) where
+  pub no-second-look : (r q : Looked) (ps qs ps′ qs′ : List ℕ) → MeetsLooked s rows n periods processors r ps qs → MeetsLooked s rows n periods processors q ps′ qs′
+      → (r ≡ q) × (ps ≡ ps′) × (qs ≡ qs′)
+  unfolding looked
+  no-second-look r q ps qs ps′ qs′ x y =
+      let one = no-second-answer _ (r .answer) (q .answer) ps qs ps′ qs′ (x .meets) (y .meets) in
+      (ap₂ looked (one .0) (x .count ∙ sym (y .count)), one .1, one .2)
+
+  -- wherever policy 4 is not asked, the quick finder's step, periods, processors and refusals are the plain finder's
+  pub as-plain : isFirstFit (meant (s .policy)) ≡ false → (r : Looked) (ps qs : List ℕ) → MeetsLooked s rows n periods processors r ps qs
+      → Meets (outcome true s rows n periods processors) (r .answer) ps qs
+  as-plain f r ps qs x = rw (outcome-serves s rows n periods processors f) (x .meets)
+
+-- a call that is not admitted has no looks, whatever a search would make
+after-apart : (a : adm.Admission) (j k : ℕ) → (a ≡ adm.the-variants.Admitted → ⊥) → looksAfter a j ≡ looksAfter a k
+after-apart adm.the-variants.Admitted j k h = absurd (h refl)
+after-apart (adm.the-variants.Refused r) j k h = refl
+
+module _ (s : Settings) (xs ys : List Task) (n : ℕ) (same : n ≤ mostTasks → (i : ℕ) → i < n → at xs i ≡ at ys i) where
+  looks-agree : (room : ℕ) → looks s xs n room ≡ looks s ys n room
+  unfolding looks
+  looks-agree room =
+      by-le n mostTasks
+      (λ few. ap₂ looksAfter (admission-same false s xs ys n room (same few))
+      (ap (looksOf xs n) (step-same (meant (s .policy)) (s .m) xs ys n (same few)) ∙ looks-same xs ys n (same few) _))
+      (λ many.
+      ap (λ (a : adm.Admission). looksAfter a (looksOf xs n (leastStep (meant (s .policy)) (s .m) xs n))) (admission-many false s xs ys n room many)
+      ∙ after-apart (admission false s ys n room) _ _ (λ e. omega (arith, admitted false s ys n room e .passed .few)))
+
+  pub meets-looked-same : (periods processors : List ℕ) (r : Looked) (ps qs : List ℕ) → MeetsLooked s xs n periods processors r ps qs → MeetsLooked s ys n periods processors r ps qs
+  meets-looked-same periods processors r ps qs x =
+      record {
+        meets = rw (← outcome-same false s xs ys n periods processors same) (x .meets);
+        count = x .count ∙ looks-agree (min (length periods) (length processors));
+        few = x .few;
+      }
