@@ -1,121 +1,255 @@
-// Runs the bench cases without a star, J, K and L, on the rules and the policies; `stdout` has what they must give.
+// Runs bench cases B to L on the finders and the margin, by value and over lent rows; `stdout` has what they must give. Both outputs are
+// lent longer than the table and filled with 7 and 9, so that the entry after the last task shows whether it was written.
+use kinds::Answer;
+use kinds::Margin;
 use kinds::Policy;
 use kinds::Settings;
 use kinds::Table;
 use kinds::Task;
 use libc::STDOUT_FILENO;
-ghost use mathlib.Core.Bool.{true};
-ghost use mathlib.Core.Path.{_≡_};
-ghost use Rattle.bench.specs.Ready.{Ready};
 
-// Whether the rules may be asked of the table on m processors.
-fn ready(table: Table, m: u16) -> bool
-    ensures { λ r. ⌜ (r ≡ true → Ready table m) ⌝ }
-{
-    let n = table.n;
-    if m < 1 {
-        return false;
-    }
-    if Settings::MOST_PROCESSORS < m {
-        return false;
-    }
-    if Table::MOST_TASKS < n {
-        return false;
-    }
-    n <= share::first_bad(table)
+fn words(text: &[u8]) {
+    io::write_all(STDOUT_FILENO, text);
 }
 
-fn line(words: &[u8], number: u32) {
-    io::write_all(STDOUT_FILENO, words);
-    io::print_decimal(STDOUT_FILENO, number as u64);
-    io::write_all(STDOUT_FILENO, b"\n");
+fn number(x: u32) {
+    io::write_all(STDOUT_FILENO, b" ");
+    io::print_decimal(STDOUT_FILENO, x as u64);
 }
 
-// Which of the steps pass, from `first` to before `end`.
-fn steps(policy: Policy, m: u16, table: Table, first: u32, end: u32) {
-    if !ready(table, m) {
-        io::write_all(STDOUT_FILENO, b"not ready\n");
-        return;
-    }
-    for k in first..end {
-        if policy::passes_at(policy, m, table, k) {
-            line(b"passes at ", k);
-        } else {
-            line(b"fails at ", k);
+fn short_number(x: u16) {
+    number(x as u32);
+}
+
+// A step, or the number and the place of a refusal.
+fn print_answer(answer: Answer) {
+    match answer {
+        Answer::Accepted(step) => {
+            words(b" step");
+            number(step);
+        }
+        Answer::Refused(refusal) => {
+            words(b" refused");
+            number(refusal.number() as u32);
+            words(b" at ");
+            io::print_decimal(STDOUT_FILENO, refusal.place() as u64);
         }
     }
 }
 
-// Full compression, and the period of the first task at a step.
-fn compression(table: Table, k: u32) {
-    if !ready(table, 1) {
-        io::write_all(STDOUT_FILENO, b"not ready\n");
-        return;
-    }
-    if table.n < 1 {
-        return;
-    }
-    line(b"full compression ", share::full_compression(table));
-    line(b"first period ", share::period_at(table.rows[0], k));
-}
-
-fn verdict(task: Task) {
-    if task.good() {
-        io::write_all(STDOUT_FILENO, b"good\n");
-    } else {
-        io::write_all(STDOUT_FILENO, b"not good\n");
+// The periods up to the entry after the last task.
+fn print_periods(n: usize, periods: &[u32; 33]) {
+    words(b" periods");
+    let mut i: usize = 0;
+    while i < 33 {
+        if n < i {
+            return;
+        }
+        number(periods[i]);
+        i += 1;
     }
 }
 
-fn case_j() {
-    let job = Task::new(1, 1, 1_000_000_000, 1);
-    let table = Table {
-        rows: [job; 32],
-        n: 2,
-    };
-    io::write_all(STDOUT_FILENO, b"J\n");
-    compression(table, 500_000);
-    steps(Policy::Pooled, 1, table, 499_998, 500_002);
+// The processors up to the entry after the last task.
+fn print_processors(n: usize, processors: &[u16; 33]) {
+    words(b" processors");
+    let mut i: usize = 0;
+    while i < 33 {
+        if n < i {
+            return;
+        }
+        short_number(processors[i]);
+        i += 1;
+    }
+}
+
+fn run_plain(table: Table, settings: Settings) {
+    let mut periods = [7u32; 33];
+    let mut processors = [9u16; 33];
+    words(b"plain");
+    print_answer(plain::find(table, settings, &mut periods, &mut processors));
+    print_periods(table.n, &periods);
+    print_processors(table.n, &processors);
+    words(b"\n");
+}
+
+fn run_quick(table: Table, settings: Settings) {
+    let mut periods = [7u32; 33];
+    let mut processors = [9u16; 33];
+    words(b"quick");
+    let looked = quick::find(table, settings, &mut periods, &mut processors);
+    let answer = looked.answer;
+    print_answer(answer);
+    words(b" looks");
+    number(looked.looks);
+    print_periods(table.n, &periods);
+    print_processors(table.n, &processors);
+    words(b"\n");
+}
+
+// The same calls over the table's rows, lent as a slice of records.
+fn run_rows(table: Table, settings: Settings) {
+    let mut periods = [7u32; 33];
+    let mut processors = [9u16; 33];
+    words(b"rows plain");
+    print_answer(rows::find_plain_over(table, settings, &mut periods, &mut processors));
+    print_periods(table.n, &periods);
+    print_processors(table.n, &processors);
+    words(b"\nrows quick");
+    periods = [7u32; 33];
+    processors = [9u16; 33];
+    let looked = rows::find_quick_over(table, settings, &mut periods, &mut processors);
+    let answer = looked.answer;
+    print_answer(answer);
+    words(b" looks");
+    number(looked.looks);
+    print_periods(table.n, &periods);
+    print_processors(table.n, &processors);
+    words(b"\n");
+}
+
+fn run(name: &[u8], policy: Policy, m: u16, table: Table) {
+    words(name);
+    let settings = Settings { policy, m };
+    run_plain(table, settings);
+    run_quick(table, settings);
+    run_rows(table, settings);
+}
+
+// Whether the margin at a step is negative, zero or positive.
+fn run_margin(policy: Policy, m: u16, table: Table, step: u32) {
+    words(b"margin");
+    let settings = Settings { policy, m };
+    match margin::margin_at(table, settings, step) {
+        Margin::Is(x) => {
+            if x < 0 {
+                words(b" below 0");
+            } else if x == 0 {
+                words(b" 0");
+            } else {
+                words(b" above 0");
+            }
+        }
+        Margin::Refused(refusal) => {
+            print_answer(Answer::Refused(refusal));
+        }
+    }
+    words(b"\n");
+}
+
+// A table of n times the same task.
+fn same(task: Task, n: usize) -> Table {
+    Table {
+        rows: [task; Table::MOST_TASKS],
+        n,
+    }
+}
+
+// A table of two tasks.
+fn two(first: Task, second: Task) -> Table {
+    let mut rows = [second; Table::MOST_TASKS];
+    rows[0] = first;
+    Table { rows, n: 2 }
 }
 
 fn rigid(c: u32) -> Task {
     Task::new(c, 1000, 1000, 0)
 }
 
-fn case_k() {
-    let mut rows = [Task::new(0, 0, 0, 0); 32];
+fn case_k() -> Table {
+    let mut rows = [rigid(650); Table::MOST_TASKS];
     rows[0] = Task::new(3000, 4000, 5000, 10000);
     rows[1] = rigid(450);
     rows[2] = rigid(320);
     rows[3] = rigid(350);
     rows[4] = rigid(300);
     rows[5] = rigid(230);
-    rows[6] = rigid(650);
-    let table = Table { rows, n: 7 };
-    io::write_all(STDOUT_FILENO, b"K\n");
-    compression(table, 5);
-    steps(Policy::FirstFit, 3, table, 0, 16);
+    Table { rows, n: 7 }
 }
 
-fn case_l() {
-    io::write_all(STDOUT_FILENO, b"L\n");
-    verdict(Task::new(1, 1, 1_000_000_000, 0));
-    verdict(Task::new(1, 1, 1_000_000_001, 0));
-    let table = Table {
-        rows: [Task::new(1, 1000, 1000, 0); 32],
-        n: 32,
-    };
-    steps(Policy::Pooled, 16, table, 0, 1);
-    steps(Policy::Pooled, 17, table, 0, 1);
-    let more = Table {
-        rows: [Task::new(1, 1000, 1000, 0); 32],
-        n: 33,
-    };
-    steps(Policy::Pooled, 16, more, 0, 1);
+// The cases with a star that are not about no tasks.
+fn starred() {
+    let six = Task::new(6, 10, 20, 1000);
+    run(b"B\n", Policy::Pooled, 1, same(six, 2));
+    run(
+        b"C\n",
+        Policy::Pooled,
+        1,
+        two(Task::new(5, 10, 20, 0), Task::new(8, 10, 40, 3000)),
+    );
+    run(
+        b"D\n",
+        Policy::Pooled,
+        1,
+        two(Task::new(6, 10, 11, 1000), Task::new(6, 10, 30, 1000)),
+    );
+    run(b"E\n", Policy::GlobalEdf, 2, same(six, 3));
+    run(b"F\n", Policy::GlobalRm, 2, same(six, 3));
+    let alone = same(Task::new(10, 10, 20, 1), 1);
+    run(b"G\n", Policy::GlobalRm, 1, alone);
+    run_margin(Policy::GlobalRm, 1, alone, 0);
+    run(b"H\n", Policy::GlobalRm, 1, same(six, 2));
+    let third = same(Task::new(1, 3, 3, 0), 3);
+    run(b"I\n", Policy::Pooled, 1, third);
+    run_margin(Policy::Pooled, 1, third, 4_294_967_295);
+}
+
+// The cases without a star.
+fn others() {
+    run(
+        b"J\n",
+        Policy::Pooled,
+        1,
+        same(Task::new(1, 1, 1_000_000_000, 1), 2),
+    );
+    run(b"K\n", Policy::FirstFit, 3, case_k());
+    run(
+        b"K, the policy as a further choice\n",
+        Policy::Further(4),
+        3,
+        case_k(),
+    );
+    run(
+        b"L, 32 tasks on 16 processors\n",
+        Policy::Pooled,
+        16,
+        same(rigid(1), 32),
+    );
+    run(b"L, 33 tasks\n", Policy::Pooled, 16, same(rigid(1), 33));
+    run(
+        b"L, 17 processors\n",
+        Policy::Pooled,
+        17,
+        same(rigid(1), 32),
+    );
+    run(
+        b"L, the longest period\n",
+        Policy::Pooled,
+        1,
+        same(Task::new(1, 1, 1_000_000_000, 0), 1),
+    );
+    run(
+        b"L, one more\n",
+        Policy::Pooled,
+        1,
+        same(Task::new(1, 1, 1_000_000_001, 0), 1),
+    );
+    run(
+        b"ties, and E = 0\n",
+        Policy::Pooled,
+        1,
+        same(Task::new(1, 10, 1000, 500), 20),
+    );
+    run(
+        b"E = 0 everywhere\n",
+        Policy::GlobalEdf,
+        2,
+        same(Task::new(1, 2, 4, 0), 3),
+    );
 }
 
 fn main() {
-    case_j();
-    case_k();
-    case_l();
+    run(b"A\n", Policy::Pooled, 1, same(rigid(1), 0));
+    starred();
+    others();
 }

@@ -44,7 +44,11 @@ pub struct Ended {
 pub fn find(table: Table, settings: Settings, periods: &mut [u32], processors: &mut [u16]) -> Looked
     ensures { λ r. ⌜ MeetsLooked settings (table .rows) (table .n) (now (periods .entry)) (now (processors .entry)) r (now (periods .exit)) (now (processors .exit)) ⌝ }
 {
-    let found = decide(table, settings, ground::shorter(periods.len(), processors.len()));
+    let found = decide(
+        table,
+        settings,
+        ground::shorter(periods.len(), processors.len()),
+    );
     let answer = found.answer;
     plan::grant(answer, table, settings, periods, processors);
     found
@@ -136,7 +140,16 @@ fn search_columns(
     while due != 0 {
         search = look(w, largest, least, elasticity, n, search, due);
         if search.passed {
-            let step = stretch::divide(w, largest, least, elasticity, saturation, n, search.from, search.step);
+            let step = stretch::divide(
+                w,
+                largest,
+                least,
+                elasticity,
+                saturation,
+                n,
+                search.from,
+                search.step,
+            );
             return Ended {
                 step: Step::At(step),
                 looks: search.looks,

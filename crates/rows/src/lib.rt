@@ -107,7 +107,12 @@ pub fn find_plain_over(
 }
 
 // The same for the quick finder.
-pub fn find_quick_over(table: Table, settings: Settings, periods: &mut [u32], processors: &mut [u16]) -> Looked
+pub fn find_quick_over(
+    table: Table,
+    settings: Settings,
+    periods: &mut [u32],
+    processors: &mut [u16],
+) -> Looked
     ensures { λ r. ⌜ MeetsLooked settings (front table) (length (front table)) (now (periods .entry)) (now (processors .entry)) r (now (periods .exit)) (now (processors .exit)) ⌝ }
 {
     let rows = table.rows;

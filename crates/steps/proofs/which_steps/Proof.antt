@@ -1,10 +1,10 @@
--- `bench::steps` meets its contract. Assumes nothing.
+-- `steps::which_steps` meets its contract. Assumes nothing.
 use Prim.Native.Nat.{_-_}
 use mathlib.Core.Path.{refl}
 use native.Mathlib.Omega.{arith}
 use borrow.Author.Tests.{not-false}
-use Rattle.bench.proofs.steps.Statement.{statement}
-use Rattle.bench.proofs.steps.Tie as tie
+use Rattle.steps.proofs.which_steps.Statement.{statement}
+use Rattle.steps.proofs.which_steps.Tie as tie
 
 abbrev Inv-loop : tie.InvT-loop
 Inv-loop policy m table first end k₀ t8 t9 k = Unit {0}
@@ -57,8 +57,8 @@ loop-again c = tt
 returns-2 : tie.Need-returns-2 Inv-loop μ-loop
 returns-2 c = tt
 
-pub steps-spec : {M : Type 1} → statement M
-steps-spec =
+pub which-steps-spec : {M : Type 1} → statement M
+which-steps-spec =
     tie.close
     (tie.spec
     Inv-loop

@@ -1,9 +1,9 @@
--- `bench::compression` meets its contract. Assumes nothing.
+-- `steps::compression` meets its contract. Assumes nothing.
 use borrow.Author.Tests.{not-false}
 use native.Mathlib.Omega.{arith}
 use borrow.Author.Needs.{needs}
-use Rattle.bench.proofs.compression.Statement.{statement}
-use Rattle.bench.proofs.compression.Tie as tie
+use Rattle.steps.proofs.compression.Statement.{statement}
+use Rattle.steps.proofs.compression.Tie as tie
 
 ready-requires : tie.Need-ready-requires
 ready-requires c κs = search needs

@@ -1,11 +1,11 @@
--- `bench::ready` meets its contract. Assumes nothing.
+-- `steps::ready` meets its contract. Assumes nothing.
 use native.Mathlib.Omega.{arith}
 use borrow.Author.Needs.{needs}
 use borrow.Author.Tests.{leb-true}
 use Rattle.ground.proofs.Cases.{true-false}
 use Rattle.share.proofs.Tables.{good-table}
-use Rattle.bench.proofs.ready.Statement.{statement}
-use Rattle.bench.proofs.ready.Tie as tie
+use Rattle.steps.proofs.ready.Statement.{statement}
+use Rattle.steps.proofs.ready.Tie as tie
 use mathlib.Core.Path.{refl}
 
 returns : tie.Need-returns
