@@ -6,7 +6,6 @@ use mathlib.Core.Path.{_≡_, refl, sym, ap, _∙_}
 use native.Mathlib.Omega.{arith}
 use lib.ListN.{take, drop}
 use Rattle.sheet.specs.Sections.{taskSize, recordsPlace, resultsPlace}
-use Rattle.change_over.specs.declared.Section.{Section}
 use Rattle.change_over.specs.declared.Section.the-variants.{Tasks, Nothing}
 use Rattle.change_over.specs.ChangeOver.{Part, sectionOf, changeOver, IsPart}
 

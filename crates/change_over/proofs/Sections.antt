@@ -25,7 +25,6 @@ use Rattle.sheet.specs.Sections.{resultsPlace}
 use Rattle.sheet.specs.Reading.{sheetIn, readSheet, handedBy, handedReading}
 use Rattle.sheet.proofs.Whole.{whole}
 use Rattle.sheet.proofs.Numbered.{accepted-by-number}
-use Rattle.change_over.specs.declared.Section.{Section}
 use Rattle.change_over.specs.declared.Section.the-variants.{Tasks, Nothing}
 use Rattle.change_over.specs.ChangeOver.{serves, sectionOf}
 
