@@ -6,6 +6,7 @@ pub mod HeadSteps
 pub mod RowSteps
 pub mod Lengths
 pub mod Whole
+pub mod Numbered
 pub mod Beyond
 pub mod Truncated
 pub mod After

@@ -1,0 +1,71 @@
+-- What the reader and the plain finder say of a sheet together, and that the task section of one that both accept stands in it: `section-fits`.
+-- Assumes nothing.
+use Prim.Native.Nat.{ℕ, _≤_}
+use mathlib.Core.Bool.{Bool, true, false}
+use mathlib.Core.List.{List}
+use mathlib.Core.Path.{_≡_, refl, sym, ap, _∙_}
+use native.Mathlib.Omega.{arith}
+use lib.ListN.{length}
+use borrow.Author.Tests.{eqb-true, ne-eqb}
+use Rattle.ground.specs.Choice.{pick}
+use Rattle.ground.proofs.Cases.{both-true}
+use Rattle.kinds.specs.declared.Refusal.{Refusal}
+use Rattle.kinds.specs.declared.Sheet.{Sheet}
+use Rattle.kinds.specs.declared.Answer.{Answer}
+use Rattle.kinds.specs.declared.Answer.the-variants as answer
+use Rattle.kinds.specs.Limits.{mostTasks}
+use Rattle.kinds.specs.Refusal.{numberOf}
+use Rattle.kinds.specs.Answer.{accepted, refused, handed, isAccepted}
+use Rattle.kinds.proofs.Refusals.{refusal-numbered}
+use Rattle.plain.specs.Asked.{asked}
+use Rattle.sheet.specs.declared.Verdict.{Verdict}
+use Rattle.sheet.specs.declared.Verdict.the-variants as verdict
+use Rattle.sheet.specs.declared.Reading.{Reading}
+use Rattle.sheet.specs.Sections.{resultsPlace}
+use Rattle.sheet.specs.Reading.{sheetIn, readSheet, handedBy, handedReading}
+use Rattle.sheet.proofs.Whole.{whole}
+use Rattle.sheet.proofs.Numbered.{accepted-by-number}
+use Rattle.change_over.specs.declared.Section.the-variants.{Tasks, Nothing}
+use Rattle.change_over.specs.ChangeOver.{serves, sectionOf}
+
+module _ (s : List ℕ) (r : Reading) (read : handedReading r ≡ readSheet s) where
+  -- a sheet that does not read
+  pub unread : (q : Refusal) → r .verdict ≡ verdict.Refused q → Nothing ≡ sectionOf s
+  unfolding sectionOf serves
+  unread q v =
+      let e : refused (r .sheet) q ≡ readSheet s = ap (λ (w : Verdict). handedBy w (r .sheet)) (sym v) ∙ read in
+      rw (← e, ne-eqb (numberOf q) 0 (λ z. omega (arith, refusal-numbered q)))
+
+  module _ (v : r .verdict ≡ verdict.Accepted) where
+    reads : accepted (r .sheet) ≡ readSheet s
+    reads = ap (λ (w : Verdict). handedBy w (r .sheet)) (sym v) ∙ read
+
+    -- one that reads, by what the plain finder answers
+    answered : (a : Answer) → handed a ≡ asked (r .sheet) → pick (isAccepted a) (Tasks (r .sheet .table .n)) Nothing ≡ sectionOf s
+    unfolding sectionOf serves
+    answered (answer.Accepted k) e = rw (← reads, ← e)
+    answered (answer.Refused q) e = rw (← reads, ← e, ne-eqb (numberOf q) 0 (λ z. omega (arith, refusal-numbered q)))
+
+    module _ (a : Answer) (e : handed a ≡ asked (r .sheet)) (b : Bool) (is : b ≡ isAccepted a) where
+      pub accepts : b ≡ true → Tasks (r .sheet .table .n) ≡ sectionOf s
+      accepts t = (rw (sym is ∙ t) at (answered a e))
+
+      pub refuses : b ≡ false → Nothing ≡ sectionOf s
+      refuses t = (rw (sym is ∙ t) at (answered a e))
+
+picked : (test : Bool) (m n : ℕ) → pick test (Tasks m) Nothing ≡ Tasks n → (test ≡ true) × (m ≡ n)
+picked true m n e = (refl, cc)
+picked false m n e = absurd (let z : _≡_ {A = ℕ} 0 1 = cc in omega arith)
+
+-- the records of a sheet that serves stand in it
+pub section-fits : (s : List ℕ) (n : ℕ) → sectionOf s ≡ Tasks n → (n ≤ mostTasks) × (resultsPlace n ≤ length s)
+unfolding sectionOf serves sheetIn
+section-fits s n e =
+    let p = picked (serves s) (readSheet s .value .table .n) n e in
+    let read = accepted-by-number s (eqb-true (readSheet s .number) 0 (both-true _ _ (p .0) .0)) in
+    let w = whole s (readSheet s .value) read in
+    let is : readSheet s .value .table .n ≡ n = p .1 in
+    let count = ap (λ (x : Sheet). x .table .n) (w .1) in
+    let few = w .0 .few in
+    let end = w .0 .end in
+    (omega arith, omega arith)

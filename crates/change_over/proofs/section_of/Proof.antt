@@ -1,0 +1,47 @@
+-- `change_over::section_of` meets its contract. Assumes nothing.
+use borrow.Author.Needs.{needs}
+use Rattle.plain.specs.Asked.{asked}
+use Rattle.change_over.proofs.Sections.{unread, accepts, refuses}
+use Rattle.change_over.proofs.section_of.Statement.{statement}
+use Rattle.change_over.proofs.section_of.Tie as tie
+
+read-requires : tie.Need-read-requires
+read-requires c κs = search needs
+
+enum-told : tie.Need-enum-told
+enum-told c = search needs
+
+enum-told-2 : tie.Need-enum-told-2
+enum-told-2 c = search needs
+
+returns : tie.Need-returns
+returns c = unread _ _ (c .before .before .read .ensures) _ (c .enum-told2 .given .1)
+
+decide-requires : tie.Need-decide-requires
+decide-requires c κs = search needs
+
+accepted-requires : tie.Need-accepted-requires
+accepted-requires c κs = search needs
+
+returns-2 : tie.Need-returns-2
+unfolding asked
+returns-2 c =
+    accepts _ _ (c .before .before .before .before .before .before .before .before .read .ensures) (c .before .before .before .before .before .before .enum-told .given .1) (c .before .before .decide .result) (c .before .before .decide .ensures) _ (c .before .accepted .ensures) (c .if1 .taken)
+
+returns-3 : tie.Need-returns-3
+unfolding asked
+returns-3 c =
+    refuses _ _ (c .before .before .before .before .before .before .before .before .read .ensures) (c .before .before .before .before .before .before .enum-told .given .1) (c .before .before .decide .result) (c .before .before .decide .ensures) _ (c .before .accepted .ensures) (c .if1 .left)
+
+pub section-of-spec : {M : Type 1} → statement M
+section-of-spec =
+    tie.close
+    (tie.spec
+    read-requires
+    enum-told
+    enum-told-2
+    returns
+    decide-requires
+    accepted-requires
+    returns-2
+    returns-3)

@@ -1,0 +1,56 @@
+-- Document 01, "Change-over": which part of which lent sheet is the answer.
+-- Assumes nothing.
+use Prim.Native.Nat.{ℕ, _+_, _*_}
+use mathlib.Core.Bool.{Bool}
+use mathlib.Core.List.{List}
+use mathlib.Core.Path.{_≡_}
+use lib.Dec.{eqb}
+use lib.ListN.{take, drop}
+use Rattle.ground.specs.Choice.{pick, both}
+use Rattle.plain.specs.Asked.{asked}
+use Rattle.sheet.specs.Sections.{taskSize, recordsPlace}
+use Rattle.sheet.specs.Reading.{readSheet}
+use Rattle.change_over.specs.declared.Section.{Section}
+use Rattle.change_over.specs.declared.Section.the-variants.{Tasks, Nothing}
+
+-- "if it reads and the plain finder accepts it": number 0 from both
+unfoldable pub serves : List ℕ → Bool
+serves s = both (eqb (readSheet s .number) 0) (eqb (asked (readSheet s .value) .number) 0)
+
+-- how many tasks such a sheet has
+unfoldable pub sectionOf : List ℕ → Section
+sectionOf s = pick (serves s) (Tasks (readSheet s .value .table .n)) Nothing
+
+-- the two lent sheets
+pub data Which : Type 0 where
+  Standing : Which
+  Proposed : Which
+
+-- a part of one of them: from which place on, and how many bytes
+pub record Part : Type 0 where
+  pub which : Which
+  pub from : ℕ
+  pub size : ℕ
+
+-- "the task section (records only)" of a sheet that serves, else another part
+abbrev pub tasksOr : Which → Section → Part → Part
+tasksOr which (Tasks n) other = record { which = which; from = recordsPlace; size = taskSize * n }
+tasksOr which Nothing other = other
+
+-- "the empty front of the standing sheet"
+abbrev pub emptyFront : Part
+emptyFront = record { which = Standing; from = 0; size = 0 }
+
+-- "of the proposed one if it reads and the plain finder accepts it; otherwise that of the standing one under the same condition; otherwise
+-- the empty front of the standing sheet"
+unfoldable pub changeOver : List ℕ → List ℕ → Part
+changeOver standing proposed = tasksOr Proposed (sectionOf proposed) (tasksOr Standing (sectionOf standing) emptyFront)
+
+abbrev pub oneOf : {A : Type 0} → Which → A → A → A
+oneOf Standing standing proposed = standing
+oneOf Proposed standing proposed = proposed
+
+-- "It is a part of one of the two lent sheets, not a copy": its bytes are that sheet's, and it stands where they stand
+pub record IsPart (part : Part) (standing proposed : List ℕ) (standingAt proposedAt : ℕ × ℕ) (answer : List ℕ) (answerAt : ℕ × ℕ) : Type 0 where
+  pub bytes : answer ≡ take (part .size) (drop (part .from) (oneOf (part .which) standing proposed))
+  pub place : answerAt ≡ (oneOf (part .which) standingAt proposedAt .0, part .from + oneOf (part .which) standingAt proposedAt .1)

@@ -1,0 +1,75 @@
+-- The program run on its own output: a sheet that it wrote gives the same bytes, and the line of a refusal is refused as no sheet.
+-- Assumes nothing.
+use Prim.Native.Nat.{ℕ, _≤_}
+use mathlib.Core.List.{List}
+use mathlib.Core.Path.{_≡_, sym, ap, _∙_}
+use native.Mathlib.Omega.{arith}
+use Rattle.kinds.specs.declared.Sheet.{Sheet}
+use Rattle.kinds.specs.declared.Refusal.the-variants.{NotTwoSettings}
+use Rattle.kinds.specs.Limits.{mostTasks}
+use Rattle.kinds.specs.Answer.{Handed, accepted}
+use Rattle.plain.specs.Asked.{asked}
+use Rattle.field.specs.Number.{Bytes, numberAt}
+use Rattle.sheet.specs.Reading.{noSheet, sheetIn, readSheet}
+use Rattle.sheet.proofs.Whole.{Whole, whole, whole-accepted}
+use Rattle.sheet.proofs.Stages.{settings-wrong}
+use Rattle.writer.specs.Encode.{encode}
+use Rattle.writer.specs.Canonical.{canonical}
+use Rattle.writer.proofs.Forth.{forth}
+use Rattle.writer.proofs.RoundTrip.{canonical-same, same-canonical, read-canonical}
+use Rattle.fill.specs.Results.{resultsOf, withPlan}
+use Rattle.fill.specs.Fill.{refusalLine, orLine, filledSheet, filled}
+use Rattle.fill.proofs.Lines.{line-long}
+use Rattle.fill.proofs.Plans.{plan-fits}
+use Rattle.fill.proofs.Readings.{filled-refused, filled-accepted}
+use Rattle.fill.proofs.Held.{plan-room, plan-unused, planned-held}
+
+-- a sheet that the plain finder accepts is written with its plan
+filled-planned : (x : Sheet) (k : ℕ) → asked x ≡ accepted k → filledSheet x ≡ encode (withPlan x k)
+unfolding filledSheet
+filled-planned x k e = ap (λ (h : Handed ℕ). orLine h (λ j. encode (withPlan x j))) e
+
+-- and planning it again changes nothing
+planned-again : (x : Sheet) (k : ℕ) → asked x ≡ accepted k → filledSheet (withPlan x k) ≡ encode (withPlan x k)
+unfolding withPlan asked
+planned-again x k e = filled-planned (withPlan x k) k e
+
+sheet-few : (s : List ℕ) → Whole s → sheetIn s .table .n ≤ mostTasks
+unfolding sheetIn
+sheet-few s w = w .few
+
+-- the sheet that is written for a sheet in bytes reads as it is
+module _ (s : List ℕ) (bytes : Bytes s) (w : Whole s) (k : ℕ) (e : asked (sheetIn s) ≡ accepted k) where
+  planned-canonical : canonical (withPlan (sheetIn s) k) ≡ withPlan (sheetIn s) k
+  unfolding withPlan resultsOf
+  planned-canonical =
+      let c = same-canonical (sheetIn s) (read-canonical s (sheetIn s) (whole-accepted s w)) in
+      canonical-same (withPlan (sheetIn s) k) (planned-held s bytes w k e .tasks-room) (plan-room (sheetIn s) k) (sheet-few s w) (sheet-few s w)
+      (record { policy-meant = c .policy-meant; tasks-unused = c .tasks-unused; results-unused = plan-unused (sheetIn s) k })
+
+  reads-again : readSheet (encode (withPlan (sheetIn s) k)) ≡ accepted (withPlan (sheetIn s) k)
+  unfolding withPlan resultsOf
+  reads-again =
+      forth (withPlan (sheetIn s) k) (planned-held s bytes w k e) (sheet-few s w) (plan-fits (sheetIn s .table .n))
+      ∙ ap accepted planned-canonical
+
+  fills-again : filled (filled s) ≡ filled s
+  fills-again =
+      let is : filled s ≡ encode (withPlan (sheetIn s) k) = filled-accepted s (sheetIn s) (whole-accepted s w) ∙ filled-planned (sheetIn s) k e in
+      rw is (filled-accepted (encode (withPlan (sheetIn s) k)) (withPlan (sheetIn s) k) reads-again ∙ planned-again (sheetIn s) k e)
+
+-- whatever bytes were read, planned and written
+pub sheet-again : (s : List ℕ) → Bytes s → (x : Sheet) → readSheet s ≡ accepted x → (k : ℕ) → asked x ≡ accepted k → filled (filled s) ≡ filled s
+sheet-again s bytes x read k e =
+    let w = whole s x read in
+    fills-again s bytes (w .0) k (rw (w .1) at e)
+
+-- a line starts with other bytes than a settings count of 2
+other-count : (number place : ℕ) → numberAt 2 (refusalLine number place) 0 ≡ 2 → ⊥
+unfolding refusalLine numberAt
+other-count number place z = omega arith
+
+pub line-again : (number place : ℕ) → filled (refusalLine number place) ≡ refusalLine 9 0
+line-again number place =
+    filled-refused (refusalLine number place) noSheet NotTwoSettings
+    (sym (settings-wrong (refusalLine number place) (omega (arith, line-long number place)) (other-count number place)))

@@ -1,0 +1,45 @@
+-- Document 01, "Program", on long inputs: "more than 714 bytes: refused as 11 at 714 if the first 714 read as a sheet of that length, else
+-- as the reader says of the whole". 715 bytes tell all.
+-- Assumes nothing.
+use Prim.Native.Nat.{ℕ, _+_, _<_}
+use mathlib.Core.List.{List}
+use mathlib.Core.Path.{_≡_, ap}
+use native.Mathlib.Omega.{arith}
+use lib.ListN.{length, take}
+use lib.Seq.{take-all}
+use borrow.Author.Tests.{ne-eqb}
+use Rattle.ground.proofs.Cases.{by-le}
+use Rattle.kinds.specs.declared.Sheet.{Sheet}
+use Rattle.kinds.specs.declared.Refusal.the-variants.{BytesAfterLast}
+use Rattle.kinds.specs.Answer.{Handed, accepted}
+use Rattle.sheet.specs.Reading.{noSheet, readSheet}
+use Rattle.sheet.proofs.Lengths.{end-most}
+use Rattle.sheet.proofs.Whole.{whole, few-results}
+use Rattle.sheet.proofs.Numbered.{accepted-by-number}
+use Rattle.sheet.proofs.Beyond.{front-reading}
+use Rattle.sheet.proofs.After.{front-refused}
+use Rattle.fill.specs.Fill.{longestSheet, refusalLine, orLine, filledSheet, filled}
+use Rattle.fill.proofs.Readings.{filled-refused}
+
+-- the answer for any input is the answer for its first 715 bytes
+pub front-fills : (s : List ℕ) → filled (take (longestSheet + 1) s) ≡ filled s
+unfolding filled
+front-fills s =
+    by-le (length s) (longestSheet + 1)
+    (λ h. ap filled (take-all (longestSheet + 1) s h))
+    (λ h. ap (λ (r : Handed Sheet). orLine r filledSheet) (front-reading s (longestSheet + 1) (omega arith) (omega arith)))
+
+module _ (s : List ℕ) (long : longestSheet < length s) where
+  -- "refused as 11 at 714 if the first 714 read as a sheet of that length"
+  pub longest-then-more : (x : Sheet) → readSheet (take longestSheet s) ≡ accepted x → filled s ≡ refusalLine 11 714
+  longest-then-more x e = filled-refused s noSheet (BytesAfterLast longestSheet) (front-refused s longestSheet x long e)
+
+  -- "else as the reader says of the whole": it always refuses
+  refused-number : readSheet s .number ≡ 0 → ⊥
+  refused-number e =
+      let w = whole s (readSheet s .value) (accepted-by-number s e) .0 in
+      omega (arith, w .end, end-most _ _ (w .few) (few-results w))
+
+  pub too-long : filled s ≡ refusalLine (readSheet s .number) (readSheet s .place)
+  unfolding filled
+  too-long = rw (ne-eqb (readSheet s .number) 0 refused-number)

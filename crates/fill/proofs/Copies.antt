@@ -1,0 +1,29 @@
+-- Bytes copied one by one to a place of a buffer, as `put_bytes` goes.
+-- Assumes nothing.
+use Prim.Native.Nat.{ℕ, _+_, _≤_, _<_}
+use mathlib.Core.List.{List}
+use mathlib.Core.Path.{_≡_, ap, _∙_}
+use native.Mathlib.Nat.{add-zero}
+use native.Mathlib.Numerals.{add-one}
+use native.Mathlib.Omega.{arith}
+use lib.ListN.{length, set, take, getD}
+use lib.Seq.{take-suc, take-all}
+use Rattle.field.specs.Stored.{Put}
+use Rattle.field.proofs.Stores.{put-none, put-then}
+use Rattle.numeral.proofs.Digits.{put-byte}
+
+module _ (old bytes : List ℕ) (at : ℕ) where
+  pub copied-none : Put old at 0 (take 0 bytes) (at + 0) old
+  copied-none = rw (add-zero at) (put-none old at)
+
+  module _ (out : List ℕ) (i : ℕ) (p : Put old at i (take i bytes) (at + i) out) where
+    pub copied-more : i < length bytes → Put old at (i + 1) (take (i + 1) bytes) (at + (i + 1)) (set out (at + i) (getD bytes i 0))
+    copied-more h =
+        let front : take (i + 1) bytes ≡ _ = ap (λ (k : ℕ). take k bytes) (add-one i) ∙ take-suc bytes i 0 h in
+        let place : at + (i + 1) ≡ at + i + 1 = omega arith in
+        rw (front, place) (put-then p (put-byte out (at + i) (getD bytes i 0)))
+
+    pub copied-all : i ≤ length bytes → length bytes ≤ i → Put old at (length bytes) bytes (at + i) out
+    copied-all a b =
+        let e : i ≡ length bytes = omega arith in
+        rw (← e) (rw (take-all i bytes b) at p)

@@ -1,0 +1,123 @@
+-- The numbers of a sheet that was read and planned fit their fields, so that it reads back as it is.
+-- Assumes nothing.
+use Prim.Native.Nat.{ℕ, zero, suc, _+_, _*_, _≤_, _<_}
+use mathlib.Core.Bool.{true}
+use mathlib.Core.List.{List, [], append-nil}
+use mathlib.Core.Path.{_≡_, refl, sym, _∙_}
+use native.Mathlib.Omega.{arith}
+use lib.ListN.{length, getD}
+use Rattle.ground.specs.Folds.{listTo}
+use Rattle.ground.proofs.Buffer.{list-at}
+use Rattle.ground.proofs.Cases.{by-bool, by-le}
+use Rattle.kinds.specs.declared.Task.{Task}
+use Rattle.kinds.specs.declared.Granted.{Granted}
+use Rattle.kinds.specs.declared.Sheet.{Sheet}
+use Rattle.kinds.specs.Limits.{mostTasks}
+use Rattle.kinds.specs.Task.{noTask, at}
+use Rattle.kinds.specs.Policy.{meant, isFirstFit}
+use Rattle.kinds.specs.Answer.{accepted}
+use Rattle.kinds.proofs.Policies.{number-back}
+use Rattle.share.specs.Share.{periodAt}
+use Rattle.share.specs.Table.{shares, periodsAt}
+use Rattle.share.proofs.Tasks.{period-is}
+use Rattle.share.proofs.Tables.{all-good}
+use Rattle.fit.proofs.Placing.{fits-placed}
+use Rattle.policy.proofs.Demand.{step-at}
+use Rattle.policy.proofs.Tests.{first-fit-passes}
+use Rattle.plan.specs.Plan.{processorAt, processorsAt}
+use Rattle.plan.proofs.Found.{Accepting, accepting}
+use Rattle.plain.specs.Asked.{asked}
+use Rattle.field.specs.Number.{Bytes, u16At, numberAt, limit}
+use Rattle.sheet.specs.Sections.{taskSize, policyPlace, mPlace, recordsPlace}
+use Rattle.sheet.specs.Rows.{taskAt, noGranted, padded}
+use Rattle.sheet.specs.Reading.{taskCount, settingsIn, sheetIn}
+use Rattle.sheet.proofs.Padding.{padded-long, padded-in, padded-out}
+use Rattle.sheet.proofs.Whole.{Whole}
+use Rattle.writer.specs.Canonical.{grantedIn, TaskHeld, GrantedHeld, SheetHeld}
+use Rattle.fill.specs.Results.{entryAt, resultsOf, withPlan}
+
+-- a number of so many bytes
+number-held : (s : List ℕ) → Bytes s → (size place : ℕ) → numberAt size s place < limit size
+unfolding numberAt
+number-held s bytes zero place = omega arith
+number-held s bytes (suc size) place = omega (arith, bytes place, number-held s bytes size (place + 1))
+
+-- what holds of each row that is used, and of an unused place, holds at each number
+rows-held : {A : Type 0} (P : A → Type 0) (none : A) (f : ℕ → A) (n : ℕ) → n ≤ mostTasks → P none → ((i : ℕ) → i < n → P (f i)) → (i : ℕ) → P (getD (padded none f n) i none)
+rows-held P none f n few unused used i =
+    by-le n i (λ h. rw (padded-out none f n i h) unused) (λ h. rw (padded-in none f n i h few) (used i h))
+
+-- the results of a plan, and the unused places after them
+abbrev planAt : Sheet → ℕ → ℕ → Granted
+planAt x k =
+    entryAt (periodsAt (x .table .rows) (x .table .n) k)
+    (processorsAt (meant (x .settings .policy)) (x .settings .m) (x .table .rows) (x .table .n) k)
+
+pub plan-room : (x : Sheet) (k : ℕ) → length (withPlan x k .results .rows) ≡ mostTasks
+unfolding withPlan resultsOf
+plan-room x k = padded-long noGranted (planAt x k) (x .table .n)
+
+pub plan-unused : (x : Sheet) (k i : ℕ) → x .table .n ≤ i → grantedIn (withPlan x k) i ≡ noGranted
+unfolding withPlan resultsOf
+plan-unused x k i = padded-out noGranted (planAt x k) (x .table .n) i
+
+module _ (x : Sheet) (k : ℕ) (few : x .table .n ≤ mostTasks) (e : asked x ≡ accepted k) where
+  accepts : Accepting true (x .settings) (x .table .rows) (x .table .n) (x .table .n) k
+  unfolding asked
+  accepts = accepting true (x .settings) (x .table .rows) (x .table .n) (x .table .n) k (sym e)
+
+  period-held : (i : ℕ) → i < x .table .n → getD (periodsAt (x .table .rows) (x .table .n) k) i 0 < limit 4
+  unfolding periodsAt
+  period-held i l =
+      let f : ℕ → ℕ = λ j. periodAt (at (x .table .rows) j) k in
+      let is : getD (listTo f (x .table .n)) i 0 ≡ f i = rw (append-nil (listTo f (x .table .n))) at (list-at f (x .table .n) i [] l) in
+      let good = all-good (x .table .rows) (x .table .n) (accepts .ready .none-bad) i l in
+      rw is (omega (arith, period-is (at (x .table .rows) i) good k (f i) refl .most))
+
+  place-held : (i : ℕ) → i < x .table .n → processorAt (meant (x .settings .policy)) (x .settings .m) (x .table .rows) k i < limit 2
+  place-held i l =
+      let p = meant (x .settings .policy) in
+      let load = shares (x .table .rows) k in
+      by-bool (isFirstFit p)
+      (λ first.
+      let passing = step-at p (x .settings .m) (x .table .rows) (x .table .n) k (accepts .step) .passes in
+      let placed = fits-placed (x .settings .m) load (x .table .n) (sym (first-fit-passes p (x .settings .m) load (x .table .n) first) ∙ passing) i l in
+      rw first (omega (arith, placed, accepts .ready .passed .m-most)))
+      (λ other. rw other (omega arith))
+
+  processor-held : (i : ℕ) → i < x .table .n → getD (processorsAt (meant (x .settings .policy)) (x .settings .m) (x .table .rows) (x .table .n) k) i 0 < limit 2
+  unfolding processorsAt
+  processor-held i l =
+      let f = processorAt (meant (x .settings .policy)) (x .settings .m) (x .table .rows) k in
+      let is : getD (listTo f (x .table .n)) i 0 ≡ f i = rw (append-nil (listTo f (x .table .n))) at (list-at f (x .table .n) i [] l) in
+      rw is (place-held i l)
+
+  pub results-held : (i : ℕ) → GrantedHeld (grantedIn (withPlan x k) i)
+  unfolding withPlan resultsOf
+  results-held i =
+      rows-held GrantedHeld noGranted (planAt x k) (x .table .n) few
+      (record { period = omega arith; processor = omega arith })
+      (λ j l. record { period = period-held j l; processor = processor-held j l })
+      i
+
+-- a sheet that stands in bytes, with a plan
+pub planned-held : (s : List ℕ) → Bytes s → Whole s → (k : ℕ) → asked (sheetIn s) ≡ accepted k → SheetHeld (withPlan (sheetIn s) k)
+unfolding withPlan resultsOf sheetIn settingsIn
+planned-held s bytes w k e =
+    let tasks : ℕ → Task = λ i. taskAt s (recordsPlace + taskSize * i) in
+    let held : (i : ℕ) → TaskHeld (tasks i) =
+    λ i.
+    record {
+      c = number-held s bytes 4 (recordsPlace + taskSize * i);
+      tmin = number-held s bytes 4 (recordsPlace + taskSize * i + 4);
+      tmax = number-held s bytes 4 (recordsPlace + taskSize * i + 8);
+      e = number-held s bytes 4 (recordsPlace + taskSize * i + 12);
+    } in
+    record {
+      policy = rw (number-back (u16At s policyPlace)) (number-held s bytes 2 policyPlace);
+      m = number-held s bytes 2 mPlace;
+      tasks = rows-held TaskHeld noTask tasks (taskCount s) (w .few) (record { c = omega arith; tmin = omega arith; tmax = omega arith; e = omega arith }) (λ i l. held i);
+      tasks-room = padded-long noTask tasks (taskCount s);
+      results = results-held (sheetIn s) k (w .few) e;
+      results-room = plan-room (sheetIn s) k;
+    }

@@ -1,0 +1,9 @@
+pub mod Copies
+pub mod Fronts
+pub mod Lines
+pub mod Plans
+pub mod Readings
+pub mod Beyond
+pub mod Held
+pub mod Again
+pub mod Examples

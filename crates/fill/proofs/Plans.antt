@@ -1,0 +1,128 @@
+-- What the plain finder leaves in two outputs is the plan of the definition, and its sheet can always be written.
+-- Assumes nothing.
+use Prim.Native.Nat.{ℕ, _+_, _≤_, min}
+use mathlib.Core.Bool.{true}
+use mathlib.Core.List.{List, _++_}
+use mathlib.Core.Path.{_≡_, refl, sym, ap, ap₂, _∙_}
+use native.Mathlib.Omega.{arith}
+use lib.ListN.{length, getD, set, drop, List·getD-append}
+use lib.Dec.{eqb}
+use borrow.Author.Tests.{eq-eqb}
+use Rattle.ground.proofs.Buffer.{list-long}
+use Rattle.ground.proofs.Cases.{by-bool}
+use Rattle.kinds.specs.declared.Granted.{Granted}
+use Rattle.kinds.specs.declared.Results.{Results}
+use Rattle.kinds.specs.declared.Sheet.{Sheet}
+use Rattle.kinds.specs.declared.Refusal.{Refusal}
+use Rattle.kinds.specs.declared.Answer.{Answer}
+use Rattle.kinds.specs.declared.Answer.the-variants as answer
+use Rattle.kinds.specs.Limits.{mostTasks}
+use Rattle.kinds.specs.Policy.{meant}
+use Rattle.kinds.specs.Refusal.{numberOf, placeOf}
+use Rattle.kinds.specs.Answer.{Handed, accepted, handed}
+use Rattle.kinds.proofs.Answers.{not-refused}
+use Rattle.share.specs.Table.{periodsAt}
+use Rattle.plan.specs.Plan.{processorsAt, periodsAfter, processorsAfter, outcome, Meets}
+use Rattle.plain.specs.Asked.{asked}
+use Rattle.plain.proofs.Asked.{asked-roomy}
+use Rattle.sheet.specs.Sections.{resultsFit}
+use Rattle.sheet.specs.Rows.{granted, noGranted, padded}
+use Rattle.sheet.proofs.Padding.{padded-more, padded-cong}
+use Rattle.writer.specs.declared.Written.the-variants as written
+use Rattle.writer.specs.Encode.{encode, lengthOf}
+use Rattle.writer.specs.Writing.{writeSheet, Writes}
+use Rattle.writer.proofs.Rows.{encode-long}
+use Rattle.writer.proofs.Answers.{accepts, write-accepts, accepted-after}
+use Rattle.fill.specs.Results.{entryAt, resultsOf, withPlan}
+use Rattle.fill.specs.Fill.{longestSheet, refusalLine, orLine, filledSheet, Fronts}
+use Rattle.fill.proofs.Fronts.{fronts}
+use Rattle.fill.proofs.Lines.{line-of}
+
+-- the rows of a results section, one by one
+module _ (periods processors : List ℕ) (rows : List Granted) (i : ℕ) (is : rows ≡ padded noGranted (entryAt periods processors) i) where
+  pub rows-more : set rows i (entryAt periods processors i) ≡ padded noGranted (entryAt periods processors) (i + 1)
+  rows-more = ap (λ (l : List Granted). set l i (entryAt periods processors i)) is ∙ sym (padded-more noGranted (entryAt periods processors) i)
+
+  pub rows-done : (n : ℕ) → i ≡ n → record { rows = rows; n = n } ≡ resultsOf periods processors n
+  unfolding resultsOf
+  rows-done n e = rw (← e) (ap (λ (l : List Granted). record { rows = l; n = i }) is)
+
+-- a sheet with other results
+abbrev pub withResults : Sheet → Results → Sheet
+withResults x r = record { settings = x .settings; table = x .table; results = r }
+
+-- a sheet with a plan counts its tasks twice
+pub plan-fits : (n : ℕ) → resultsFit n n ≡ true
+unfolding resultsFit
+plan-fits n = by-bool (eqb n 0) (λ e. rw e) (λ e. rw (e, eq-eqb n n refl))
+
+module _ (x : Sheet) (few : x .table .n ≤ mostTasks) (ps qs ps′ qs′ : List ℕ) (long-ps : length ps ≡ mostTasks) (long-qs : length qs ≡ mostTasks)
+    (a : Answer) (m : Meets (outcome true (x .settings) (x .table .rows) (x .table .n) ps qs) a ps′ qs′) where
+  answers : handed a ≡ asked x
+  unfolding outcome
+  answers = m .answers ∙ asked-roomy x (min (length ps) (length qs)) (omega arith)
+
+  -- a refusal of the plain finder
+  pub plan-refused : (q : Refusal) → a ≡ answer.Refused q → filledSheet x ≡ refusalLine (numberOf q) (placeOf q)
+  unfolding filledSheet
+  plan-refused q e = ap (λ (h : Handed ℕ). orLine h (λ k. encode (withPlan x k))) (sym answers ∙ ap handed e) ∙ line-of 0 q (λ k. encode (withPlan x k))
+
+  module _ (k : ℕ) (e : a ≡ answer.Accepted k) where
+    accepts-at : asked x ≡ accepted k
+    accepts-at = sym answers ∙ ap handed e
+
+    pub plan-filled : filledSheet x ≡ encode (withPlan x k)
+    unfolding filledSheet
+    plan-filled = rw accepts-at
+
+    -- what stands in the outputs
+    periods-are : ps′ ≡ periodsAt (x .table .rows) (x .table .n) k ++ drop (x .table .n) ps
+    unfolding outcome
+    periods-are = m .grants ∙ ap (λ (h : Handed ℕ). periodsAfter h (x .table .rows) (x .table .n) ps) (sym (m .answers) ∙ ap handed e)
+
+    processors-are : qs′ ≡ processorsAt (meant (x .settings .policy)) (x .settings .m) (x .table .rows) (x .table .n) k ++ drop (x .table .n) qs
+    unfolding outcome
+    processors-are = m .places ∙ ap (λ (h : Handed ℕ). processorsAfter h (x .settings) (x .table .rows) (x .table .n) qs) (sym (m .answers) ∙ ap handed e)
+
+    periods-long : length (periodsAt (x .table .rows) (x .table .n) k) ≡ x .table .n
+    unfolding periodsAt
+    periods-long = list-long _ (x .table .n)
+
+    processors-long : length (processorsAt (meant (x .settings .policy)) (x .settings .m) (x .table .rows) (x .table .n) k) ≡ x .table .n
+    unfolding processorsAt
+    processors-long = list-long _ (x .table .n)
+
+    module _ (r : Results) (is : r ≡ resultsOf ps′ qs′ (x .table .n)) where
+      planned-is : withResults x r ≡ withPlan x k
+      unfolding withPlan resultsOf
+      planned-is =
+          let n = x .table .n in
+          let rows =
+          padded-cong noGranted (entryAt ps′ qs′)
+          (entryAt (periodsAt (x .table .rows) n k) (processorsAt (meant (x .settings .policy)) (x .settings .m) (x .table .rows) n k))
+          n few
+          (λ i l. ap₂ granted
+          (ap (λ (p : List ℕ). getD p i 0) periods-are ∙ List·getD-append (periodsAt (x .table .rows) n k) (drop n ps) 0 i (rw periods-long l))
+          (ap (λ (p : List ℕ). getD p i 0) processors-are ∙ List·getD-append (processorsAt (meant (x .settings .policy)) (x .settings .m) (x .table .rows) n k) (drop n qs) 0 i (rw processors-long l))) in
+          ap (withResults x) is
+          ∙ ap (λ (g : List Granted). withResults x (record { rows = g; n = n })) rows
+
+      planned-accepted : (room : ℕ) → longestSheet ≤ room → writeSheet (withPlan x k) room ≡ accepted (lengthOf (withPlan x k))
+      unfolding withPlan resultsOf
+      planned-accepted room h = write-accepts (withPlan x k) room few (plan-fits (x .table .n)) (omega arith)
+
+      module _ (old new : List ℕ) (room : longestSheet ≤ length old) where
+        -- it is never refused
+        pub plan-unrefused : (q : Refusal) {B : Type 0} → Writes (withResults x r) old (written.Refused q) new → B
+        plan-unrefused q p =
+            not-refused (lengthOf (withPlan x k)) 0 q
+            (sym (planned-accepted (length old) room) ∙ (ap (λ (y : Sheet). writeSheet y (length old)) (sym planned-is) ∙ sym (p .answer)))
+
+        pub plan-written : (b : ℕ) → Writes (withResults x r) old (written.Bytes b) new → Fronts (filledSheet x) old b new
+        plan-written b p =
+            let a : writeSheet (withResults x r) (length old) ≡ accepted b = sym (p .answer) in
+            let w = accepts (withResults x r) (length old) b a in
+            let fill : filledSheet x ≡ encode (withResults x r) = plan-filled ∙ ap encode (sym planned-is) in
+            rw fill
+            (fronts (encode (withResults x r)) old new b (w .is ∙ sym (encode-long (withResults x r))) (omega (arith, w .fits, w .is))
+            (p .buffer ∙ (accepted-after (withResults x r) old b a ∙ ap (λ (n : ℕ). encode (withResults x r) ++ drop n old) (sym (w .is)))))

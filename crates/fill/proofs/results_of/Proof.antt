@@ -1,0 +1,77 @@
+-- `fill::results_of` meets its contract: the rows so far are the first entries, and the rest are unused places. Assumes nothing.
+use Prim.Native.Nat.{_-_, _≤_}
+use mathlib.Core.Path.{_≡_, refl, sym}
+use native.Mathlib.Omega.{arith}
+use lib.ListN.{length, length-set}
+use borrow.Author.Needs.{needs}
+use Rattle.kinds.specs.Limits.{mostTasks}
+use Rattle.sheet.specs.Rows.{noGranted, padded}
+use Rattle.sheet.proofs.Padding.{padded-none}
+use Rattle.fill.specs.Results.{entryAt}
+use Rattle.fill.proofs.Plans.{rows-more, rows-done}
+use Rattle.fill.proofs.results_of.Statement.{statement}
+use Rattle.fill.proofs.results_of.Tie as tie
+
+abbrev Inv-loop : tie.InvT-loop
+Inv-loop n periods processors rows₀ i₀ rows i =
+    (i ≤ n) × ((length rows ≡ mostTasks) × (rows ≡ padded noGranted (entryAt periods processors) i))
+
+abbrev μ-loop : tie.MeasureT-loop
+μ-loop n periods processors rows₀ i₀ rows i = n - i
+
+loop-holds : tie.Need-loop-holds Inv-loop μ-loop
+loop-holds c = (search needs, (refl, sym (padded-none noGranted (entryAt (c .args .t1) (c .args .t2)))))
+
+mul-t10 : tie.Need-mul-t10 Inv-loop μ-loop
+mul-t10 c = search needs
+
+array-read-t13 : tie.Need-array-read-t13 Inv-loop μ-loop
+array-read-t13 c = search needs
+
+mul-t14 : tie.Need-mul-t14 Inv-loop μ-loop
+mul-t14 c = search needs
+
+array-read-t17 : tie.Need-array-read-t17 Inv-loop μ-loop
+array-read-t17 c = search needs
+
+mul-rows : tie.Need-mul-rows Inv-loop μ-loop
+mul-rows c = search needs
+
+array-set-from-rows : tie.Need-array-set-from-rows Inv-loop μ-loop
+array-set-from-rows c = search needs
+
+add-i : tie.Need-add-i Inv-loop μ-loop
+add-i c = search needs
+
+loop-less : tie.Need-loop-less Inv-loop μ-loop
+loop-less c = search needs
+
+loop-again : tie.Need-loop-again Inv-loop μ-loop
+loop-again c =
+    let l = c .before .loop in
+    let a = c .before .before .args in
+    (search needs, (simp length-set (l .inv .1 .0), rows-more (a .t1) (a .t2) (l .rows) (l .i) (l .inv .1 .1)))
+
+returns : tie.Need-returns Inv-loop μ-loop
+returns c =
+    let l = c .before .loop in
+    let a = c .before .before .args in
+    rows-done (a .t1) (a .t2) (l .rows) (l .i) (l .inv .1 .1) (a .n) (omega arith)
+
+pub results-of-spec : {M : Type 1} → statement M
+results-of-spec =
+    tie.close
+    (tie.spec
+    Inv-loop
+    μ-loop
+    loop-holds
+    mul-t10
+    array-read-t13
+    mul-t14
+    array-read-t17
+    mul-rows
+    array-set-from-rows
+    add-i
+    loop-less
+    loop-again
+    returns)

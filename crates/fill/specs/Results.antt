@@ -1,0 +1,32 @@
+-- The results section of an accepted plan.
+-- Assumes nothing.
+use Prim.Native.Nat.{ℕ}
+use mathlib.Core.List.{List}
+use lib.ListN.{getD}
+use Rattle.kinds.specs.declared.Granted.{Granted}
+use Rattle.kinds.specs.declared.Results.{Results}
+use Rattle.kinds.specs.declared.Sheet.{Sheet}
+use Rattle.kinds.specs.Policy.{meant}
+use Rattle.share.specs.Table.{periodsAt}
+use Rattle.plan.specs.Plan.{processorsAt}
+use Rattle.sheet.specs.Rows.{granted, noGranted, padded}
+
+-- entry i of the periods and of the processors
+abbrev pub entryAt : List ℕ → List ℕ → ℕ → Granted
+entryAt periods processors i = granted (getD periods i 0) (getD processors i 0)
+
+-- their first n entries, and then unused places
+unfoldable pub resultsOf : List ℕ → List ℕ → ℕ → Results
+resultsOf periods processors n = record { rows = padded noGranted (entryAt periods processors) n; n = n }
+
+-- document 01, "Program": "the sheet with results filled in from the plain finder, replacing older ones"; the plan is that of step k
+unfoldable pub withPlan : Sheet → ℕ → Sheet
+withPlan x k =
+    record {
+      settings = x .settings;
+      table = x .table;
+      results =
+          resultsOf (periodsAt (x .table .rows) (x .table .n) k)
+          (processorsAt (meant (x .settings .policy)) (x .settings .m) (x .table .rows) (x .table .n) k)
+          (x .table .n);
+    }

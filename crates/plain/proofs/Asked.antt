@@ -1,0 +1,17 @@
+-- More room than there are tasks changes nothing of the plain finder's answer to a sheet.
+-- Assumes nothing.
+use Prim.Native.Nat.{ℕ, _≤_}
+use mathlib.Core.Bool.{true}
+use mathlib.Core.Path.{_≡_}
+use native.Mathlib.Omega.{arith}
+use borrow.Author.Tests.{le-ltb}
+use Rattle.kinds.specs.declared.Sheet.{Sheet}
+use Rattle.admission.specs.Admission.{gate, admission}
+use Rattle.plan.specs.Plan.{found}
+use Rattle.plain.specs.Asked.{asked}
+
+pub asked-roomy : (x : Sheet) (room : ℕ) → x .table .n ≤ room → found true (x .settings) (x .table .rows) (x .table .n) room ≡ asked x
+unfolding asked found admission gate
+asked-roomy x room h =
+    let n = x .table .n in
+    rw (le-ltb room n h, le-ltb n n (omega arith))
