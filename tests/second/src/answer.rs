@@ -1,0 +1,124 @@
+//! The answer that document 01 gives to a call, in the bytes of the answer stream.
+
+use crate::call::{Call, Rooms, Table, Writing};
+use crate::definition::change_over::{change_over, Which};
+use crate::definition::finder::{plain, quick};
+use crate::definition::kinds::{Refusal, Sheet};
+use crate::definition::margin::margin;
+use crate::definition::program::program;
+use crate::definition::reader::read;
+use crate::definition::writer::write;
+
+/// What lent outputs hold before a call.
+pub const PERIOD_SENTINEL: u32 = 0xA5A5_A5A5;
+pub const PROCESSOR_SENTINEL: u16 = 0x5A5A;
+pub const BUFFER_SENTINEL: u8 = 0xEE;
+
+/// The number (0 when accepted) and the place (0 when accepted).
+fn put_verdict<T>(bytes: &mut Vec<u8>, answer: &Result<T, Refusal>) {
+    let refusal = answer.as_ref().err().copied().unwrap_or(Refusal { number: 0, place: 0 });
+    bytes.push(refusal.number);
+    bytes.extend(refusal.place.to_le_bytes());
+}
+
+fn put_outputs(bytes: &mut Vec<u8>, periods: &[u32], processors: &[u16]) {
+    bytes.extend(periods.iter().flat_map(|period| period.to_le_bytes()));
+    bytes.extend(processors.iter().flat_map(|processor| processor.to_le_bytes()));
+}
+
+/// The lent outputs of a finder before the call.
+fn lent_outputs(rooms: Rooms) -> (Vec<u32>, Vec<u16>) {
+    (
+        vec![PERIOD_SENTINEL; usize::from(rooms.periods)],
+        vec![PROCESSOR_SENTINEL; usize::from(rooms.processors)],
+    )
+}
+
+fn plain_answer(table: &Table, rooms: Rooms) -> Vec<u8> {
+    let (mut periods, mut processors) = lent_outputs(rooms);
+    let answer = plain(&table.question(), &mut periods, &mut processors);
+    let mut bytes = Vec::new();
+    put_verdict(&mut bytes, &answer);
+    // "A refusal's step, margin or written length is 0."
+    bytes.extend(answer.unwrap_or(0).to_le_bytes());
+    put_outputs(&mut bytes, &periods, &processors);
+    bytes
+}
+
+fn quick_answer(table: &Table, rooms: Rooms) -> Vec<u8> {
+    let (mut periods, mut processors) = lent_outputs(rooms);
+    let (answer, looks) = quick(&table.question(), &mut periods, &mut processors);
+    let mut bytes = Vec::new();
+    put_verdict(&mut bytes, &answer);
+    bytes.extend(answer.unwrap_or(0).to_le_bytes());
+    bytes.extend(looks.to_le_bytes());
+    put_outputs(&mut bytes, &periods, &processors);
+    bytes
+}
+
+fn margin_answer(table: &Table, step: u32) -> Vec<u8> {
+    let answer = margin(&table.question(), step);
+    let mut bytes = Vec::new();
+    put_verdict(&mut bytes, &answer);
+    bytes.extend(answer.unwrap_or(0).to_le_bytes());
+    bytes
+}
+
+fn put_sheet(bytes: &mut Vec<u8>, sheet: &Sheet) {
+    for number in [sheet.policy.number(), sheet.m, sheet.task_count, sheet.result_count] {
+        bytes.extend(number.to_le_bytes());
+    }
+    for row in &sheet.rows {
+        for number in [row.c, row.tmin, row.tmax, row.e] {
+            bytes.extend(number.to_le_bytes());
+        }
+    }
+    for result in &sheet.results {
+        bytes.extend(result.period.to_le_bytes());
+        bytes.extend(result.processor.to_le_bytes());
+    }
+}
+
+fn read_answer(sheet: &[u8]) -> Vec<u8> {
+    let answer = read(sheet);
+    let mut bytes = Vec::new();
+    put_verdict(&mut bytes, &answer);
+    // "A refused reading hands back a sheet of zeros."
+    put_sheet(&mut bytes, &answer.unwrap_or(Sheet::zeros()));
+    bytes
+}
+
+fn write_answer(writing: &Writing) -> Vec<u8> {
+    let mut buffer = vec![BUFFER_SENTINEL; usize::from(writing.room)];
+    let answer = write(&writing.sheet(), &mut buffer);
+    let mut bytes = Vec::new();
+    put_verdict(&mut bytes, &answer);
+    bytes.extend(answer.unwrap_or(0).to_le_bytes());
+    bytes.extend(buffer);
+    bytes
+}
+
+fn change_over_answer(standing: &[u8], proposed: &[u8]) -> Vec<u8> {
+    let part = change_over(standing, proposed);
+    let mut bytes = vec![match part.which {
+        Which::Standing => 0,
+        Which::Proposed => 1,
+    }];
+    bytes.extend((part.offset as u16).to_le_bytes());
+    bytes.extend((part.length as u16).to_le_bytes());
+    bytes.extend(part.of(standing, proposed));
+    bytes
+}
+
+/// The answer's bytes, without their length.
+pub fn answer(call: &Call) -> Vec<u8> {
+    match call {
+        Call::Plain(table, rooms) => plain_answer(table, *rooms),
+        Call::Quick(table, rooms) => quick_answer(table, *rooms),
+        Call::Margin(table, step) => margin_answer(table, *step),
+        Call::Read(sheet) => read_answer(sheet),
+        Call::Write(writing) => write_answer(writing),
+        Call::ChangeOver { standing, proposed } => change_over_answer(standing, proposed),
+        Call::Program(input) => program(input),
+    }
+}

@@ -1,0 +1,200 @@
+//! A call of the stream: what is asked, and its payload in bytes.
+
+use crate::definition::admission::Question;
+use crate::definition::kinds::{Granted, Policy, Record, Sheet, MOST_TASKS};
+
+/// The most bytes of a payload.
+pub const MOST_PAYLOAD: usize = 2_000;
+
+/// Policy and processors as a call gives them.
+#[derive(Clone, Copy, Debug, PartialEq, Eq)]
+pub struct Settings {
+    pub number: u16,
+    /// Whether the number is held by a further choice, also when it is 1 to 4.
+    pub further: bool,
+    pub m: u16,
+}
+
+/// Settings and a table; of more than 32 tasks the stream has 32 rows.
+#[derive(Clone, Debug, PartialEq, Eq)]
+pub struct Table {
+    pub settings: Settings,
+    pub count: u16,
+    pub rows: Vec<Record>,
+}
+
+/// The entries of the two lent outputs.
+#[derive(Clone, Copy, Debug, PartialEq, Eq)]
+pub struct Rooms {
+    pub periods: u8,
+    pub processors: u8,
+}
+
+/// The sheet that a writer is asked to write, and the bytes of the lent buffer.
+#[derive(Clone, Debug, PartialEq, Eq)]
+pub struct Writing {
+    pub settings: Settings,
+    pub task_count: u16,
+    pub result_count: u16,
+    pub room: u16,
+    pub rows: Vec<Record>,
+    pub results: Vec<Granted>,
+}
+
+#[derive(Clone, Debug, PartialEq, Eq)]
+pub enum Call {
+    Plain(Table, Rooms),
+    Quick(Table, Rooms),
+    Margin(Table, u32),
+    Read(Vec<u8>),
+    Write(Writing),
+    ChangeOver { standing: Vec<u8>, proposed: Vec<u8> },
+    Program(Vec<u8>),
+}
+
+/// The names of the kinds of call, from kind 1.
+pub const KIND_NAMES: [&str; 7] =
+    ["plain finder", "quick finder", "margin", "read", "write", "change-over", "program"];
+
+/// The rows or results that the stream has of a count.
+pub fn present(count: u16) -> usize {
+    usize::from(count).min(MOST_TASKS)
+}
+
+impl Settings {
+    pub fn new(number: u16, m: u16) -> Settings {
+        Settings { number, further: false, m }
+    }
+
+    pub fn policy(self) -> Policy {
+        if self.further {
+            Policy::Further(self.number)
+        } else {
+            Policy::from_number(self.number)
+        }
+    }
+
+    fn put(self, bytes: &mut Vec<u8>) {
+        bytes.extend(self.number.to_le_bytes());
+        bytes.push(u8::from(self.further));
+        bytes.extend(self.m.to_le_bytes());
+    }
+}
+
+impl Table {
+    /// A table that has all its rows.
+    pub fn new(number: u16, m: u16, rows: &[Record]) -> Table {
+        Table { settings: Settings::new(number, m), count: rows.len() as u16, rows: rows.to_vec() }
+    }
+
+    pub fn question(&self) -> Question {
+        Question {
+            policy: self.settings.policy(),
+            m: self.settings.m,
+            count: usize::from(self.count),
+            rows: self.rows.clone(),
+        }
+    }
+
+    fn put_head(&self, bytes: &mut Vec<u8>) {
+        self.settings.put(bytes);
+        bytes.extend(self.count.to_le_bytes());
+    }
+}
+
+impl Rooms {
+    /// Just the entries that the rows present need.
+    pub fn just(table: &Table) -> Rooms {
+        Rooms { periods: table.rows.len() as u8, processors: table.rows.len() as u8 }
+    }
+}
+
+impl Writing {
+    /// The sheet of the call, with zeros in the places that the stream does not have.
+    pub fn sheet(&self) -> Sheet {
+        let mut sheet = Sheet::zeros();
+        sheet.policy = self.settings.policy();
+        sheet.m = self.settings.m;
+        sheet.task_count = self.task_count;
+        sheet.result_count = self.result_count;
+        sheet.rows[..self.rows.len()].copy_from_slice(&self.rows);
+        sheet.results[..self.results.len()].copy_from_slice(&self.results);
+        sheet
+    }
+}
+
+fn put_rows(bytes: &mut Vec<u8>, rows: &[Record]) {
+    for row in rows {
+        for number in [row.c, row.tmin, row.tmax, row.e] {
+            bytes.extend(number.to_le_bytes());
+        }
+    }
+}
+
+fn put_results(bytes: &mut Vec<u8>, results: &[Granted]) {
+    for result in results {
+        bytes.extend(result.period.to_le_bytes());
+        bytes.extend(result.processor.to_le_bytes());
+    }
+}
+
+fn put_finder(bytes: &mut Vec<u8>, table: &Table, rooms: Rooms) {
+    table.put_head(bytes);
+    bytes.extend([rooms.periods, rooms.processors]);
+    put_rows(bytes, &table.rows);
+}
+
+fn put_writing(bytes: &mut Vec<u8>, writing: &Writing) {
+    writing.settings.put(bytes);
+    for number in [writing.task_count, writing.result_count, writing.room] {
+        bytes.extend(number.to_le_bytes());
+    }
+    put_rows(bytes, &writing.rows);
+    put_results(bytes, &writing.results);
+}
+
+impl Call {
+    pub fn kind(&self) -> u8 {
+        match self {
+            Call::Plain(..) => 1,
+            Call::Quick(..) => 2,
+            Call::Margin(..) => 3,
+            Call::Read(..) => 4,
+            Call::Write(..) => 5,
+            Call::ChangeOver { .. } => 6,
+            Call::Program(..) => 7,
+        }
+    }
+
+    /// The payload: the kind, then fields at fixed places, little-endian.
+    pub fn payload(&self) -> Vec<u8> {
+        let mut bytes = vec![self.kind()];
+        match self {
+            Call::Plain(table, rooms) | Call::Quick(table, rooms) => {
+                put_finder(&mut bytes, table, *rooms)
+            }
+            Call::Margin(table, step) => {
+                table.put_head(&mut bytes);
+                bytes.extend(step.to_le_bytes());
+                put_rows(&mut bytes, &table.rows);
+            }
+            Call::Read(sheet) => bytes.extend(sheet),
+            Call::Write(writing) => put_writing(&mut bytes, writing),
+            Call::ChangeOver { standing, proposed } => {
+                bytes.extend((standing.len() as u16).to_le_bytes());
+                bytes.extend(standing);
+                bytes.extend(proposed);
+            }
+            Call::Program(input) => bytes.extend(input),
+        }
+        bytes
+    }
+}
+
+/// A payload or an answer as it stands in a stream: after its length in 2 bytes.
+pub fn framed(bytes: &[u8]) -> Vec<u8> {
+    let length = u16::try_from(bytes.len()).expect("a payload and an answer fit 2 bytes of length");
+    let mut frame = length.to_le_bytes().to_vec();
+    frame.extend(bytes);
+    frame
+}

@@ -1,0 +1,13 @@
+//! Document 01 by brute definition: every step is scanned, every period is searched.
+//! One file for each notion, in the order in which document 01 speaks of them.
+
+pub mod admission;
+pub mod change_over;
+pub mod finder;
+pub mod kinds;
+pub mod margin;
+pub mod policy;
+pub mod program;
+pub mod reader;
+pub mod share;
+pub mod writer;

@@ -1,0 +1,43 @@
+//! The checks 1 to 6 that stand before every search, "the lowest number first".
+
+use super::kinds::{refuse, Policy, Record, Refusal, MOST_PROCESSORS, MOST_TASKS};
+
+/// What finders and margin are asked about. Of more than 32 tasks only 32 rows are kept.
+#[derive(Clone, Debug)]
+pub struct Question {
+    pub policy: Policy,
+    pub m: u16,
+    pub count: usize,
+    pub rows: Vec<Record>,
+}
+
+/// Whether the call that asks serves policy 4.
+#[derive(Clone, Copy, PartialEq, Eq)]
+pub enum Serves {
+    EveryPolicy,
+    FormulasOnly,
+}
+
+/// Refuses by 1 to 6 in this order; `rooms` are the entries of the lent outputs.
+pub fn admit(question: &Question, serves: Serves, rooms: &[usize]) -> Result<(), Refusal> {
+    let policy = question.policy.meaning();
+    if matches!(policy, Policy::Further(_)) {
+        return refuse(1, 0);
+    }
+    if question.m == 0 || question.m > MOST_PROCESSORS {
+        return refuse(2, 0);
+    }
+    if question.count > MOST_TASKS {
+        return refuse(3, question.count);
+    }
+    if policy == Policy::FirstFit && serves == Serves::FormulasOnly {
+        return refuse(4, 0);
+    }
+    if rooms.iter().any(|room| *room < question.count) {
+        return refuse(5, question.count);
+    }
+    match question.rows.iter().position(|row| !row.is_good()) {
+        Some(first) => refuse(6, first),
+        None => Ok(()),
+    }
+}

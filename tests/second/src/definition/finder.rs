@@ -1,0 +1,100 @@
+//! The plain finder, and what the quick finder has to answer: the same step, and its looks.
+
+use super::admission::{admit, Question, Serves};
+use super::kinds::{refuse, Policy, Refusal};
+use super::policy::{first_fit, passes};
+use super::share::{full_compression, period_with_share, springs, Spring};
+use std::collections::BTreeSet;
+
+/// The shares of all tasks at a step, in record order.
+pub fn shares_at(springs: &[Spring], step: u32) -> Vec<u64> {
+    springs.iter().map(|spring| spring.share_at(step)).collect()
+}
+
+/// Scans every step from 0 to K and answers the first that passes.
+pub fn least_passing_step(question: &Question) -> Option<u32> {
+    let springs = springs(&question.rows);
+    let mut shares = vec![0_u64; springs.len()];
+    (0..=full_compression(&springs)).find(|step| {
+        for (share, spring) in shares.iter_mut().zip(&springs) {
+            *share = spring.share_at(*step);
+        }
+        passes(question.policy, question.m, &shares)
+    })
+}
+
+/// "for each task its period and a processor: 1 to m under policy 4, and 0 ("any") under 1 to 3"
+fn write_plan(question: &Question, step: u32, periods: &mut [u32], processors: &mut [u16]) {
+    let shares = shares_at(&springs(&question.rows), step);
+    for (index, row) in question.rows.iter().enumerate() {
+        periods[index] = period_with_share(*row, shares[index]);
+    }
+    let placed = match question.policy.meaning() {
+        Policy::FirstFit => first_fit(question.m, &shares).expect("the step passes"),
+        _ => vec![0; shares.len()],
+    };
+    processors[..placed.len()].copy_from_slice(&placed);
+}
+
+/// Searches after admission: the least passing step with its plan, or refusal 7.
+fn search(
+    question: &Question,
+    periods: &mut [u32],
+    processors: &mut [u16],
+) -> Result<u32, Refusal> {
+    match least_passing_step(question) {
+        Some(step) => {
+            write_plan(question, step, periods, processors);
+            Ok(step)
+        }
+        None => refuse(7, 0),
+    }
+}
+
+/// The plain finder: the step, or the refusal that leaves both outputs as they were.
+pub fn plain(
+    question: &Question,
+    periods: &mut [u32],
+    processors: &mut [u16],
+) -> Result<u32, Refusal> {
+    admit(question, Serves::EveryPolicy, &[periods.len(), processors.len()])?;
+    search(question, periods, processors)
+}
+
+/// The quick finder's answer and its looks.
+pub fn quick(
+    question: &Question,
+    periods: &mut [u32],
+    processors: &mut [u16],
+) -> (Result<u32, Refusal>, u16) {
+    if let Err(refusal) = admit(question, Serves::FormulasOnly, &[periods.len(), processors.len()])
+    {
+        // "Refusals before 7 report 0."
+        return (Err(refusal), 0);
+    }
+    let answer = search(question, periods, processors);
+    (answer, looks(question, answer.ok()))
+}
+
+/// The looks for an answer at a step, or for refusal 7.
+fn looks(question: &Question, answer: Option<u32>) -> u16 {
+    let due = distinct_positive_saturation_steps(question);
+    let count = match answer {
+        // "1 when the answer is step 0"
+        Some(0) => 1,
+        // "2 plus the number of distinct positive saturation steps below k"
+        Some(step) => 2 + due.iter().filter(|due| **due < step).count(),
+        // "1 plus the number of distinct positive saturation steps"
+        None => 1 + due.len(),
+    };
+    count as u16
+}
+
+/// Every saturation step above 0, each once.
+pub fn distinct_positive_saturation_steps(question: &Question) -> BTreeSet<u32> {
+    springs(&question.rows)
+        .iter()
+        .filter_map(Spring::saturation_step)
+        .filter(|step| *step > 0)
+        .collect()
+}

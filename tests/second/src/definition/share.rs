@@ -1,0 +1,87 @@
+//! "Numbers on a task": shares, saturation steps, full compression and periods.
+
+use super::kinds::{Record, SCALE};
+
+/// What the steps of a scan need of one task, worked out once.
+#[derive(Clone, Copy, Debug)]
+pub struct Spring {
+    pub largest: u64,
+    pub least: u64,
+    pub elasticity: u64,
+}
+
+/// "Largest share: C × S / Tmin rounded up. Least share: C × S / Tmax rounded up."
+fn share_with_period(c: u32, period: u32) -> u64 {
+    (u64::from(c) * SCALE).div_ceil(u64::from(period))
+}
+
+/// The spring of a good record.
+pub fn spring(record: Record) -> Spring {
+    Spring {
+        largest: share_with_period(record.c, record.tmin),
+        least: share_with_period(record.c, record.tmax),
+        elasticity: u64::from(record.e),
+    }
+}
+
+/// The springs of good records, in record order.
+pub fn springs(rows: &[Record]) -> Vec<Spring> {
+    rows.iter().map(|row| spring(*row)).collect()
+}
+
+impl Spring {
+    /// "the larger of the least share and (largest share − k × E), the latter taken as 0 when negative"
+    pub fn share_at(&self, step: u32) -> u64 {
+        self.least.max(self.largest.saturating_sub(u64::from(step) * self.elasticity))
+    }
+
+    /// "Saturation step of a task with E > 0: (largest − least) / E rounded up."
+    pub fn saturation_step(&self) -> Option<u32> {
+        if self.elasticity == 0 {
+            return None;
+        }
+        Some((self.largest - self.least).div_ceil(self.elasticity) as u32)
+    }
+}
+
+/// "Full compression K: the greatest saturation step, 0 if there is none."
+pub fn full_compression(springs: &[Spring]) -> u32 {
+    springs.iter().filter_map(Spring::saturation_step).max().unwrap_or(0)
+}
+
+/// The property of a period: C × S ≤ share × T.
+fn share_allows(c: u32, share: u64, period: u32) -> bool {
+    u128::from(c) * u128::from(SCALE) <= u128::from(share) * u128::from(period)
+}
+
+/// "the smallest whole T from Tmin to Tmax with C × S ≤ share × T. One always exists."
+pub fn period_with_share(record: Record, share: u64) -> u32 {
+    const STEPPED_RANGE: u32 = 100_000;
+    if record.tmax - record.tmin <= STEPPED_RANGE {
+        stepped_period(record, share)
+    } else {
+        halved_period(record, share)
+    }
+}
+
+/// Tries every T of the range, the smallest first.
+pub fn stepped_period(record: Record, share: u64) -> u32 {
+    (record.tmin..=record.tmax)
+        .find(|period| share_allows(record.c, share, *period))
+        .expect("document 01: one always exists")
+}
+
+/// Halves a range whose upper end has the property; the property never ends as T grows.
+pub fn halved_period(record: Record, share: u64) -> u32 {
+    assert!(share_allows(record.c, share, record.tmax), "document 01: one always exists");
+    let (mut low, mut high) = (record.tmin, record.tmax);
+    while low < high {
+        let middle = low + (high - low) / 2;
+        if share_allows(record.c, share, middle) {
+            high = middle;
+        } else {
+            low = middle + 1;
+        }
+    }
+    low
+}

@@ -1,0 +1,41 @@
+//! Writing a station sheet into a lent buffer.
+
+use super::kinds::{refuse, Refusal, Sheet, MOST_TASKS};
+
+/// The bytes of a sheet whose counts are in order.
+fn bytes_of(sheet: &Sheet) -> Vec<u8> {
+    let mut bytes = Vec::new();
+    for setting in [2, sheet.policy.number(), sheet.m] {
+        bytes.extend(setting.to_le_bytes());
+    }
+    bytes.extend(sheet.task_count.to_le_bytes());
+    for row in &sheet.rows[..usize::from(sheet.task_count)] {
+        for number in [row.c, row.tmin, row.tmax, row.e] {
+            bytes.extend(number.to_le_bytes());
+        }
+    }
+    bytes.extend(sheet.result_count.to_le_bytes());
+    for result in &sheet.results[..usize::from(sheet.result_count)] {
+        bytes.extend(result.period.to_le_bytes());
+        bytes.extend(result.processor.to_le_bytes());
+    }
+    bytes
+}
+
+/// "The writer gives 3, 10, 5 in that order." Accepted: the written length.
+pub fn write(sheet: &Sheet, buffer: &mut [u8]) -> Result<u16, Refusal> {
+    if usize::from(sheet.task_count) > MOST_TASKS {
+        return refuse(3, usize::from(sheet.task_count));
+    }
+    if sheet.result_count != 0 && sheet.result_count != sheet.task_count {
+        return refuse(10, 0);
+    }
+    let needed =
+        Sheet::bytes_needed(usize::from(sheet.task_count), usize::from(sheet.result_count));
+    if buffer.len() < needed {
+        return refuse(5, needed);
+    }
+    // "An accepted call writes an output up to the entries or bytes needed and no further."
+    buffer[..needed].copy_from_slice(&bytes_of(sheet));
+    Ok(needed as u16)
+}

@@ -1,0 +1,39 @@
+//! The calls of a seed: first the bench cases and the edges, the same for every seed,
+//! then calls that hang on the seed and on their index only.
+
+pub mod bench;
+mod edges_of_finders;
+mod edges_of_sheets;
+mod mix;
+pub mod sheets;
+mod tables;
+
+use crate::call::Call;
+use crate::random::Random;
+
+pub struct Calls {
+    seed: u64,
+    fixed: Vec<Call>,
+}
+
+impl Calls {
+    pub fn of_seed(seed: u64) -> Calls {
+        let mut fixed = bench::calls();
+        fixed.extend(edges_of_finders::calls());
+        fixed.extend(edges_of_sheets::calls());
+        Calls { seed, fixed }
+    }
+
+    /// How many calls stand before the random ones.
+    pub fn fixed_count(&self) -> usize {
+        self.fixed.len()
+    }
+
+    /// The call at an index, the same in every run.
+    pub fn call(&self, index: usize) -> Call {
+        match self.fixed.get(index) {
+            Some(call) => call.clone(),
+            None => mix::random_call(&mut Random::of_call(self.seed, index as u64), index),
+        }
+    }
+}

@@ -1,0 +1,209 @@
+//! The edges of sheets: every truncation, bad counts, trailing bytes, long inputs, short buffers.
+
+use super::bench::case_k_rows;
+use super::sheets::{made_up_results, sheet_of, Raw};
+use crate::call::{present, Call, Settings, Table, Writing};
+use crate::definition::kinds::{Record, Sheet};
+
+pub fn calls() -> Vec<Call> {
+    let mut calls = truncations();
+    calls.extend(bad_counts());
+    calls.extend(trailing_bytes());
+    calls.extend(over_the_limit());
+    calls.extend(writings());
+    calls.extend(change_overs());
+    calls
+}
+
+/// Two tasks of case B with made-up results: 54 bytes.
+fn two_tasks() -> Raw {
+    Raw::honest(&Table::new(1, 1, &[Record::new(6, 10, 20, 1000); 2]), &made_up_results(2))
+}
+
+/// The longest sheet, 714 bytes.
+fn full() -> Raw {
+    let rows: Vec<Record> = (1..=32).map(|c| Record::new(c, 500, 1000, 100 * c)).collect();
+    Raw::honest(&Table::new(2, 3, &rows), &made_up_results(32))
+}
+
+/// A case whose answers name processors: case K with older results.
+fn case_k() -> Raw {
+    Raw::honest(&Table::new(4, 3, &case_k_rows()), &made_up_results(7))
+}
+
+/// The first bytes of a sheet, read and given to the program.
+fn cut_to(bytes: &[u8], length: usize) -> [Call; 2] {
+    [Call::Read(bytes[..length].to_vec()), Call::Program(bytes[..length].to_vec())]
+}
+
+/// "every truncation of a sheet", and of the longest sheet those around its sections.
+fn truncations() -> Vec<Call> {
+    let small = two_tasks().bytes();
+    let mut calls: Vec<Call> =
+        (0..=small.len()).flat_map(|length| cut_to(&small, length)).collect();
+    let long = full().bytes();
+    let telling = [7, 8, 9, 23, 24, 25, 504, 505, 519, 520, 521, 522, 523, 527, 528, 712, 713, 714];
+    calls.extend(telling.into_iter().flat_map(|length| cut_to(&long, length)));
+    calls.extend((0..=long.len()).step_by(31).map(|length| Call::Program(long[..length].to_vec())));
+    calls.push(Call::Program(case_k().bytes()));
+    calls
+}
+
+/// A sheet and its two ends: as it is, and cut right behind the count that stands at a place.
+fn judged_at(raw: &Raw, place: usize) -> Vec<Call> {
+    let bytes = raw.bytes();
+    let mut calls = vec![Call::Read(bytes.clone()), Call::Program(bytes.clone())];
+    for length in [place + 1, place + 2, place + 3] {
+        if length < bytes.len() {
+            calls.push(Call::Read(bytes[..length].to_vec()));
+        }
+    }
+    calls
+}
+
+/// "a count is judged as soon as its two bytes are there"
+fn bad_counts() -> Vec<Call> {
+    let mut calls = Vec::new();
+    for settings_count in [0, 1, 3, 258, 512, 65535] {
+        calls.extend(judged_at(&Raw { settings_count, ..two_tasks() }, 0));
+    }
+    for task_count in [0, 1, 3, 32, 33, 34, 40, 256, 65535] {
+        calls.extend(judged_at(&Raw { task_count, ..two_tasks() }, 6));
+    }
+    for result_count in [0, 1, 3, 4, 32, 33, 40, 256, 258, 65535] {
+        calls.extend(judged_at(&Raw { result_count, ..two_tasks() }, 40));
+    }
+    let empty = Raw::honest(&Table::new(1, 1, &[]), &[]);
+    for result_count in [0, 1, 32, 65535] {
+        calls.extend(judged_at(&Raw { result_count, ..empty.clone() }, 8));
+    }
+    calls
+}
+
+/// 11 at the first byte too many, with and without results.
+fn trailing_bytes() -> Vec<Call> {
+    let without = sheet_of(&Table::new(3, 2, &[Record::new(6, 10, 20, 1000); 3]));
+    let empty = sheet_of(&Table::new(1, 1, &[]));
+    let mut calls = Vec::new();
+    for sheet in [two_tasks().bytes(), without, empty] {
+        for more in [1, 2, 6, 16] {
+            let mut bytes = sheet.clone();
+            bytes.extend(vec![0; more]);
+            calls.push(Call::Read(bytes.clone()));
+            calls.push(Call::Program(bytes));
+        }
+    }
+    calls
+}
+
+/// Inputs of 715 to 800 bytes: behind the longest sheet, a shorter one, and damaged ones.
+fn over_the_limit() -> Vec<Call> {
+    let long = full();
+    let starts = [
+        long.clone(),
+        Raw { result_count: 0, results: vec![], ..long.clone() },
+        Raw { result_count: 31, ..long.clone() },
+        Raw { settings_count: 3, ..long.clone() },
+        Raw { task_count: 33, ..long.clone() },
+        Raw { settings: Settings::new(77, 0), ..long },
+        two_tasks(),
+    ];
+    let mut calls = Vec::new();
+    for start in starts {
+        for length in [714, 715, 716, 730, 799, 800] {
+            let mut bytes = start.bytes();
+            bytes.resize(length, 0);
+            if length % 5 == 0 {
+                calls.push(Call::Read(bytes.clone()));
+            }
+            calls.push(Call::Program(bytes));
+        }
+    }
+    calls
+}
+
+/// A sheet to be written with those counts into a buffer of that many bytes.
+fn writing(settings: Settings, task_count: u16, result_count: u16, room: usize) -> Call {
+    let rows = (1..=present(task_count) as u32).map(|c| Record::new(c, u32::MAX - c, 7, c << 24));
+    Call::Write(Writing {
+        settings,
+        task_count,
+        result_count,
+        room: room as u16,
+        rows: rows.collect(),
+        results: made_up_results(present(result_count)),
+    })
+}
+
+/// "The writer gives 3, 10, 5 in that order": counts and rooms around each limit.
+fn writings() -> Vec<Call> {
+    let mut calls = Vec::new();
+    for task_count in [0, 1, 2, 32, 33, 40, 65535] {
+        for result_count in [0, 1, 2, 3, 31, 32, 33, 40, 65535] {
+            calls.push(writing(Settings::new(1, 1), task_count, result_count, 0));
+            calls.push(writing(Settings::new(4, 3), task_count, result_count, 720));
+        }
+    }
+    for (task_count, result_count) in [(0, 0), (1, 0), (1, 1), (3, 3), (32, 0), (32, 32)] {
+        let needed = Sheet::bytes_needed(usize::from(task_count), usize::from(result_count));
+        for room in [1, 9, needed - 1, needed, needed + 1, needed + 7] {
+            calls.push(writing(Settings::new(2, 16), task_count, result_count, room));
+        }
+    }
+    for number in [0, 1, 2, 3, 4, 5, 255, 256, 65535] {
+        for further in [false, true] {
+            calls.push(writing(Settings { number, further, m: number ^ 0x1234 }, 1, 1, 40));
+        }
+    }
+    calls
+}
+
+/// A sheet under settings, with a table that passes or fails.
+fn sheet_under(number: u16, m: u16, c: u32) -> Vec<u8> {
+    sheet_of(&Table::new(number, m, &[Record::new(c, 10, 20, 1000), Record::new(9, 10, 10, 0)]))
+}
+
+/// Sheets that are accepted and refused for every reason that a change-over can meet.
+fn change_over_sheets() -> Vec<Vec<u8>> {
+    vec![
+        sheet_under(4, 2, 3),
+        case_k().bytes(),
+        sheet_of(&Table::new(1, 1, &[])),
+        full().bytes(),
+        vec![],
+        sheet_under(0, 1, 1),
+        sheet_under(5, 1, 1),
+        sheet_under(1, 0, 1),
+        sheet_under(1, 17, 1),
+        sheet_under(1, 1, 11),
+        sheet_under(1, 1, 10),
+        Raw { task_count: 33, ..two_tasks() }.bytes(),
+        Raw { result_count: 1, ..two_tasks() }.bytes(),
+        Raw { settings_count: 3, ..two_tasks() }.bytes(),
+        [full().bytes(), vec![0; 80]].concat(),
+    ]
+}
+
+/// Every pair of such sheets, and every truncation of either side.
+fn change_overs() -> Vec<Call> {
+    let mut calls = Vec::new();
+    let sheets = change_over_sheets();
+    for (index, standing) in sheets.iter().enumerate() {
+        for (other, proposed) in sheets.iter().enumerate() {
+            // two long sheets come together once
+            if standing.len() + proposed.len() < 1_000 || index == other {
+                calls.push(Call::ChangeOver {
+                    standing: standing.clone(),
+                    proposed: proposed.clone(),
+                });
+            }
+        }
+    }
+    let (small, other) = (two_tasks().bytes(), sheet_under(4, 2, 3));
+    for length in 0..=small.len() {
+        let cut = small[..length].to_vec();
+        calls.push(Call::ChangeOver { standing: other.clone(), proposed: cut.clone() });
+        calls.push(Call::ChangeOver { standing: cut, proposed: sheet_under(1, 1, 11) });
+    }
+    calls
+}

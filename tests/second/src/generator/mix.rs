@@ -1,0 +1,193 @@
+//! One random call: its kind, its settings, its table or sheet, its outputs.
+
+use super::sheets::{damaged, overlong, random_results, random_sheet};
+use super::tables::{
+    crossing, exact, exact_first_fit, general, huge, spoil, telling_step, tied, turning_step,
+    wavering, Aim,
+};
+use crate::call::{present, Call, Rooms, Settings, Table, Writing};
+use crate::definition::kinds::{Record, Sheet};
+use crate::definition::share::springs;
+use crate::random::Random;
+
+/// One call in that many is a plain finder's scan of nearly a million steps.
+const LONG_SCAN_EVERY: usize = 5_000;
+
+pub fn random_call(random: &mut Random, index: usize) -> Call {
+    if index % LONG_SCAN_EVERY == LONG_SCAN_EVERY / 2 {
+        return long_scan(random);
+    }
+    match random.between(0, 99) {
+        0..=24 => plain(random),
+        25..=49 => quick(random),
+        50..=63 => margin(random),
+        64..=70 => Call::Read(sheet(random)),
+        71..=77 => Call::Write(writing(random)),
+        78..=87 => Call::ChangeOver { standing: sheet(random), proposed: sheet(random) },
+        _ => Call::Program(sheet(random)),
+    }
+}
+
+/// "E = 1 with a huge range" for the plain finder.
+fn long_scan(random: &mut Random) -> Call {
+    let number = random.small(1, 3) as u16;
+    let table = Table::new(number, 1, &huge(random, 3));
+    let rooms = Rooms::just(&table);
+    Call::Plain(table, rooms)
+}
+
+fn plain(random: &mut Random) -> Call {
+    let table = table(random, 4);
+    let rooms = rooms(random, &table);
+    Call::Plain(table, rooms)
+}
+
+fn quick(random: &mut Random) -> Call {
+    let table = if random.one_in(12) { huge_table(random) } else { table(random, 3) };
+    let rooms = rooms(random, &table);
+    Call::Quick(table, rooms)
+}
+
+fn margin(random: &mut Random) -> Call {
+    let table = if random.one_in(6) { huge_table(random) } else { table(random, 3) };
+    let good = table.rows.iter().all(|row| row.is_good());
+    let step = match random.between(0, 7) {
+        0 => u32::MAX - random.small(0, 1),
+        1 => random.of_any_size(u32::MAX),
+        2 => turning_step(random, &table.rows),
+        _ if good => telling_step(random, &springs(&table.rows)),
+        _ => 0,
+    };
+    Call::Margin(table, step)
+}
+
+fn huge_table(random: &mut Random) -> Table {
+    let number = random.small(1, 3) as u16;
+    let m = processors(random);
+    Table::new(number, m, &huge(random, 5))
+}
+
+/// Mostly few processors; policy 3 with m = 1 comes often.
+fn processors(random: &mut Random) -> u16 {
+    match random.between(0, 9) {
+        0 => 16,
+        1 => random.small(5, 15) as u16,
+        2..=5 => 1,
+        _ => random.small(2, 4) as u16,
+    }
+}
+
+fn most_steps(random: &mut Random) -> u32 {
+    random.pick(&[1, 3, 20, 100, 300, 1_000, 4_000])
+}
+
+/// A table under a policy of 1 to `last`, seldom with settings, count or records that are refused.
+fn table(random: &mut Random, last: u32) -> Table {
+    let mut table = good_table(random, last);
+    table.settings.further = random.one_in(8);
+    if random.one_in(25) {
+        table.settings.number = random.pick(&[0, 4, 5, 6, 256, 257, 65535]);
+    }
+    if random.one_in(25) {
+        table.settings.m = random.pick(&[0, 17, 18, 256, 65535]);
+    }
+    if random.one_in(15) && !table.rows.is_empty() {
+        spoil(random, &mut table.rows);
+    }
+    if random.one_in(40) {
+        table.rows.resize(32, Record::new(1, 10, 20, 1000));
+        table.count = random.pick(&[32, 33, 34, 40, 64, 65535]);
+    }
+    table
+}
+
+fn good_table(random: &mut Random, last: u32) -> Table {
+    let number = random.small(1, last) as u16;
+    let aim = Aim { number, m: processors(random), most_steps: most_steps(random) };
+    if number == 4 {
+        return first_fit_table(random, aim);
+    }
+    let rows = match random.between(0, 9) {
+        0..=2 => exact(random, aim),
+        3..=4 => crossing(random, aim),
+        5..=6 => tied(random, aim),
+        _ => general(random, aim),
+    };
+    Table::new(number, aim.m, &rows)
+}
+
+fn first_fit_table(random: &mut Random, aim: Aim) -> Table {
+    let (m, rows) = match random.between(0, 9) {
+        0..=2 => wavering(random),
+        3..=4 => (aim.m, exact_first_fit(random, aim)),
+        5 => (aim.m, tied(random, aim)),
+        _ => (aim.m, general(random, aim)),
+    };
+    Table::new(aim.number, m, &rows)
+}
+
+/// The entries lent: just enough, more, or too few in one of the two outputs or in both.
+fn rooms(random: &mut Random, table: &Table) -> Rooms {
+    let mut entries = || {
+        let needed = table.rows.len() as u32;
+        match random.between(0, 29) {
+            0 => needed.saturating_sub(1) as u8,
+            1 => random.small(0, 40) as u8,
+            2..=9 => random.small(needed, 40) as u8,
+            _ => needed as u8,
+        }
+    };
+    Rooms { periods: entries(), processors: entries() }
+}
+
+/// A sheet: mostly honest, else damaged or longer than any sheet may be.
+fn sheet(random: &mut Random) -> Vec<u8> {
+    let mut table = table(random, 4);
+    table.count = table.rows.len() as u16;
+    let raw = random_sheet(random, &table);
+    match random.between(0, 19) {
+        0..=4 => damaged(random, &raw),
+        5 => overlong(random, &raw),
+        _ => raw.bytes(),
+    }
+}
+
+/// A record that nobody judges: a writer and a reader take any numbers.
+fn any_record(random: &mut Random) -> Record {
+    let mut number = || random.of_any_size(u32::MAX) - 1;
+    Record::new(number(), number(), number(), number())
+}
+
+/// A sheet to be written, seldom with wrong counts or a short buffer.
+fn writing(random: &mut Random) -> Writing {
+    let task_count = if random.one_in(8) { random.small(7, 32) } else { random.small(0, 6) } as u16;
+    let result_count = if random.one_in(3) { 0 } else { task_count };
+    let needed = Sheet::bytes_needed(usize::from(task_count), usize::from(result_count)) as u32;
+    let mut writing = Writing {
+        settings: Settings {
+            number: random.pick(&[0, 1, 2, 3, 4, 5, 258, 65535]),
+            further: random.one_in(2),
+            m: random.pick(&[0, 1, 2, 16, 17, 65535]),
+        },
+        task_count,
+        result_count,
+        room: needed as u16,
+        rows: (0..task_count).map(|_| any_record(random)).collect(),
+        results: random_results(random, usize::from(result_count)),
+    };
+    writing.room = match random.between(0, 9) {
+        0 => random.small(0, needed) as u16,
+        1 => (needed - 1) as u16,
+        2..=5 => random.small(needed, needed + 80) as u16,
+        _ => needed as u16,
+    };
+    if random.one_in(10) {
+        writing.result_count = random.pick(&[1, 2, 5, 31, 32, 33, 40, 65535]);
+        writing.results = random_results(random, present(writing.result_count));
+    }
+    if random.one_in(15) {
+        writing.task_count = random.pick(&[32, 33, 40, 256, 65535]);
+        writing.rows.resize(32, Record::default());
+    }
+    writing
+}

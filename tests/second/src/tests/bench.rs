@@ -1,0 +1,123 @@
+//! "Bench settings to try" with document 01's answers.
+
+use super::{plan_of, quick_of, refused, step_of, HALF_SPRING};
+use crate::call::{Settings, Table};
+use crate::definition::finder::{distinct_positive_saturation_steps, shares_at};
+use crate::definition::kinds::{Policy, Record};
+use crate::definition::margin::margin;
+use crate::definition::policy::passes;
+use crate::definition::program::program;
+use crate::definition::reader::read;
+use crate::definition::share::{full_compression, springs};
+use crate::generator::bench::{case_l, cases};
+use crate::generator::sheets::sheet_of;
+
+fn case(letter: char) -> Table {
+    let found = cases().into_iter().find(|(name, _)| *name == letter);
+    found.expect("a case of that letter").1
+}
+
+/// The step, the periods and the looks of a case under a policy with a formula.
+fn expect(letter: char, step: u32, periods: &[u32], looks: u16) {
+    let table = case(letter);
+    assert_eq!(step_of(&table), Ok(step), "case {letter}");
+    assert_eq!(quick_of(&table), (Ok(step), looks), "case {letter}");
+    assert_eq!(plan_of(&table), (periods.to_vec(), vec![0; periods.len()]), "case {letter}");
+}
+
+#[test]
+fn cases_with_steps_periods_and_looks() {
+    expect('A', 0, &[], 1);
+    expect('B', 100, &[12, 12], 2);
+    expect('C', 100, &[10, 16], 2);
+    expect('D', 146, &[11, 14], 3);
+    expect('E', 100, &[12, 12, 12], 2);
+    expect('F', 267, &[19, 19, 19], 2);
+    expect('G', 0, &[10], 1);
+    expect('J', 500_000, &[2, 2], 2);
+}
+
+#[test]
+fn case_d_saturates_at_55_and_400() {
+    let steps = distinct_positive_saturation_steps(&case('D').question());
+    assert_eq!(steps.into_iter().collect::<Vec<_>>(), [55, 400]);
+}
+
+#[test]
+fn case_g_has_margin_0_at_step_0() {
+    assert_eq!(margin(&case('G').question(), 0), Ok(0));
+}
+
+#[test]
+fn case_h_is_step_267() {
+    assert_eq!(step_of(&case('H')), Ok(267));
+    assert_eq!(quick_of(&case('H')).0, Ok(267));
+}
+
+#[test]
+fn case_i_is_refused_7_with_the_sum_1000002() {
+    let table = case('I');
+    assert_eq!(step_of(&table), refused(7, 0));
+    assert_eq!(quick_of(&table), (refused(7, 0), 1));
+    assert_eq!(shares_at(&springs(&table.rows), 0), [333_334; 3]);
+    assert_eq!(margin(&table.question(), 0), Ok(-2));
+}
+
+#[test]
+fn case_j_has_the_greatest_full_compression() {
+    assert_eq!(full_compression(&springs(&case('J').rows)), 999_999);
+}
+
+#[test]
+fn case_k_passes_at_5_and_6_only() {
+    let table = case('K');
+    let springs = springs(&table.rows);
+    assert_eq!(full_compression(&springs), 15);
+    let passing = |step: &u32| passes(Policy::FirstFit, 3, &shares_at(&springs, *step));
+    assert_eq!((0..=15).filter(passing).collect::<Vec<_>>(), [5, 6]);
+    assert_eq!(step_of(&table), Ok(5));
+    let (periods, processors) = plan_of(&table);
+    assert_eq!(periods, [4286, 1000, 1000, 1000, 1000, 1000, 1000]);
+    assert_eq!(processors, [1, 2, 2, 3, 1, 2, 3]);
+}
+
+#[test]
+fn case_l_limits() {
+    let answers: Vec<_> = case_l().iter().map(step_of).collect();
+    let expected = [Ok(0), refused(3, 33), Ok(0), refused(6, 0), Ok(0), refused(2, 0)];
+    assert_eq!(answers, expected);
+    let sheets: Vec<_> = case_l().iter().map(|table| read(&sheet_of(table)).err()).collect();
+    let expected = [None, refused::<()>(3, 6).err(), None, None, None, None];
+    assert_eq!(sheets, expected);
+}
+
+#[test]
+fn the_whole_case_of_the_program() {
+    let input =
+        bytes("02 00 01 00 01 00 01 00 06 00 00 00 0A 00 00 00 14 00 00 00 E8 03 00 00 00 00");
+    let mut expected = input[..input.len() - 2].to_vec();
+    expected.extend(bytes("01 00 0A 00 00 00 00 00"));
+    assert_eq!(program(&input), expected);
+    assert_eq!(program(&expected), expected);
+}
+
+fn bytes(hex: &str) -> Vec<u8> {
+    hex.split(' ').map(|byte| u8::from_str_radix(byte, 16).expect("hex")).collect()
+}
+
+#[test]
+fn case_b_by_a_further_choice_is_the_same() {
+    let settings = Settings { number: 1, further: true, m: 1 };
+    let table = Table { settings, count: 2, rows: vec![HALF_SPRING; 2] };
+    assert_eq!(quick_of(&table), (Ok(100), 2));
+}
+
+#[test]
+fn a_record_of_the_bench_is_good_and_one_over_is_not() {
+    assert!(Record::new(1, 1, 1_000_000_000, 1_000_000).is_good());
+    assert!(!Record::new(1, 1, 1_000_000_001, 1_000_000).is_good());
+    assert!(!Record::new(1, 1, 1_000_000_000, 1_000_001).is_good());
+    assert!(!Record::new(0, 1, 1, 0).is_good());
+    assert!(!Record::new(2, 1, 2, 0).is_good());
+    assert!(!Record::new(1, 2, 1, 0).is_good());
+}

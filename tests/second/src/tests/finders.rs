@@ -1,0 +1,132 @@
+//! The small readings about finders and margin.
+
+use super::{quick_of, refused, step_of, HALF_SPRING};
+use crate::call::{Settings, Table};
+use crate::definition::finder::{plain, quick};
+use crate::definition::kinds::Record;
+use crate::definition::margin::margin;
+use crate::definition::share::{halved_period, stepped_period};
+
+fn counted(number: u16, m: u16, count: u16) -> Table {
+    let rows = vec![HALF_SPRING; usize::from(count).min(32)];
+    Table { settings: Settings::new(number, m), count, rows }
+}
+
+#[test]
+fn the_place_of_refusal_3_is_the_count() {
+    for count in [33, 34, 40, 65535] {
+        let table = counted(1, 1, count);
+        assert_eq!(step_of(&table), refused(3, u32::from(count)));
+        assert_eq!(quick_of(&table), (refused(3, u32::from(count)), 0));
+        assert_eq!(margin(&table.question(), 0), refused(3, u32::from(count)));
+    }
+}
+
+#[test]
+fn either_output_short_gives_the_count_and_keeps_both() {
+    let table = counted(1, 1, 2);
+    for (first, second) in [(1, 2), (2, 1), (0, 0), (1, 40)] {
+        let (mut periods, mut processors) = (vec![77; first], vec![7; second]);
+        let answer = plain(&table.question(), &mut periods, &mut processors);
+        assert_eq!(answer, refused(5, 2));
+        let answer = quick(&table.question(), &mut periods, &mut processors);
+        assert_eq!(answer, (refused(5, 2), 0));
+        assert_eq!((periods, processors), (vec![77; first], vec![7; second]));
+    }
+}
+
+#[test]
+fn an_accepted_call_writes_no_further_than_needed() {
+    let (mut periods, mut processors) = (vec![77; 4], vec![7; 3]);
+    let answer = plain(&counted(1, 1, 2).question(), &mut periods, &mut processors);
+    assert_eq!(answer, Ok(100));
+    assert_eq!((periods, processors), (vec![12, 12, 77, 77], vec![0, 0, 7]));
+}
+
+#[test]
+fn refusal_7_keeps_both_outputs() {
+    let table = Table::new(1, 1, &[Record::new(1, 1, 1, 0); 2]);
+    let (mut periods, mut processors) = (vec![77; 2], vec![7; 2]);
+    assert_eq!(plain(&table.question(), &mut periods, &mut processors), refused(7, 0));
+    assert_eq!((periods, processors), (vec![77; 2], vec![7; 2]));
+}
+
+#[test]
+fn a_short_output_comes_before_a_bad_record() {
+    let table = Table::new(1, 1, &[Record::new(0, 0, 0, 0)]);
+    assert_eq!(plain(&table.question(), &mut [], &mut [0]), refused(5, 1));
+    assert_eq!(step_of(&table), refused(6, 0));
+}
+
+#[test]
+fn the_first_bad_record_is_the_place() {
+    let bad = Record::new(11, 10, 20, 0);
+    assert_eq!(step_of(&Table::new(1, 1, &[HALF_SPRING, bad, HALF_SPRING, bad])), refused(6, 1));
+}
+
+#[test]
+fn policy_4_asked_of_quick_finder_or_margin() {
+    for (table, number, place) in
+        [(counted(4, 0, 1), 2, 0), (counted(4, 1, 33), 3, 33), (counted(4, 1, 1), 4, 0)]
+    {
+        assert_eq!(quick(&table.question(), &mut [], &mut []), (refused(number, place), 0));
+        assert_eq!(margin(&table.question(), 0), refused(number, place));
+    }
+}
+
+#[test]
+fn a_further_choice_of_1_to_4_means_that_policy() {
+    for number in 1..=4 {
+        let read = Table::new(number, 2, &[HALF_SPRING; 3]);
+        let mut further = read.clone();
+        further.settings.further = true;
+        assert_eq!(step_of(&further), step_of(&read));
+        assert_eq!(quick_of(&further), quick_of(&read));
+        assert_eq!(margin(&further.question(), 9), margin(&read.question(), 9));
+    }
+    for number in [0, 5, 65535] {
+        assert_eq!(step_of(&counted(number, 0, 33)), refused(1, 0));
+    }
+}
+
+#[test]
+fn the_margin_of_policy_3_is_in_the_printed_units() {
+    // shares 600,000 twice, m = 1: 1,000,000 + 1,200,000 − (2,400,000 + 600,000)
+    assert_eq!(margin(&Table::new(3, 1, &[HALF_SPRING; 2]).question(), 0), Ok(-800_000));
+    // at the last step both are at their least share: 1,000,000 + 600,000 − (1,200,000 + 300,000)
+    assert_eq!(margin(&Table::new(3, 1, &[HALF_SPRING; 2]).question(), u32::MAX), Ok(100_000));
+}
+
+#[test]
+fn looks_of_refusals_and_of_saturation_steps_of_0() {
+    // no positive saturation step, and step 0 fails
+    let rigid = Record::new(10, 10, 10, 1000);
+    assert_eq!(quick_of(&Table::new(1, 1, &[rigid; 2])), (refused(7, 0), 1));
+    // two tasks tied at one saturation step, and a third at another
+    let (short, long) = (Record::new(10, 10, 11, 1000), Record::new(10, 10, 12, 1000));
+    assert_eq!(quick_of(&Table::new(1, 1, &[short, long, short])), (refused(7, 0), 3));
+}
+
+#[test]
+fn an_answer_on_a_saturation_step_counts_the_steps_below_it_only() {
+    // case D's first task saturates at 55; the others leave room for just its least share
+    let table = Table::new(
+        1,
+        1,
+        &[Record::new(6, 10, 11, 1000), Record::new(454_545, 1_000_000, 1_000_000, 0)],
+    );
+    assert_eq!(quick_of(&table), (Ok(55), 2));
+}
+
+#[test]
+fn stepping_and_halving_find_the_same_period() {
+    for (c, tmin, tmax) in [(6, 10, 20), (1, 1, 100_000), (3000, 4000, 5000), (7, 7, 90_001)] {
+        let record = Record::new(c, tmin, tmax, 1);
+        let least = (u64::from(c) * 1_000_000).div_ceil(u64::from(tmax));
+        for share in [least, least + 1, (least + 1_000_000) / 2, 999_999, 1_000_000] {
+            if share >= least {
+                assert_eq!(stepped_period(record, share), halved_period(record, share));
+            }
+        }
+    }
+}

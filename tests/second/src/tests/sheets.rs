@@ -1,0 +1,125 @@
+//! The small readings about reader, writer, change-over and program.
+
+use super::{refused, HALF_SPRING};
+use crate::call::Table;
+use crate::definition::change_over::{change_over, Part, Which};
+use crate::definition::kinds::{Policy, Record, Sheet};
+use crate::definition::program::program;
+use crate::definition::reader::read;
+use crate::definition::writer::write;
+use crate::generator::sheets::{made_up_results, sheet_of, Raw};
+
+fn two_tasks() -> Vec<u8> {
+    sheet_of(&Table::new(1, 1, &[HALF_SPRING; 2]))
+}
+
+fn full() -> Raw {
+    Raw::honest(&Table::new(1, 16, &[Record::new(1, 40, 80, 1000); 32]), &made_up_results(32))
+}
+
+#[test]
+fn a_count_is_judged_as_soon_as_its_two_bytes_are_there() {
+    assert_eq!(read(&[]), refused(8, 0));
+    assert_eq!(read(&[3]), refused(8, 1));
+    assert_eq!(read(&[3, 0]), refused(9, 0));
+    assert_eq!(read(&[2, 0]), refused(8, 2));
+    assert_eq!(read(&[2, 0, 0, 0, 0, 0, 33]), refused(8, 7));
+    assert_eq!(read(&[2, 0, 0, 0, 0, 0, 33, 0]), refused(3, 6));
+    assert_eq!(read(&[2, 0, 0, 0, 0, 0, 0, 0, 1]), refused(8, 9));
+    assert_eq!(read(&[2, 0, 0, 0, 0, 0, 0, 0, 1, 0]), refused(10, 8));
+    assert_eq!(read(&[2, 0, 0, 0, 0, 0, 0, 0, 0, 0, 0]), refused(11, 10));
+}
+
+#[test]
+fn every_truncation_is_refused_8_at_its_length() {
+    let bytes = full().bytes();
+    assert_eq!(bytes.len(), Sheet::MOST_BYTES);
+    for length in 0..bytes.len() {
+        assert_eq!(read(&bytes[..length]), refused(8, length as u32));
+    }
+    assert!(read(&bytes).is_ok());
+}
+
+#[test]
+fn the_reader_keeps_a_strange_policy_and_judges_no_record() {
+    let sheet =
+        read(&sheet_of(&Table::new(77, 999, &[Record::new(0, 0, 0, u32::MAX)]))).expect("read");
+    assert_eq!((sheet.policy, sheet.m), (Policy::Further(77), 999));
+    assert_eq!(sheet.rows[0], Record::new(0, 0, 0, u32::MAX));
+    assert_eq!(sheet.rows[1..], Sheet::zeros().rows[1..]);
+}
+
+#[test]
+fn what_is_read_is_written_back() {
+    for bytes in [two_tasks(), full().bytes(), sheet_of(&Table::new(65535, 0, &[]))] {
+        let mut buffer = vec![0xEE; bytes.len() + 3];
+        let written = write(&read(&bytes).expect("read"), &mut buffer);
+        assert_eq!(written, Ok(bytes.len() as u16));
+        assert_eq!(buffer, [bytes, vec![0xEE; 3]].concat());
+    }
+}
+
+#[test]
+fn the_writer_gives_3_then_10_then_5() {
+    let mut sheet = Sheet::zeros();
+    (sheet.task_count, sheet.result_count) = (40, 7);
+    assert_eq!(write(&sheet, &mut []), refused(3, 40));
+    sheet.task_count = 5;
+    assert_eq!(write(&sheet, &mut []), refused(10, 0));
+    sheet.result_count = 5;
+    let mut buffer = [0xEE; 119];
+    assert_eq!(write(&sheet, &mut buffer), refused(5, 120));
+    assert_eq!(buffer, [0xEE; 119]);
+    assert_eq!(write(&sheet, &mut [0xEE; 120]), Ok(120));
+    assert_eq!(write(&Sheet::zeros(), &mut [0; 10]), Ok(10));
+}
+
+#[test]
+fn a_change_over_is_a_part_of_a_lent_sheet() {
+    let good = two_tasks();
+    let bad = sheet_of(&Table::new(1, 1, &[Record::new(10, 10, 10, 0); 2]));
+    let empty = sheet_of(&Table::new(1, 1, &[]));
+    let part = |which, offset, length| Part { which, offset, length };
+    assert_eq!(change_over(&bad, &good), part(Which::Proposed, 8, 32));
+    assert_eq!(change_over(&good, &bad), part(Which::Standing, 8, 32));
+    assert_eq!(change_over(&good, &good[..41]), part(Which::Standing, 8, 32));
+    assert_eq!(change_over(&good, &empty), part(Which::Proposed, 8, 0));
+    assert_eq!(change_over(&bad, &bad), part(Which::Standing, 0, 0));
+    assert_eq!(change_over(&[], &[]), part(Which::Standing, 0, 0));
+    assert_eq!(change_over(&bad, &good).of(&bad, &good), &good[8..40]);
+}
+
+#[test]
+fn the_program_refuses_in_a_line() {
+    assert_eq!(program(&[]), b"refused 8 at 0\n");
+    assert_eq!(program(&two_tasks()[..33]), b"refused 8 at 33\n");
+    assert_eq!(program(&sheet_of(&Table::new(5, 1, &[]))), b"refused 1 at 0\n");
+    let bad = Record::new(0, 1, 1, 0);
+    assert_eq!(program(&sheet_of(&Table::new(1, 1, &[HALF_SPRING, bad]))), b"refused 6 at 1\n");
+}
+
+#[test]
+fn the_program_and_more_than_714_bytes() {
+    let longer = |raw: Raw, length: usize| {
+        let mut bytes = raw.bytes();
+        bytes.resize(length, 0);
+        program(&bytes)
+    };
+    for length in [715, 800, 70_000] {
+        assert_eq!(longer(full(), length), b"refused 11 at 714\n");
+        let without_results = Raw { result_count: 0, results: vec![], ..full() };
+        assert_eq!(longer(without_results, length), b"refused 11 at 522\n");
+        assert_eq!(longer(Raw { task_count: 33, ..full() }, length), b"refused 3 at 6\n");
+        assert_eq!(longer(Raw { result_count: 31, ..full() }, length), b"refused 10 at 520\n");
+    }
+}
+
+#[test]
+fn the_program_replaces_older_results() {
+    let table = Table::new(1, 1, &[HALF_SPRING; 2]);
+    let with_older = Raw::honest(&table, &made_up_results(2)).bytes();
+    let output = program(&two_tasks());
+    assert_eq!(program(&with_older), output);
+    assert_eq!(program(&output), output);
+    assert_eq!(read(&output).expect("read").results[1].period, 12);
+}

@@ -1,0 +1,112 @@
+//! The stream: its lengths and places, and what the calls of a seed reach.
+
+use super::HALF_SPRING;
+use crate::answer::answer;
+use crate::call::{framed, Call, Rooms, Settings, Table, Writing, MOST_PAYLOAD};
+use crate::generator::Calls;
+use std::collections::BTreeSet;
+
+#[test]
+fn a_plain_call_and_its_answer_byte_by_byte() {
+    let table = Table {
+        settings: Settings { number: 1, further: true, m: 1 },
+        count: 2,
+        rows: vec![HALF_SPRING; 2],
+    };
+    let call = Call::Plain(table, Rooms { periods: 2, processors: 3 });
+    let row = [6, 0, 0, 0, 10, 0, 0, 0, 20, 0, 0, 0, 0xE8, 3, 0, 0];
+    let head = [1, 1, 0, 1, 1, 0, 2, 0, 2, 3];
+    assert_eq!(call.payload(), [&head[..], &row, &row].concat());
+    let expected = [0, 0, 0, 0, 0, 100, 0, 0, 0, 12, 0, 0, 0, 12, 0, 0, 0, 0, 0, 0, 0, 0x5A, 0x5A];
+    assert_eq!(answer(&call), expected);
+    assert_eq!(framed(&answer(&call))[..2], [23, 0]);
+}
+
+#[test]
+fn a_margin_is_8_bytes_in_twos_complement() {
+    let call = Call::Margin(Table::new(1, 1, &[HALF_SPRING; 2]), 99);
+    // 2 × 501,000 is 2,000 parts too many
+    assert_eq!(answer(&call)[5..], (-2_000_i64).to_le_bytes());
+}
+
+#[test]
+fn a_written_sheet_stands_before_sentinels() {
+    let writing = Writing {
+        settings: Settings { number: 3, further: true, m: 258 },
+        task_count: 0,
+        result_count: 0,
+        room: 12,
+        rows: vec![],
+        results: vec![],
+    };
+    let expected = [0, 0, 0, 0, 0, 10, 0, 2, 0, 3, 0, 2, 1, 0, 0, 0, 0, 0xEE, 0xEE];
+    assert_eq!(answer(&Call::Write(writing)), expected);
+}
+
+#[test]
+fn the_rows_present_are_those_of_the_count_and_at_most_32() {
+    let calls = Calls::of_seed(3);
+    for index in 0..4_000 {
+        let call = calls.call(index);
+        assert!(call.payload().len() <= MOST_PAYLOAD);
+        match call {
+            Call::Plain(table, rooms) | Call::Quick(table, rooms) => {
+                assert_eq!(table.rows.len(), usize::from(table.count).min(32));
+                assert!(rooms.periods <= 40 && rooms.processors <= 40);
+            }
+            Call::Margin(table, _) => {
+                assert_eq!(table.rows.len(), usize::from(table.count).min(32))
+            }
+            Call::Write(writing) => {
+                assert_eq!(writing.rows.len(), usize::from(writing.task_count).min(32));
+                assert_eq!(writing.results.len(), usize::from(writing.result_count).min(32));
+            }
+            Call::Program(input) => assert!(input.len() <= 800),
+            Call::Read(_) | Call::ChangeOver { .. } => {}
+        }
+    }
+}
+
+#[test]
+fn a_call_hangs_on_seed_and_index_only() {
+    let (one, again, other) = (Calls::of_seed(8), Calls::of_seed(8), Calls::of_seed(9));
+    let from = one.fixed_count();
+    assert!((0..from + 200).rev().all(|index| one.call(index) == again.call(index)));
+    assert!((from..from + 200).any(|index| one.call(index) != other.call(index)));
+}
+
+/// The number of an answer whose first byte it is, or the digits of a program's line.
+fn number_of(call: &Call, answer: &[u8]) -> u8 {
+    match call {
+        Call::Program(_) => match answer.strip_prefix(b"refused ") {
+            Some(rest) => rest
+                .iter()
+                .take_while(|byte| **byte != b' ')
+                .fold(0, |n, digit| 10 * n + digit - b'0'),
+            None => 0,
+        },
+        _ => answer[0],
+    }
+}
+
+#[test]
+fn the_first_3000_calls_reach_every_number_that_a_call_can_give() {
+    let calls = Calls::of_seed(1);
+    let mut reached = vec![BTreeSet::new(); 8];
+    for index in 0..3_000 {
+        let call = calls.call(index);
+        reached[usize::from(call.kind())].insert(number_of(&call, &answer(&call)));
+    }
+    let expected: [&[u8]; 7] = [
+        &[0, 1, 2, 3, 5, 6, 7],
+        &[0, 1, 2, 3, 4, 5, 6, 7],
+        &[0, 1, 2, 3, 4, 6],
+        &[0, 3, 8, 9, 10, 11],
+        &[0, 3, 5, 10],
+        &[0, 1],
+        &[0, 1, 2, 3, 6, 7, 8, 9, 10, 11],
+    ];
+    for (index, numbers) in expected.iter().enumerate() {
+        assert_eq!(reached[index + 1], numbers.iter().copied().collect(), "kind {}", index + 1);
+    }
+}
