@@ -26,12 +26,12 @@ use Rattle.sheet.specs.Reading.{sheetIn, readSheet, handedBy, handedReading}
 use Rattle.sheet.proofs.Whole.{whole}
 use Rattle.sheet.proofs.Numbered.{accepted-by-number}
 use Rattle.change_over.specs.declared.Section.the-variants.{Tasks, Nothing}
-use Rattle.change_over.specs.ChangeOver.{serves, sectionOf}
+use Rattle.change_over.specs.ChangeOver.{acceptable, sectionOf}
 
 module _ (s : List ℕ) (r : Reading) (read : handedReading r ≡ readSheet s) where
   -- a sheet that does not read
   pub unread : (q : Refusal) → r .verdict ≡ verdict.Refused q → Nothing ≡ sectionOf s
-  unfolding sectionOf serves
+  unfolding sectionOf acceptable
   unread q v =
       let e : refused (r .sheet) q ≡ readSheet s = ap (λ (w : Verdict). handedBy w (r .sheet)) (sym v) ∙ read in
       rw (← e, ne-eqb (numberOf q) 0 (λ z. omega (arith, refusal-numbered q)))
@@ -42,26 +42,26 @@ module _ (s : List ℕ) (r : Reading) (read : handedReading r ≡ readSheet s) w
 
     -- one that reads, by what the plain finder answers
     answered : (a : Answer) → handed a ≡ asked (r .sheet) → pick (isAccepted a) (Tasks (r .sheet .table .n)) Nothing ≡ sectionOf s
-    unfolding sectionOf serves
+    unfolding sectionOf acceptable
     answered (answer.Accepted k) e = rw (← reads, ← e)
     answered (answer.Refused q) e = rw (← reads, ← e, ne-eqb (numberOf q) 0 (λ z. omega (arith, refusal-numbered q)))
 
     module _ (a : Answer) (e : handed a ≡ asked (r .sheet)) (b : Bool) (is : b ≡ isAccepted a) where
       pub accepts : b ≡ true → Tasks (r .sheet .table .n) ≡ sectionOf s
-      accepts t = (rw (sym is ∙ t) at (answered a e))
+      accepts t = rw (sym is ∙ t) at (answered a e)
 
       pub refuses : b ≡ false → Nothing ≡ sectionOf s
-      refuses t = (rw (sym is ∙ t) at (answered a e))
+      refuses t = rw (sym is ∙ t) at (answered a e)
 
 picked : (test : Bool) (m n : ℕ) → pick test (Tasks m) Nothing ≡ Tasks n → (test ≡ true) × (m ≡ n)
 picked true m n e = (refl, cc)
 picked false m n e = absurd (let z : _≡_ {A = ℕ} 0 1 = cc in omega arith)
 
--- the records of a sheet that serves stand in it
+-- the records of an acceptable sheet stand in it
 pub section-fits : (s : List ℕ) (n : ℕ) → sectionOf s ≡ Tasks n → (n ≤ mostTasks) × (resultsPlace n ≤ length s)
-unfolding sectionOf serves sheetIn
+unfolding sectionOf acceptable sheetIn
 section-fits s n e =
-    let p = picked (serves s) (readSheet s .value .table .n) n e in
+    let p = picked (acceptable s) (readSheet s .value .table .n) n e in
     let read = accepted-by-number s (eqb-true (readSheet s .number) 0 (both-true _ _ (p .0) .0)) in
     let w = whole s (readSheet s .value) read in
     let is : readSheet s .value .table .n ≡ n = p .1 in

@@ -14,12 +14,12 @@ use Rattle.change_over.specs.declared.Section.{Section}
 use Rattle.change_over.specs.declared.Section.the-variants.{Tasks, Nothing}
 
 -- "if it reads and the plain finder accepts it": number 0 from both
-unfoldable pub serves : List ℕ → Bool
-serves s = both (eqb (readSheet s .number) 0) (eqb (asked (readSheet s .value) .number) 0)
+unfoldable pub acceptable : List ℕ → Bool
+acceptable s = both (eqb (readSheet s .number) 0) (eqb (asked (readSheet s .value) .number) 0)
 
--- how many tasks such a sheet has
+-- how many tasks an acceptable sheet has
 unfoldable pub sectionOf : List ℕ → Section
-sectionOf s = pick (serves s) (Tasks (readSheet s .value .table .n)) Nothing
+sectionOf s = pick (acceptable s) (Tasks (readSheet s .value .table .n)) Nothing
 
 -- the two lent sheets
 pub data Which : Type 0 where
@@ -32,7 +32,7 @@ pub record Part : Type 0 where
   pub from : ℕ
   pub size : ℕ
 
--- "the task section (records only)" of a sheet that serves, else another part
+-- "the task section (records only)" of an acceptable sheet, else another part
 abbrev pub tasksOr : Which → Section → Part → Part
 tasksOr which (Tasks n) other = record { which = which; from = recordsPlace; size = taskSize * n }
 tasksOr which Nothing other = other

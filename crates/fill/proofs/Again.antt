@@ -7,7 +7,7 @@ use native.Mathlib.Omega.{arith}
 use Rattle.kinds.specs.declared.Sheet.{Sheet}
 use Rattle.kinds.specs.declared.Refusal.the-variants.{NotTwoSettings}
 use Rattle.kinds.specs.Limits.{mostTasks}
-use Rattle.kinds.specs.Answer.{Handed, accepted}
+use Rattle.kinds.specs.Answer.{accepted}
 use Rattle.plain.specs.Asked.{asked}
 use Rattle.field.specs.Number.{Bytes, numberAt}
 use Rattle.sheet.specs.Reading.{noSheet, sheetIn, readSheet}
@@ -18,18 +18,13 @@ use Rattle.writer.specs.Canonical.{canonical}
 use Rattle.writer.proofs.Forth.{forth}
 use Rattle.writer.proofs.RoundTrip.{canonical-same, same-canonical, read-canonical}
 use Rattle.fill.specs.Results.{resultsOf, withPlan}
-use Rattle.fill.specs.Fill.{refusalLine, orLine, filledSheet, filled}
+use Rattle.fill.specs.Fill.{refusalLine, filledSheet, filled}
 use Rattle.fill.proofs.Lines.{line-long}
-use Rattle.fill.proofs.Plans.{plan-fits}
+use Rattle.fill.proofs.Plans.{filled-planned, plan-fits}
 use Rattle.fill.proofs.Readings.{filled-refused, filled-accepted}
 use Rattle.fill.proofs.Held.{plan-room, plan-unused, planned-held}
 
--- a sheet that the plain finder accepts is written with its plan
-filled-planned : (x : Sheet) (k : ℕ) → asked x ≡ accepted k → filledSheet x ≡ encode (withPlan x k)
-unfolding filledSheet
-filled-planned x k e = ap (λ (h : Handed ℕ). orLine h (λ j. encode (withPlan x j))) e
-
--- and planning it again changes nothing
+-- planning a sheet again changes nothing
 planned-again : (x : Sheet) (k : ℕ) → asked x ≡ accepted k → filledSheet (withPlan x k) ≡ encode (withPlan x k)
 unfolding withPlan asked
 planned-again x k e = filled-planned (withPlan x k) k e

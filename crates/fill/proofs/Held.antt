@@ -34,13 +34,16 @@ use Rattle.sheet.specs.Reading.{taskCount, settingsIn, sheetIn}
 use Rattle.sheet.proofs.Padding.{padded-long, padded-in, padded-out}
 use Rattle.sheet.proofs.Whole.{Whole}
 use Rattle.writer.specs.Canonical.{grantedIn, TaskHeld, GrantedHeld, SheetHeld}
-use Rattle.fill.specs.Results.{entryAt, resultsOf, withPlan}
+use Rattle.fill.specs.Results.{entryAt, resultsOf, planPeriods, planProcessors, withPlan}
 
 -- a number of so many bytes
 number-held : (s : List ℕ) → Bytes s → (size place : ℕ) → numberAt size s place < limit size
 unfolding numberAt
 number-held s bytes zero place = omega arith
 number-held s bytes (suc size) place = omega (arith, bytes place, number-held s bytes size (place + 1))
+
+list-in : (f : ℕ → ℕ) (n i : ℕ) → i < n → getD (listTo f n) i 0 ≡ f i
+list-in f n i l = rw (append-nil (listTo f n)) at (list-at f n i [] l)
 
 -- what holds of each row that is used, and of an unused place, holds at each number
 rows-held : {A : Type 0} (P : A → Type 0) (none : A) (f : ℕ → A) (n : ℕ) → n ≤ mostTasks → P none → ((i : ℕ) → i < n → P (f i)) → (i : ℕ) → P (getD (padded none f n) i none)
@@ -49,9 +52,7 @@ rows-held P none f n few unused used i =
 
 -- the results of a plan, and the unused places after them
 abbrev planAt : Sheet → ℕ → ℕ → Granted
-planAt x k =
-    entryAt (periodsAt (x .table .rows) (x .table .n) k)
-    (processorsAt (meant (x .settings .policy)) (x .settings .m) (x .table .rows) (x .table .n) k)
+planAt x k = entryAt (planPeriods x k) (planProcessors x k)
 
 pub plan-room : (x : Sheet) (k : ℕ) → length (withPlan x k .results .rows) ≡ mostTasks
 unfolding withPlan resultsOf
@@ -66,13 +67,12 @@ module _ (x : Sheet) (k : ℕ) (few : x .table .n ≤ mostTasks) (e : asked x �
   unfolding asked
   accepts = accepting true (x .settings) (x .table .rows) (x .table .n) (x .table .n) k (sym e)
 
-  period-held : (i : ℕ) → i < x .table .n → getD (periodsAt (x .table .rows) (x .table .n) k) i 0 < limit 4
+  period-held : (i : ℕ) → i < x .table .n → getD (planPeriods x k) i 0 < limit 4
   unfolding periodsAt
   period-held i l =
       let f : ℕ → ℕ = λ j. periodAt (at (x .table .rows) j) k in
-      let is : getD (listTo f (x .table .n)) i 0 ≡ f i = rw (append-nil (listTo f (x .table .n))) at (list-at f (x .table .n) i [] l) in
       let good = all-good (x .table .rows) (x .table .n) (accepts .ready .none-bad) i l in
-      rw is (omega (arith, period-is (at (x .table .rows) i) good k (f i) refl .most))
+      rw (list-in f (x .table .n) i l) (omega (arith, period-is (at (x .table .rows) i) good k (f i) refl .most))
 
   place-held : (i : ℕ) → i < x .table .n → processorAt (meant (x .settings .policy)) (x .settings .m) (x .table .rows) k i < limit 2
   place-held i l =
@@ -85,12 +85,11 @@ module _ (x : Sheet) (k : ℕ) (few : x .table .n ≤ mostTasks) (e : asked x �
       rw first (omega (arith, placed, accepts .ready .passed .m-most)))
       (λ other. rw other (omega arith))
 
-  processor-held : (i : ℕ) → i < x .table .n → getD (processorsAt (meant (x .settings .policy)) (x .settings .m) (x .table .rows) (x .table .n) k) i 0 < limit 2
+  processor-held : (i : ℕ) → i < x .table .n → getD (planProcessors x k) i 0 < limit 2
   unfolding processorsAt
   processor-held i l =
       let f = processorAt (meant (x .settings .policy)) (x .settings .m) (x .table .rows) k in
-      let is : getD (listTo f (x .table .n)) i 0 ≡ f i = rw (append-nil (listTo f (x .table .n))) at (list-at f (x .table .n) i [] l) in
-      rw is (place-held i l)
+      rw (list-in f (x .table .n) i l) (place-held i l)
 
   pub results-held : (i : ℕ) → GrantedHeld (grantedIn (withPlan x k) i)
   unfolding withPlan resultsOf

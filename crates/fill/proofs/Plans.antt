@@ -17,7 +17,6 @@ use Rattle.kinds.specs.declared.Refusal.{Refusal}
 use Rattle.kinds.specs.declared.Answer.{Answer}
 use Rattle.kinds.specs.declared.Answer.the-variants as answer
 use Rattle.kinds.specs.Limits.{mostTasks}
-use Rattle.kinds.specs.Policy.{meant}
 use Rattle.kinds.specs.Refusal.{numberOf, placeOf}
 use Rattle.kinds.specs.Answer.{Handed, accepted, handed}
 use Rattle.kinds.proofs.Answers.{not-refused}
@@ -33,7 +32,7 @@ use Rattle.writer.specs.Encode.{encode, lengthOf}
 use Rattle.writer.specs.Writing.{writeSheet, Writes}
 use Rattle.writer.proofs.Rows.{encode-long}
 use Rattle.writer.proofs.Answers.{accepts, write-accepts, accepted-after}
-use Rattle.fill.specs.Results.{entryAt, resultsOf, withPlan}
+use Rattle.fill.specs.Results.{entryAt, resultsOf, planPeriods, planProcessors, withPlan}
 use Rattle.fill.specs.Fill.{longestSheet, refusalLine, orLine, filledSheet, Fronts}
 use Rattle.fill.proofs.Fronts.{fronts}
 use Rattle.fill.proofs.Lines.{line-of}
@@ -50,6 +49,11 @@ module _ (periods processors : List ℕ) (rows : List Granted) (i : ℕ) (is : r
 -- a sheet with other results
 abbrev pub withResults : Sheet → Results → Sheet
 withResults x r = record { settings = x .settings; table = x .table; results = r }
+
+-- a sheet that the plain finder accepts is written with its plan
+pub filled-planned : (x : Sheet) (k : ℕ) → asked x ≡ accepted k → filledSheet x ≡ encode (withPlan x k)
+unfolding filledSheet
+filled-planned x k e = ap (λ (h : Handed ℕ). orLine h (λ j. encode (withPlan x j))) e
 
 -- a sheet with a plan counts its tasks twice
 pub plan-fits : (n : ℕ) → resultsFit n n ≡ true
@@ -68,27 +72,20 @@ module _ (x : Sheet) (few : x .table .n ≤ mostTasks) (ps qs ps′ qs′ : List
   plan-refused q e = ap (λ (h : Handed ℕ). orLine h (λ k. encode (withPlan x k))) (sym answers ∙ ap handed e) ∙ line-of 0 q (λ k. encode (withPlan x k))
 
   module _ (k : ℕ) (e : a ≡ answer.Accepted k) where
-    accepts-at : asked x ≡ accepted k
-    accepts-at = sym answers ∙ ap handed e
-
-    pub plan-filled : filledSheet x ≡ encode (withPlan x k)
-    unfolding filledSheet
-    plan-filled = rw accepts-at
-
     -- what stands in the outputs
-    periods-are : ps′ ≡ periodsAt (x .table .rows) (x .table .n) k ++ drop (x .table .n) ps
+    periods-are : ps′ ≡ planPeriods x k ++ drop (x .table .n) ps
     unfolding outcome
     periods-are = m .grants ∙ ap (λ (h : Handed ℕ). periodsAfter h (x .table .rows) (x .table .n) ps) (sym (m .answers) ∙ ap handed e)
 
-    processors-are : qs′ ≡ processorsAt (meant (x .settings .policy)) (x .settings .m) (x .table .rows) (x .table .n) k ++ drop (x .table .n) qs
+    processors-are : qs′ ≡ planProcessors x k ++ drop (x .table .n) qs
     unfolding outcome
     processors-are = m .places ∙ ap (λ (h : Handed ℕ). processorsAfter h (x .settings) (x .table .rows) (x .table .n) qs) (sym (m .answers) ∙ ap handed e)
 
-    periods-long : length (periodsAt (x .table .rows) (x .table .n) k) ≡ x .table .n
+    periods-long : length (planPeriods x k) ≡ x .table .n
     unfolding periodsAt
     periods-long = list-long _ (x .table .n)
 
-    processors-long : length (processorsAt (meant (x .settings .policy)) (x .settings .m) (x .table .rows) (x .table .n) k) ≡ x .table .n
+    processors-long : length (planProcessors x k) ≡ x .table .n
     unfolding processorsAt
     processors-long = list-long _ (x .table .n)
 
@@ -99,11 +96,10 @@ module _ (x : Sheet) (few : x .table .n ≤ mostTasks) (ps qs ps′ qs′ : List
           let n = x .table .n in
           let rows =
           padded-cong noGranted (entryAt ps′ qs′)
-          (entryAt (periodsAt (x .table .rows) n k) (processorsAt (meant (x .settings .policy)) (x .settings .m) (x .table .rows) n k))
-          n few
+          (entryAt (planPeriods x k) (planProcessors x k)) n few
           (λ i l. ap₂ granted
-          (ap (λ (p : List ℕ). getD p i 0) periods-are ∙ List·getD-append (periodsAt (x .table .rows) n k) (drop n ps) 0 i (rw periods-long l))
-          (ap (λ (p : List ℕ). getD p i 0) processors-are ∙ List·getD-append (processorsAt (meant (x .settings .policy)) (x .settings .m) (x .table .rows) n k) (drop n qs) 0 i (rw processors-long l))) in
+          (ap (λ (p : List ℕ). getD p i 0) periods-are ∙ List·getD-append (planPeriods x k) (drop n ps) 0 i (rw periods-long l))
+          (ap (λ (p : List ℕ). getD p i 0) processors-are ∙ List·getD-append (planProcessors x k) (drop n qs) 0 i (rw processors-long l))) in
           ap (withResults x) is
           ∙ ap (λ (g : List Granted). withResults x (record { rows = g; n = n })) rows
 
@@ -122,7 +118,7 @@ module _ (x : Sheet) (few : x .table .n ≤ mostTasks) (ps qs ps′ qs′ : List
         plan-written b p =
             let a : writeSheet (withResults x r) (length old) ≡ accepted b = sym (p .answer) in
             let w = accepts (withResults x r) (length old) b a in
-            let fill : filledSheet x ≡ encode (withResults x r) = plan-filled ∙ ap encode (sym planned-is) in
+            let fill : filledSheet x ≡ encode (withResults x r) = filled-planned x k (sym answers ∙ ap handed e) ∙ ap encode (sym planned-is) in
             rw fill
             (fronts (encode (withResults x r)) old new b (w .is ∙ sym (encode-long (withResults x r))) (omega (arith, w .fits, w .is))
             (p .buffer ∙ (accepted-after (withResults x r) old b a ∙ ap (λ (n : ℕ). encode (withResults x r) ++ drop n old) (sym (w .is)))))

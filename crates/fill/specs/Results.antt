@@ -19,14 +19,18 @@ entryAt periods processors i = granted (getD periods i 0) (getD processors i 0)
 unfoldable pub resultsOf : List ℕ → List ℕ → ℕ → Results
 resultsOf periods processors n = record { rows = padded noGranted (entryAt periods processors) n; n = n }
 
--- document 01, "Program": "the sheet with results filled in from the plain finder, replacing older ones"; the plan is that of step k
+-- the periods and the processors of a sheet's plan at step k
+abbrev pub planPeriods : Sheet → ℕ → List ℕ
+planPeriods x k = periodsAt (x .table .rows) (x .table .n) k
+
+abbrev pub planProcessors : Sheet → ℕ → List ℕ
+planProcessors x k = processorsAt (meant (x .settings .policy)) (x .settings .m) (x .table .rows) (x .table .n) k
+
+-- document 01, "Program": "the sheet with results filled in from the plain finder, replacing older ones"
 unfoldable pub withPlan : Sheet → ℕ → Sheet
 withPlan x k =
     record {
       settings = x .settings;
       table = x .table;
-      results =
-          resultsOf (periodsAt (x .table .rows) (x .table .n) k)
-          (processorsAt (meant (x .settings .policy)) (x .settings .m) (x .table .rows) (x .table .n) k)
-          (x .table .n);
+      results = resultsOf (planPeriods x k) (planProcessors x k) (x .table .n);
     }
