@@ -23,7 +23,8 @@ impl Share {
     }
 }
 
-// A task record: cost C, shortest and longest period, elasticity E. Any numbers may stand in it.
+// A task record: cost C, shortest and longest period, elasticity E. Any numbers may stand in it. It is laid out as C lays it out.
+#[repr(C)]
 pub struct Task {
     pub c: u32,
     pub tmin: u32,

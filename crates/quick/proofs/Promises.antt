@@ -48,7 +48,7 @@ after-apart adm.the-variants.Admitted j k h = absurd (h refl)
 after-apart (adm.the-variants.Refused r) j k h = refl
 
 module _ (s : Settings) (xs ys : List Task) (n : ℕ) (same : n ≤ mostTasks → (i : ℕ) → i < n → at xs i ≡ at ys i) where
-  looks-agree : (room : ℕ) → looks s xs n room ≡ looks s ys n room
+  pub looks-agree : (room : ℕ) → looks s xs n room ≡ looks s ys n room
   unfolding looks
   looks-agree room =
       by-le n mostTasks

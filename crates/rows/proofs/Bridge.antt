@@ -20,7 +20,7 @@ use Rattle.walk.proofs.Padding.{padded-at}
 use Rattle.rows.specs.Gathered.{tableOf}
 
 -- the record number i of the table is the list's
-table-at : (rows : List Task) → length rows ≤ mostTasks → (i : ℕ) → at (tableOf rows .rows) i ≡ at rows i
+pub table-at : (rows : List Task) → length rows ≤ mostTasks → (i : ℕ) → at (tableOf rows .rows) i ≡ at rows i
 table-at rows few i = padded-at noTask mostTasks rows few i
 
 pub outcome-over : (serves : Bool) (s : Settings) (rows : List Task) (periods processors : List ℕ)

@@ -47,7 +47,7 @@ fn empty(n: usize) -> Table
 }
 
 // The table of the lent rows. Its count is theirs, also where there are more than it takes, so that the core can refuse them.
-fn gather(rows: &[Task]) -> Table
+pub fn gather(rows: &[Task]) -> Table
     ensures { λ r. ⌜ r ≡ tableOf (now (rows .entry)) ⌝ }
 {
     let n = rows.len();

@@ -1,0 +1,31 @@
+-- What the calls on a table tell of the table of the lent records, they tell of the records.
+-- Assumes nothing.
+use Prim.Native.Nat.{ℕ, min}
+use mathlib.Core.Bool.{true, false}
+use mathlib.Core.List.{List}
+use mathlib.Core.Path.{_≡_, _∙_}
+use lib.ListN.{length}
+use Rattle.kinds.specs.declared.Settings.{Settings}
+use Rattle.kinds.specs.declared.Task.{Task}
+use Rattle.plan.specs.Plan.{outcome}
+use Rattle.quick.proofs.Promises.{looks-agree}
+use Rattle.rows.specs.Gathered.{tableOf}
+use Rattle.rows.proofs.Bridge.{table-at, outcome-over}
+use Rattle.embed.specs.declared.Told.{Told}
+use Rattle.embed.specs.Told.{ToldMeets, ToldLooked}
+
+module _ (s : Settings) (rows : List Task) (periods processors : List ℕ) (r : Told) (ps qs : List ℕ) where
+  pub told-meets-over : ToldMeets (outcome true s (tableOf rows .rows) (length rows) periods processors) r ps qs
+      → ToldMeets (outcome true s rows (length rows) periods processors) r ps qs
+  told-meets-over x = rw (← outcome-over true s rows periods processors) x
+
+  pub told-looked-over : ToldLooked s (tableOf rows .rows) (length rows) periods processors r ps qs → ToldLooked s rows (length rows) periods processors r ps qs
+  told-looked-over x =
+      let o = outcome-over false s rows periods processors in
+      record {
+        answers = rw (← o) (x .answers);
+        grants = rw (← o) (x .grants);
+        places = rw (← o) (x .places);
+        count = x .count ∙ looks-agree s (tableOf rows .rows) rows (length rows) (λ few i _. table-at rows few i) (min (length periods) (length processors));
+        few = x .few;
+      }

@@ -1,0 +1,19 @@
+-- The types that an exported walk passes by value or returns.
+-- Assumes nothing.
+use mathlib.Core.Path.{refl}
+use Rattle.walk.proofs.Thin.{Valued, of-struct}
+use Rattle.embed.proofs.Station as S
+use Rattle.embed.proofs.Station.Laws as S′
+use Rattle.embed.proofs.Told as T
+use Rattle.embed.proofs.Told.Laws as T′
+use Rattle.embed.proofs.ToldMargin as M
+use Rattle.embed.proofs.ToldMargin.Laws as M′
+
+abbrev pub station : Valued S.the-row
+station = of-struct S.the-type S′.the-laws S′.lowers S′.the-plain (λ x f. refl)
+
+abbrev pub told : Valued T.the-row
+told = of-struct T.the-type T′.the-laws T′.lowers T′.the-plain (λ x f. refl)
+
+abbrev pub told-margin : Valued M.the-row
+told-margin = of-struct M.the-type M′.the-laws M′.lowers M′.the-plain (λ x f. refl)
