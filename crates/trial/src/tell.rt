@@ -48,7 +48,8 @@ pub fn put_count(out: &mut [u8; ROOM], at: usize, n: usize) -> usize
 // Two's complement, as a number of 8 bytes without a sign.
 fn unsigned(x: i64) -> u64 {
     if x < 0 {
-        return u64::MAX - (-1 - x) as u64;
+        let below = (-1 - x) as u64;
+        return u64::MAX - below;
     }
     x as u64
 }
