@@ -135,6 +135,23 @@ fn put_answer(out: &mut [u8; ROOM], at: usize, answer: Answer) -> usize
     }
 }
 
+// Asks the plain finder with both outputs lent, and puts its answer and their whole content.
+fn plain_into(
+    asked: Finding,
+    periods: &mut [u32],
+    processors: &mut [u16],
+    out: &mut [u8; ROOM],
+) -> usize
+    ensures { λ r. ⌜ r ≤ room ⌝ }
+{
+    let table = asked.table;
+    let settings = asked.settings;
+    let answer = find_plain(table, settings, periods, processors);
+    let at_periods = put_answer(out, LENGTH, answer);
+    let at_processors = tell::put_periods(out, at_periods, periods);
+    tell::put_processors(out, at_processors, processors)
+}
+
 // Kind 1.
 fn answer_plain(s: &[u8], out: &mut [u8; ROOM]) -> usize
     ensures { λ r. ⌜ r ≤ room ⌝ }
@@ -145,14 +162,28 @@ fn answer_plain(s: &[u8], out: &mut [u8; ROOM]) -> usize
     if !asked.whole || MOST_ENTRIES < a || MOST_ENTRIES < b {
         return 0;
     }
-    let table = asked.table;
-    let settings = asked.settings;
     let mut periods = [PERIOD_BEFORE; MOST_ENTRIES];
     let mut processors = [PROCESSOR_BEFORE; MOST_ENTRIES];
-    let answer = find_plain(table, settings, &mut periods[..a], &mut processors[..b]);
-    let at_periods = put_answer(out, LENGTH, answer);
-    let at_processors = tell::put_periods(out, at_periods, &periods[..a]);
-    tell::put_processors(out, at_processors, &processors[..b])
+    plain_into(asked, &mut periods[..a], &mut processors[..b], out)
+}
+
+// Asks the quick finder with both outputs lent, and puts its answer, its looks and their whole content.
+fn quick_into(
+    asked: Finding,
+    periods: &mut [u32],
+    processors: &mut [u16],
+    out: &mut [u8; ROOM],
+) -> usize
+    ensures { λ r. ⌜ r ≤ room ⌝ }
+{
+    let table = asked.table;
+    let settings = asked.settings;
+    let looked = find_quick(table, settings, periods, processors);
+    let answer = looked.answer;
+    let at_looks = put_answer(out, LENGTH, answer);
+    let at_periods = tell::put_count(out, at_looks, looked.looks as usize);
+    let at_processors = tell::put_periods(out, at_periods, periods);
+    tell::put_processors(out, at_processors, processors)
 }
 
 // Kind 2.
@@ -165,16 +196,9 @@ fn answer_quick(s: &[u8], out: &mut [u8; ROOM]) -> usize
     if !asked.whole || MOST_ENTRIES < a || MOST_ENTRIES < b {
         return 0;
     }
-    let table = asked.table;
-    let settings = asked.settings;
     let mut periods = [PERIOD_BEFORE; MOST_ENTRIES];
     let mut processors = [PROCESSOR_BEFORE; MOST_ENTRIES];
-    let looked = find_quick(table, settings, &mut periods[..a], &mut processors[..b]);
-    let answer = looked.answer;
-    let at_looks = put_answer(out, LENGTH, answer);
-    let at_periods = tell::put_count(out, at_looks, looked.looks as usize);
-    let at_processors = tell::put_periods(out, at_periods, &periods[..a]);
-    tell::put_processors(out, at_processors, &processors[..b])
+    quick_into(asked, &mut periods[..a], &mut processors[..b], out)
 }
 
 fn put_margin(out: &mut [u8; ROOM], at: usize, margin: Margin) -> usize
@@ -312,6 +336,15 @@ fn put_written(out: &mut [u8; ROOM], at: usize, written: Written) -> usize
     }
 }
 
+// Writes a sheet into a lent buffer, and puts the answer and the whole buffer.
+fn write_into(x: Sheet, buffer: &mut [u8], out: &mut [u8; ROOM]) -> usize
+    ensures { λ r. ⌜ r ≤ room ⌝ }
+{
+    let written = writer::write(x, buffer);
+    let at_buffer = put_written(out, LENGTH, written);
+    tell::put_bytes(out, at_buffer, buffer)
+}
+
 // Kind 5.
 fn answer_write(s: &[u8], out: &mut [u8; ROOM]) -> usize
     ensures { λ r. ⌜ r ≤ room ⌝ }
@@ -323,9 +356,7 @@ fn answer_write(s: &[u8], out: &mut [u8; ROOM]) -> usize
     }
     let x = asked.sheet;
     let mut buffer = [BYTE_BEFORE; MOST_BYTES];
-    let written = writer::write(x, &mut buffer[..k]);
-    let at_buffer = put_written(out, LENGTH, written);
-    tell::put_bytes(out, at_buffer, &buffer[..k])
+    write_into(x, &mut buffer[..k], out)
 }
 
 // Whether a change-over takes a sheet: it reads, and the plain finder accepts it.
@@ -375,7 +406,10 @@ fn answer_change_over(s: &[u8], out: &mut [u8; ROOM]) -> usize
         return 0;
     };
     let n = length as usize;
-    if s.len() < from || s.len() - from < n {
+    if s.len() < from {
+        return 0;
+    }
+    if s.len() - from < n {
         return 0;
     }
     let end = from + n;
@@ -410,15 +444,22 @@ fn answer(s: &[u8], out: &mut [u8; ROOM]) -> usize
     }
 }
 
+// Writes the first n bytes of a buffer, and answers whether that could be done.
+fn write_front(buffer: &[u8], n: usize) -> bool {
+    if buffer.len() < n {
+        return false;
+    }
+    io::write_all(STDOUT_FILENO, &buffer[..n])
+}
+
 // Writes the answer to a payload after its length, and answers whether that could be done.
-fn write_answer(s: &[u8]) -> bool {
-    let mut out = [0u8; ROOM];
-    let k = answer(s, &mut out);
+fn write_answer(s: &[u8], out: &mut [u8; ROOM]) -> bool {
+    let k = answer(s, out);
     if k < LENGTH {
         return false;
     }
-    tell::put_count(&mut out, 0, k - LENGTH);
-    io::write_all(STDOUT_FILENO, &out[..k])
+    tell::put_count(out, 0, k - LENGTH);
+    write_front(out, k)
 }
 
 // How many bytes the next payload has; 0 at the end of the input.
@@ -431,18 +472,24 @@ fn next_length() -> usize {
     length as usize
 }
 
-// Reads the next call and writes its answer; false where that could not be done, as at the end of the input.
+// Reads a payload of the buffer's length and writes its answer; false where that could not be done.
+fn answer_into(payload: &mut [u8]) -> bool {
+    let got = io::read_full(STDIN_FILENO, payload);
+    if got < payload.len() {
+        return false;
+    }
+    let mut out = [0u8; ROOM];
+    write_answer(payload, &mut out)
+}
+
+// Answers the next call; false where that could not be done, as at the end of the input.
 fn answer_next() -> bool {
     let n = next_length();
     if ROOM < n {
         return false;
     }
-    let mut payload = [0u8; ROOM];
-    let got = io::read_full(STDIN_FILENO, &mut payload[..n]);
-    if got < n {
-        return false;
-    }
-    write_answer(&payload[..n])
+    let mut space = [0u8; ROOM];
+    answer_into(&mut space[..n])
 }
 
 fn main() {

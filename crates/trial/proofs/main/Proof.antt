@@ -1,42 +1,34 @@
+-- `main` is safe and ends: the measure is the number of calls that are left. Assumes nothing.
+use borrow.Author.Needs.{needs}
 use Rattle.trial.proofs.main.Statement.{statement}
 use Rattle.trial.proofs.main.Tie as tie
-use Rattle.trial.proofs.main.Reads as reads
-use Rattle.trial.proofs.main.Lts as lts
-use Rattle.trial.proofs.answer_next.Reads as answer-next-reads
 
 abbrev Inv-loop : tie.InvT-loop
-Inv-loop turns₀ turns = ?
+Inv-loop turns₀ turns = Unit {0}
 
 abbrev μ-loop : tie.MeasureT-loop
-μ-loop turns₀ turns = ?
+μ-loop turns₀ turns = turns
 
--- src/main.rt:450:5
 loop-holds : tie.Need-loop-holds Inv-loop μ-loop
-loop-holds c = ?
+loop-holds c = search needs
 
--- src/main.rt:450:24
 answer-next-requires : tie.Need-answer-next-requires Inv-loop μ-loop
-answer-next-requires c κs = ?
+answer-next-requires c κs = search needs
 
--- src/main.rt:451:9
 sub-turns : tie.Need-sub-turns Inv-loop μ-loop
-sub-turns c = ?
+sub-turns c = search needs
 
--- src/main.rt:450:5
 loop-less : tie.Need-loop-less Inv-loop μ-loop
-loop-less c = ?
+loop-less c = search needs
 
--- src/main.rt:450:5
 loop-again : tie.Need-loop-again Inv-loop μ-loop
-loop-again c = ?
+loop-again c = search needs
 
--- src/main.rt:448:1
 returns : tie.Need-returns Inv-loop μ-loop
-returns c = ?
+returns c = search needs
 
--- src/main.rt:448:1
 returns-2 : tie.Need-returns-2 Inv-loop μ-loop
-returns-2 c = ?
+returns-2 c = search needs
 
 pub main-spec : {M : Type 1} → statement M
 main-spec =
