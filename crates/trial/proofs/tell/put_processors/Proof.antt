@@ -1,0 +1,52 @@
+-- `tell::put_processors` is safe and ends, and its place stays within the buffer. Assumes nothing.
+use Prim.Native.Nat.{_-_, _≤_}
+use lib.ListN.{length}
+use Rattle.trial.specs.Room.{room}
+use borrow.Author.Needs.{needs}
+use Rattle.trial.proofs.tell.put_processors.Statement.{statement}
+use Rattle.trial.proofs.tell.put_processors.Tie as tie
+
+abbrev Inv-loop : tie.InvT-loop
+Inv-loop out₀ from output at₀ i₀ out at i = (i ≤ length output) × (at ≤ room)
+
+abbrev μ-loop : tie.MeasureT-loop
+μ-loop out₀ from output at₀ i₀ out at i = length output - i
+
+loop-holds : tie.Need-loop-holds Inv-loop μ-loop
+loop-holds c = search needs
+
+mul-put-short : tie.Need-mul-put-short Inv-loop μ-loop
+mul-put-short c = search needs
+
+shared-slice-read-put-short : tie.Need-shared-slice-read-put-short Inv-loop μ-loop
+shared-slice-read-put-short c = search needs
+
+put-short-requires : tie.Need-put-short-requires Inv-loop μ-loop
+put-short-requires c κs = search needs
+
+add-i : tie.Need-add-i Inv-loop μ-loop
+add-i c = search needs
+
+loop-less : tie.Need-loop-less Inv-loop μ-loop
+loop-less c = search needs
+
+loop-again : tie.Need-loop-again Inv-loop μ-loop
+loop-again c = search needs
+
+returns : tie.Need-returns Inv-loop μ-loop
+returns c = search needs
+
+pub put-processors-spec : {M : Type 1} → statement M
+put-processors-spec =
+    tie.close
+    (tie.spec
+    Inv-loop
+    μ-loop
+    loop-holds
+    mul-put-short
+    shared-slice-read-put-short
+    put-short-requires
+    add-i
+    loop-less
+    loop-again
+    returns)
