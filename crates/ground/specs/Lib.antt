@@ -3,3 +3,4 @@ pub mod Rounding
 pub mod Folds
 pub mod First
 pub mod Least
+pub mod Halving

@@ -1,0 +1,9 @@
+pub mod Records
+pub mod Tasks
+pub mod Tables
+pub mod Passing
+pub mod Found
+pub mod Writing
+pub mod Outcomes
+pub mod Demand
+pub mod Worked

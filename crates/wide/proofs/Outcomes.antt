@@ -1,0 +1,81 @@
+-- The outcome depends on the first n records only, and where there are too many on none. That no second answer meets it is `plan`'s law
+-- `no-second-answer`, which is said of any outcome.
+-- Assumes nothing.
+use Prim.Native.Nat.{ℕ, _≤_, _<_, min}
+use mathlib.Core.Bool.{false}
+use mathlib.Core.List.{List}
+use mathlib.Core.Path.{_≡_, refl, ap₂}
+use native.Mathlib.Omega.{arith}
+use lib.ListN.{length}
+use borrow.Author.Tests.{ne-eqb}
+use Rattle.ground.specs.declared.Step.{Step}
+use Rattle.ground.proofs.Cases.{by-le}
+use Rattle.kinds.specs.declared.Answer.{Answer}
+use Rattle.kinds.specs.Answer.{Handed}
+use Rattle.kinds.specs.Limits.{mostTasks}
+use Rattle.kinds.proofs.Refusals.{refusal-numbered}
+use Rattle.admission.specs.declared.Admission as adm
+use Rattle.admission.specs.Admission.{gate, andThen}
+use Rattle.admission.proofs.Chain.{gate-passed}
+use Rattle.plan.specs.Plan.{decided, written, Meets}
+use Rattle.plan.proofs.Outcomes as plan
+use Rattle.wide.specs.declared.WideTask.{WideTask}
+use Rattle.wide.specs.WideTask.{at}
+use Rattle.wide.specs.Table.{leastStep, periodsAt, coreCountsAt}
+use Rattle.wide.specs.Wide.{recordsGood, admission, found, outcome}
+use Rattle.wide.proofs.Tables.{bad-same, step-same, periods-same, core-counts-same}
+
+-- two answers, with their outputs, that meet the outcome of one call are equal
+pub no-second-answer : (m : ℕ) (rows : List WideTask) (n : ℕ) (periods cores : List ℕ) (a b : Answer) (ps cs ps′ cs′ : List ℕ)
+    → Meets (outcome m rows n periods cores) a ps cs → Meets (outcome m rows n periods cores) b ps′ cs′ → (a ≡ b) × (ps ≡ ps′) × (cs ≡ cs′)
+no-second-answer m rows n periods cores a b ps cs ps′ cs′ x y =
+    plan.no-second-answer (outcome m rows n periods cores) a b ps cs ps′ cs′ x y
+
+-- a gate that refuses settles the call, whatever the records and the step
+module _ (m : ℕ) (xs ys : List WideTask) (n room : ℕ) where
+  shut : (a : adm.Admission) (x y : Step) (p q : adm.Admission) → (a ≡ adm.the-variants.Admitted → ⊥)
+      → (decided (andThen a p) x ≡ decided (andThen a q) y) × (1 ≤ decided (andThen a q) y .number)
+  shut adm.the-variants.Admitted x y p q h = absurd (h refl)
+  shut (adm.the-variants.Refused r) x y p q h = (refl, refusal-numbered r)
+
+  found-many : mostTasks < n → (found m xs n room ≡ found m ys n room) × (1 ≤ found m ys n room .number)
+  unfolding found admission
+  found-many h =
+      shut (gate false m n false room) (leastStep m xs n) (leastStep m ys n) (recordsGood xs n) (recordsGood ys n)
+      (λ e. omega (arith, gate-passed _ _ _ _ _ e .few))
+
+keeps : (h : Handed ℕ) (f g : List ℕ) (n : ℕ) (old : List ℕ) → 1 ≤ h .number → written h f n old ≡ written h g n old
+keeps h f g n old d = rw (ne-eqb (h .number) 0 (λ z. omega arith))
+
+module _ (m : ℕ) (xs ys : List WideTask) (n : ℕ) (periods cores : List ℕ) where
+  outcome-many : mostTasks < n → outcome m xs n periods cores ≡ outcome m ys n periods cores
+  unfolding outcome
+  outcome-many h =
+      let room = min (length periods) (length cores) in
+      let f = found-many m xs ys n room h in
+      let k = found m ys n room .value in
+      rw (
+        f .0,
+        keeps (found m ys n room) (periodsAt xs n k) (periodsAt ys n k) n periods (f .1),
+        keeps (found m ys n room) (coreCountsAt xs n k) (coreCountsAt ys n k) n cores (f .1),
+      )
+
+  module _ (same : (i : ℕ) → i < n → at xs i ≡ at ys i) where
+    admission-same : (room : ℕ) → admission m xs n room ≡ admission m ys n room
+    unfolding admission
+    admission-same room = let e = bad-same xs ys n same in rw e
+
+    found-same : (room : ℕ) → found m xs n room ≡ found m ys n room
+    unfolding found
+    found-same room = ap₂ decided (admission-same room) (step-same xs ys n same m)
+
+    outcome-agrees : outcome m xs n periods cores ≡ outcome m ys n periods cores
+    unfolding outcome
+    outcome-agrees =
+        let room = min (length periods) (length cores) in
+        let k = found m ys n room .value in
+        rw (found-same room, periods-same xs ys n same k, core-counts-same xs ys n same k)
+
+  -- two tables that agree on the first n records are answered alike; where n is too large, any two are
+  pub outcome-same : (n ≤ mostTasks → (i : ℕ) → i < n → at xs i ≡ at ys i) → outcome m xs n periods cores ≡ outcome m ys n periods cores
+  outcome-same same = by-le n mostTasks (λ h. outcome-agrees (same h)) (λ h. outcome-many h)

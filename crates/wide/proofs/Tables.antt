@@ -1,0 +1,116 @@
+-- What is said of full compression, of the first bad record and of the sum of the cores, and the walks over a table that work them out.
+-- Assumes nothing.
+use Prim.Native.Nat.{ℕ, _+_, _*_, _≤_, _<_, max}
+use mathlib.Core.Bool.{Bool, true, false, not}
+use mathlib.Core.List.{List}
+use mathlib.Core.Path.{_≡_, sym, ap, _∙_}
+use native.Mathlib.Omega.{arith}
+use lib.Dec.{leb}
+use Rattle.ground.specs.First.{IsFirst}
+use Rattle.ground.specs.Least.{leastUpTo}
+use Rattle.ground.proofs.Buffer.{list-cong}
+use Rattle.ground.proofs.Cases.{by-bool, true-false}
+use Rattle.ground.proofs.First.{first-is, first-here, first-more, first-none, first-cong}
+use Rattle.ground.proofs.Folds.{sum-none, sum-more, sum-cong, max-none, max-more, max-to-le, max-cong}
+use Rattle.ground.proofs.Least.{least-cong}
+use Rattle.kinds.specs.Limits.{mostTasks}
+use Rattle.wide.specs.declared.WideTask.{WideTask}
+use Rattle.wide.specs.declared.WideTable.{WideTable}
+use Rattle.wide.specs.Limits.{mostSteps, mostCores}
+use Rattle.wide.specs.WideTask.{at, Good, isGood}
+use Rattle.wide.specs.Cores.{saturationAt, periodAt, coresAt, StepIs, CoresIs}
+use Rattle.wide.specs.Table.{fullCompression, firstBad, coresSum, passesAt, leastStep, periodsAt, coreCountsAt, GoodTable, SumIs}
+use Rattle.wide.proofs.Records.{good-is}
+use Rattle.wide.proofs.Tasks.{saturation-most}
+
+-- Ask 4: "K is at most 14,999,999"
+pub full-most : (rows : List WideTask) (n : ℕ) → ((i : ℕ) → i < n → Good (at rows i)) → fullCompression rows n ≤ 14999999
+unfolding fullCompression
+full-most rows n g =
+    max-to-le (λ i. saturationAt (at rows i)) n 14999999 (λ i l. omega (arith, saturation-most (at rows i) (g i l)))
+
+-- the walk that works K out
+pub full-start : (rows : List WideTask) → StepIs (fullCompression rows 0) 0
+unfolding fullCompression
+full-start rows = record { is = sym (max-none (λ j. saturationAt (at rows j))); most = omega arith }
+
+pub full-more : (rows : List WideTask) (i greatest s r : ℕ) → StepIs (fullCompression rows i) greatest → StepIs (saturationAt (at rows i)) s
+    → r ≡ max greatest s → StepIs (fullCompression rows (i + 1)) r
+unfolding fullCompression
+full-more rows i greatest s r p q e =
+    record {
+      is = omega (arith, max-more (λ j. saturationAt (at rows j)) i, p .is, q .is);
+      most = omega (arith, p .most, q .most);
+    }
+
+-- the walk that adds the cores up
+pub sum-start : (rows : List WideTask) (k : ℕ) → SumIs rows 0 k 0
+unfolding coresSum
+sum-start rows k = record { is = sym (sum-none (λ j. coresAt (at rows j) k)); most = omega arith }
+
+pub sum-next : (rows : List WideTask) (i k sum c r : ℕ) → SumIs rows i k sum → CoresIs (at rows i) k c → r ≡ sum + c → SumIs rows (i + 1) k r
+unfolding coresSum
+sum-next rows i k sum c r p q e =
+    record {
+      is = omega (arith, sum-more (λ j. coresAt (at rows j) k) i, p .is, q .is);
+      most = omega (arith, p .most, q .most);
+    }
+
+-- the first bad record in words: those before it are good, and it is not
+pub first-bad-is : (rows : List WideTask) (n : ℕ) → IsFirst (λ i. not (isGood (at rows i))) n (firstBad rows n)
+unfolding firstBad
+first-bad-is rows n = first-is (λ i. not (isGood (at rows i))) n
+
+not-bad : (t : WideTask) → not (isGood t) ≡ false → Good t
+not-bad t e = good-is t (by-bool (isGood t) (λ g. g) (λ g. true-false (rw g) e))
+
+-- the walk that finds it
+module _ (rows : List WideTask) (n i : ℕ) (h : (j : ℕ) → j < i → not (isGood (at rows j)) ≡ false) where
+  pub bad-here : i < n → (b : Bool) → b ≡ isGood (at rows i) → not b ≡ true → i ≡ firstBad rows n
+  unfolding firstBad
+  bad-here l b e t = first-here (λ j. not (isGood (at rows j))) n i h l (ap not (sym e) ∙ t)
+
+  pub bad-more : (b : Bool) → b ≡ isGood (at rows i) → not b ≡ false → (j : ℕ) → j < i + 1 → not (isGood (at rows j)) ≡ false
+  bad-more b e t = first-more (λ j. not (isGood (at rows j))) n i h (ap not (sym e) ∙ t)
+
+  pub bad-none : i ≡ n → n ≡ firstBad rows n
+  unfolding firstBad
+  bad-none e = sym e ∙ first-none (λ j. not (isGood (at rows j))) n i h e
+
+-- a table whose records are all good
+pub good-table : (t : WideTable) → t .n ≤ mostTasks → t .n ≤ firstBad (t .rows) (t .n) → GoodTable t
+good-table t few none =
+    record { few = few; good = λ i l. not-bad (at (t .rows) i) (first-bad-is (t .rows) (t .n) .before i (omega arith)) }
+
+-- the rules look at the first n records only
+module _ (xs ys : List WideTask) (n : ℕ) (same : (i : ℕ) → i < n → at xs i ≡ at ys i) where
+  pub bad-same : firstBad xs n ≡ firstBad ys n
+  unfolding firstBad
+  bad-same =
+      first-cong (λ i. not (isGood (at xs i))) (λ i. not (isGood (at ys i))) n (λ i l. ap (λ (t : WideTask). not (isGood t)) (same i l))
+
+  full-same : fullCompression xs n ≡ fullCompression ys n
+  unfolding fullCompression
+  full-same = max-cong (λ i. saturationAt (at xs i)) (λ i. saturationAt (at ys i)) n (λ i l. ap saturationAt (same i l))
+
+  passes-same : (m k : ℕ) → passesAt m xs n k ≡ passesAt m ys n k
+  unfolding passesAt coresSum
+  passes-same m k =
+      ap (λ (s : ℕ). leb s m)
+      (sum-cong (λ i. coresAt (at xs i) k) (λ i. coresAt (at ys i) k) n (λ i l. ap (λ (t : WideTask). coresAt t k) (same i l)))
+
+  pub step-same : (m : ℕ) → leastStep m xs n ≡ leastStep m ys n
+  unfolding leastStep
+  step-same m =
+      least-cong (passesAt m xs n) (passesAt m ys n) (fullCompression xs n) (passes-same m)
+      ∙ ap (leastUpTo (passesAt m ys n)) full-same
+
+  pub periods-same : (k : ℕ) → periodsAt xs n k ≡ periodsAt ys n k
+  unfolding periodsAt
+  periods-same k =
+      list-cong (λ i. periodAt (at xs i) k) (λ i. periodAt (at ys i) k) n (λ i l. ap (λ (t : WideTask). periodAt t k) (same i l))
+
+  pub core-counts-same : (k : ℕ) → coreCountsAt xs n k ≡ coreCountsAt ys n k
+  unfolding coreCountsAt
+  core-counts-same k =
+      list-cong (λ i. coresAt (at xs i) k) (λ i. coresAt (at ys i) k) n (λ i l. ap (λ (t : WideTask). coresAt t k) (same i l))

@@ -1,0 +1,90 @@
+-- `wide::WideTask::good` meets its contract: each `&&` joins the tests so far with the next. Assumes nothing.
+use Prim.Native.Nat.{_*_}
+use mathlib.Core.Bool.{Bool}
+use mathlib.Core.Path.{_≡_, refl, _∙_, sym}
+use mathlib.Core.Logic.{⊎-elim}
+use lib.Dec.{leb, ltb}
+use borrow.Author.Needs.{needs}
+use borrow.Author.Tests.{le-leb, lt-leb}
+use Rattle.ground.specs.Choice.{both}
+use Rattle.ground.proofs.Cases.{both-taken, both-left}
+use Rattle.kinds.specs.Limits.{longestPeriod}
+use Rattle.wide.specs.declared.WideTask.{WideTask}
+use Rattle.wide.specs.Limits.{mostTmins}
+use Rattle.wide.specs.WideTask.{isGood}
+use Rattle.wide.proofs.WideTask.good.Statement.{statement}
+use Rattle.wide.proofs.WideTask.good.Tie as tie
+
+-- the first tests of `isGood`, by how many there are
+abbrev first-two : WideTask → Bool
+first-two t = both (leb 1 (t .l)) (ltb (t .l) (t .tmin))
+
+abbrev first-three : WideTask → Bool
+first-three t = both (first-two t) (ltb (t .l) (t .c))
+
+abbrev first-four : WideTask → Bool
+first-four t = both (first-three t) (ltb (t .tmax) (t .c))
+
+abbrev first-five : WideTask → Bool
+first-five t = both (first-four t) (leb (t .c) (mostTmins * t .tmin))
+
+abbrev first-six : WideTask → Bool
+first-six t = both (first-five t) (leb (t .tmin) (t .tmax))
+
+abbrev first-seven : WideTask → Bool
+first-seven t = both (first-six t) (leb (t .tmax) longestPeriod)
+
+wide-requires : tie.Need-wide-requires
+wide-requires c κs = search needs
+
+mul-costliest : tie.Need-mul-costliest
+mul-costliest c = search needs
+
+cast-if3 : tie.Need-cast-if3
+cast-if3 c = search needs
+
+cast-if4 : tie.Need-cast-if4
+cast-if4 c = search needs
+
+two : (c : tie.Joined1) → c .if1 .if2 ≡ first-two (c .before .before .before .args .self)
+two c =
+    ⊎-elim
+    (λ w. both-taken _ _ _ (le-leb _ _ (w .0 .taken)) (w .2))
+    (λ w. both-left _ _ _ (lt-leb _ _ (w .0 .left)) (w .1))
+    (c .if1 .came)
+
+three : (c : tie.Joined2) → c .if2 .if3 ≡ first-three (c .before .before .before .before .args .self)
+three c =
+    rw (← two (c .before))
+    (⊎-elim (λ w. both-taken _ _ _ (w .0 .taken) (w .3)) (λ w. both-left _ _ _ (w .0 .left) (w .1)) (c .if2 .came))
+
+four : (c : tie.Joined3) → c .if3 .if4 ≡ first-four (c .before .before .before .before .before .args .self)
+four c =
+    rw (← three (c .before))
+    (⊎-elim (λ w. both-taken _ _ _ (w .0 .taken) (w .3)) (λ w. both-left _ _ _ (w .0 .left) (w .1)) (c .if3 .came))
+
+five : (c : tie.Joined4) → c .if4 .if5 ≡ first-five (c .before .before .before .before .before .before .args .self)
+five c =
+    rw (← four (c .before), ← c .before .before .before .before .before .wide .ensures)
+    (⊎-elim (λ w. both-taken _ _ _ (w .0 .taken) (w .2)) (λ w. both-left _ _ _ (w .0 .left) (w .1)) (c .if4 .came))
+
+six : (c : tie.Joined5) → c .if5 .if6 ≡ first-six (c .before .before .before .before .before .before .before .args .self)
+six c =
+    rw (← five (c .before))
+    (⊎-elim (λ w. both-taken _ _ _ (w .0 .taken) (w .2)) (λ w. both-left _ _ _ (w .0 .left) (w .1)) (c .if5 .came))
+
+seven : (c : tie.Joined6) → c .if6 .if7 ≡ first-seven (c .before .before .before .before .before .before .before .before .args .self)
+seven c =
+    rw (← six (c .before))
+    (⊎-elim (λ w. both-taken _ _ _ (w .0 .taken) (w .2)) (λ w. both-left _ _ _ (w .0 .left) (w .1)) (c .if6 .came))
+
+returns : tie.Need-returns
+unfolding isGood
+returns c = both-taken _ _ _ (sym (seven (c .before .before)) ∙ c .before .if7 .taken) refl
+
+returns-2 : tie.Need-returns-2
+unfolding isGood
+returns-2 c = both-left _ _ _ (sym (seven (c .before)) ∙ c .if7 .left) (seven (c .before))
+
+pub good-spec : {M : Type 1} → statement M
+good-spec = tie.close (tie.spec wide-requires mul-costliest cast-if3 cast-if4 returns returns-2)

@@ -1,0 +1,51 @@
+-- `wide::decide` meets its contract. Assumes nothing.
+use mathlib.Core.Path.{_∙_, sym}
+use Rattle.wide.proofs.Tables.{good-table}
+use Rattle.wide.proofs.Found.{admitted, refused-found, admitted-found}
+use borrow.Author.Needs.{needs}
+use Rattle.wide.proofs.decide.Statement.{statement}
+use Rattle.wide.proofs.decide.Tie as tie
+
+admit-requires : tie.Need-admit-requires
+admit-requires c κs = search needs
+
+enum-told : tie.Need-enum-told
+enum-told c = search needs
+
+enum-told-2 : tie.Need-enum-told-2
+enum-told-2 c = search needs
+
+decide-requires : tie.Need-decide-requires
+decide-requires c κs = search needs
+
+returns : tie.Need-returns
+returns c =
+    let d = c .before .before .before in
+    c .decide .ensures ∙ refused-found _ _ _ _ _ (d .admit .ensures) _ _ (c .before .enum-told2 .given .1)
+
+least-step-requires : tie.Need-least-step-requires
+least-step-requires c κs =
+    let r = admitted _ _ _ _ (sym (c .before .before .admit .ensures) ∙ c .enum-told .given .1) in
+    good-table _ (r .passed .few) (r .none-bad)
+
+decide-requires-2 : tie.Need-decide-requires-2
+decide-requires-2 c κs = search needs
+
+returns-2 : tie.Need-returns-2
+returns-2 c =
+    let l = c .before in
+    let d = l .before .before .before in
+    c .decide2 .ensures ∙ admitted-found _ _ _ _ _ (d .admit .ensures) _ (l .least-step .ensures)
+
+pub decide-spec : {M : Type 1} → statement M
+decide-spec =
+    tie.close
+    (tie.spec
+    admit-requires
+    enum-told
+    enum-told-2
+    decide-requires
+    returns
+    least-step-requires
+    decide-requires-2
+    returns-2)

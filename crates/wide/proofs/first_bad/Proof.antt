@@ -1,0 +1,58 @@
+-- `wide::first_bad` meets its contract. Assumes nothing.
+use Prim.Native.Nat.{ℕ, _-_, _≤_, _<_}
+use mathlib.Core.Bool.{false, not}
+use mathlib.Core.Path.{_≡_}
+use native.Mathlib.Omega.{arith}
+use Rattle.wide.specs.WideTask.{at, isGood}
+use Rattle.wide.proofs.Tables.{bad-here, bad-more, bad-none}
+use Rattle.wide.proofs.first_bad.Statement.{statement}
+use Rattle.wide.proofs.first_bad.Tie as tie
+
+abbrev Inv-loop : tie.InvT-loop
+Inv-loop table n i₀ i = (i ≤ n) × ((j : ℕ) → j < i → not (isGood (at (table .rows) j)) ≡ false)
+
+abbrev μ-loop : tie.MeasureT-loop
+μ-loop table n i₀ i = n - i
+
+loop-holds : tie.Need-loop-holds Inv-loop μ-loop
+loop-holds c = (omega arith, λ j l. absurd (omega arith))
+
+mul-good : tie.Need-mul-good Inv-loop μ-loop
+mul-good c = omega arith
+
+element-copy-out-good : tie.Need-element-copy-out-good Inv-loop μ-loop
+element-copy-out-good c = omega arith
+
+good-requires : tie.Need-good-requires Inv-loop μ-loop
+good-requires c κs = tt
+
+returns : tie.Need-returns Inv-loop μ-loop
+returns c = bad-here _ _ _ (c .before .before .before .before .loop .inv .1) (c .before .before .before .loop-test .taken) _ (c .before .good2 .ensures) (c .if1 .taken)
+
+add-i : tie.Need-add-i Inv-loop μ-loop
+add-i c = omega arith
+
+loop-less : tie.Need-loop-less Inv-loop μ-loop
+loop-less c = omega arith
+
+loop-again : tie.Need-loop-again Inv-loop μ-loop
+loop-again c = (omega arith, let t = c .before .before .before .before .before .args .t1 in bad-more (t .rows) (t .n) _ (c .before .before .before .before .loop .inv .1) _ (c .before .good2 .ensures) (c .if1 .left))
+
+returns-2 : tie.Need-returns-2 Inv-loop μ-loop
+returns-2 c = bad-none _ _ _ (c .before .loop .inv .1) (omega arith)
+
+pub first-bad-spec : {M : Type 1} → statement M
+first-bad-spec =
+    tie.close
+    (tie.spec
+    Inv-loop
+    μ-loop
+    loop-holds
+    mul-good
+    element-copy-out-good
+    good-requires
+    returns
+    add-i
+    loop-less
+    loop-again
+    returns-2)

@@ -1,0 +1,58 @@
+-- `wide::full_compression` meets its contract. Assumes nothing.
+use Prim.Native.Nat.{_-_, _≤_}
+use mathlib.Core.Path.{_≡_}
+use native.Mathlib.Omega.{arith}
+use Rattle.wide.specs.Cores.{StepIs}
+use Rattle.wide.specs.Table.{fullCompression}
+use Rattle.wide.proofs.Tables.{full-start, full-more}
+use Rattle.wide.proofs.full_compression.Statement.{statement}
+use Rattle.wide.proofs.full_compression.Tie as tie
+
+abbrev Inv-loop : tie.InvT-loop
+Inv-loop table n greatest₀ i₀ greatest i = (i ≤ n) × StepIs (fullCompression (table .rows) i) greatest
+
+abbrev μ-loop : tie.MeasureT-loop
+μ-loop table n greatest₀ i₀ greatest i = n - i
+
+loop-holds : tie.Need-loop-holds Inv-loop μ-loop
+loop-holds c = (omega arith, full-start _)
+
+mul-saturation : tie.Need-mul-saturation Inv-loop μ-loop
+mul-saturation c = omega arith
+
+element-copy-out-saturation : tie.Need-element-copy-out-saturation Inv-loop μ-loop
+element-copy-out-saturation c = omega arith
+
+saturation-requires : tie.Need-saturation-requires Inv-loop μ-loop
+saturation-requires c κs = c .before .before .before .pre .good _ (c .before .loop-test .taken)
+
+later-requires : tie.Need-later-requires Inv-loop μ-loop
+later-requires c κs = tt
+
+add-i : tie.Need-add-i Inv-loop μ-loop
+add-i c = omega arith
+
+loop-less : tie.Need-loop-less Inv-loop μ-loop
+loop-less c = omega arith
+
+loop-again : tie.Need-loop-again Inv-loop μ-loop
+loop-again c = (omega arith, full-more _ _ _ _ _ (c .before .before .before .before .loop .inv .1) (c .before .saturation .ensures) (c .later .ensures))
+
+returns : tie.Need-returns Inv-loop μ-loop
+returns c = let e : c .before .loop .i ≡ c .before .before .args .t1 .n = omega arith in rw e at (c .before .loop .inv .1)
+
+pub full-compression-spec : {M : Type 1} → statement M
+full-compression-spec =
+    tie.close
+    (tie.spec
+    Inv-loop
+    μ-loop
+    loop-holds
+    mul-saturation
+    element-copy-out-saturation
+    saturation-requires
+    later-requires
+    add-i
+    loop-less
+    loop-again
+    returns)

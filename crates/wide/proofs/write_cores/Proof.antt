@@ -1,0 +1,78 @@
+-- `wide::write_cores` meets its contract. Assumes nothing.
+use Prim.Native.Nat.{_-_, _≤_, ℕ}
+use mathlib.Core.Path.{_≡_}
+use native.Mathlib.Omega.{arith}
+use Rattle.ground.proofs.Buffer.{Front, front-none, front-more}
+use Rattle.wide.specs.WideTask.{at}
+use Rattle.wide.specs.Cores.{coresAt}
+use Rattle.wide.specs.Table.{coreCountsAt}
+use Rattle.wide.proofs.Passing.{cores-within}
+use Rattle.wide.proofs.write_cores.Statement.{statement}
+use Rattle.wide.proofs.write_cores.Tie as tie
+
+abbrev Inv-loop : tie.InvT-loop
+Inv-loop k out₀ table n i₀ out i = (i ≤ n) × Front (λ (j : ℕ). coresAt (at (table .rows) j) k) out₀ out i
+
+abbrev μ-loop : tie.MeasureT-loop
+μ-loop k out₀ table n i₀ out i = n - i
+
+loop-holds : tie.Need-loop-holds Inv-loop μ-loop
+loop-holds c = (omega arith, front-none _ _)
+
+mul-cores-at : tie.Need-mul-cores-at Inv-loop μ-loop
+mul-cores-at c = omega arith
+
+element-copy-out-cores-at : tie.Need-element-copy-out-cores-at Inv-loop μ-loop
+element-copy-out-cores-at c = omega arith
+
+cores-at-requires : tie.Need-cores-at-requires Inv-loop μ-loop
+cores-at-requires c κs = c .before .before .before .before .pre .0 .good _ (c .before .loop-test .taken)
+
+cast-out : tie.Need-cast-out Inv-loop μ-loop
+cast-out c =
+    let b = c .before .before .before .before .before in
+    omega (arith, cores-within (b .args .t1 .rows) (b .args .t1 .n) (b .args .k) _ (c .before .before .loop-test .taken), b .pre .2, c .cores-at .ensures .is)
+
+mul-out : tie.Need-mul-out Inv-loop μ-loop
+mul-out c = omega arith
+
+slice-write-out : tie.Need-slice-write-out Inv-loop μ-loop
+slice-write-out c = omega arith
+
+add-i : tie.Need-add-i Inv-loop μ-loop
+add-i c = omega arith
+
+loop-less : tie.Need-loop-less Inv-loop μ-loop
+loop-less c = omega arith
+
+loop-again : tie.Need-loop-again Inv-loop μ-loop
+loop-again c =
+    let l = c .before .before .before in
+    let a = l .before .before .args in
+    (omega arith, front-more (λ (j : ℕ). coresAt (at (a .t1 .rows) j) (a .k)) _ _ _ _ (omega arith) (c .cores-at .ensures .is) (l .loop .inv .1))
+
+same-length : tie.Need-same-length Inv-loop μ-loop
+same-length c = c .before .loop .inv .1 .long
+
+returns : tie.Need-returns Inv-loop μ-loop
+unfolding coreCountsAt
+returns c = let e : c .before .loop .i ≡ c .before .before .before .args .t1 .n = omega arith in rw e at (c .before .loop .inv .1 .is)
+
+pub write-cores-spec : {M : Type 1} → statement M
+write-cores-spec =
+    tie.close
+    (tie.spec
+    Inv-loop
+    μ-loop
+    loop-holds
+    mul-cores-at
+    element-copy-out-cores-at
+    cores-at-requires
+    cast-out
+    mul-out
+    slice-write-out
+    add-i
+    loop-less
+    loop-again
+    same-length
+    returns)

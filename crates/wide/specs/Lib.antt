@@ -1,0 +1,5 @@
+pub mod Limits
+pub mod WideTask
+pub mod Cores
+pub mod Table
+pub mod Wide

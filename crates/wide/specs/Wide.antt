@@ -1,0 +1,61 @@
+-- Demand 2 on a table of tasks that need several cores, whole: what the finder hands back and what it leaves in the two lent outputs, for
+-- every input.
+-- Assumes nothing.
+use Prim.Native.Nat.{ℕ, _≤_, min}
+use mathlib.Core.Bool.{true, false}
+use mathlib.Core.List.{List}
+use mathlib.Core.Path.{_≡_}
+use lib.Dec.{ltb}
+use lib.ListN.{length}
+use Rattle.kinds.specs.declared.Answer.{Answer}
+use Rattle.kinds.specs.declared.Refusal.the-variants.{BadRecord}
+use Rattle.kinds.specs.Answer.{Handed, isAccepted, stepOf}
+use Rattle.kinds.specs.Limits.{mostProcessors}
+use Rattle.admission.specs.declared.Admission.{Admission}
+use Rattle.admission.specs.declared.Admission.the-variants.{Admitted}
+use Rattle.admission.specs.Admission.{check, gate, andThen}
+use Rattle.plan.specs.Plan.{decided, written, Outcome}
+use Rattle.wide.specs.declared.WideTask.{WideTask}
+use Rattle.wide.specs.declared.WideTable.{WideTable}
+use Rattle.wide.specs.Table.{firstBad, coresSum, leastStep, periodsAt, coreCountsAt, GoodTable}
+
+-- 6
+abbrev pub recordsGood : List WideTask → ℕ → Admission
+recordsGood rows n = check (ltb (firstBad rows n) n) (BadRecord (firstBad rows n)) Admitted
+
+-- Ask 4: "refusals 2, 3, 5, 6, 7 in that order": no policy is asked here, so the gate gives neither 1 nor 4
+unfoldable pub admission : ℕ → List WideTask → ℕ → ℕ → Admission
+admission m rows n room = andThen (gate false m n false room) (recordsGood rows n)
+
+-- the admission, and the least passing step where it admits
+unfoldable pub found : ℕ → List WideTask → ℕ → ℕ → Handed ℕ
+found m rows n room = decided (admission m rows n room) (leastStep m rows n)
+
+-- what stands in the two outputs after a call on the first n of some records
+abbrev pub periodsAfter : Handed ℕ → List WideTask → ℕ → List ℕ → List ℕ
+periodsAfter h rows n old = written h (periodsAt rows n (h .value)) n old
+
+abbrev pub coresAfter : Handed ℕ → List WideTask → ℕ → List ℕ → List ℕ
+coresAfter h rows n old = written h (coreCountsAt rows n (h .value)) n old
+
+-- the finder's call, with the two outputs as they are lent; the second is of processors by their count
+unfoldable pub outcome : ℕ → List WideTask → ℕ → List ℕ → List ℕ → Outcome
+outcome m rows n periods cores =
+    let h = found m rows n (min (length periods) (length cores)) in
+    record { handed = h; periods = periodsAfter h rows n periods; processors = coresAfter h rows n cores }
+
+-- what the writing of an accepted step k relies on
+pub record Grantable (t : WideTable) (k periods cores : ℕ) : Type 0 where
+  pub table : GoodTable t
+  pub roomy : t .n ≤ periods
+  pub roomy-cores : t .n ≤ cores
+  pub fits : coresSum (t .rows) (t .n) k ≤ mostProcessors
+
+-- what the writing of an answer leaves in the two outputs
+pub record Leaves (h : Handed ℕ) (rows : List WideTask) (n : ℕ) (oldPeriods oldCores periods cores : List ℕ) : Type 0 where
+  pub periods-are : periods ≡ periodsAfter h rows n oldPeriods
+  pub cores-are : cores ≡ coresAfter h rows n oldCores
+
+-- an accepted answer may be written
+abbrev pub MayGrant : Answer → WideTable → ℕ → ℕ → Type 0
+MayGrant answer t periods cores = isAccepted answer ≡ true → Grantable t (stepOf answer) periods cores

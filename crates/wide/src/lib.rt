@@ -1,0 +1,276 @@
+// Ask 4: jobs that need several cores. The second kind of task, its rules by the leaf functions of `rule`, and its finder, which halves
+// the range of steps. The promise of `find` is `outcome` of `specs/Wide`.
+use admission::Admission;
+use ground::Step;
+use kinds::Answer;
+use kinds::Refusal;
+use kinds::Share;
+use kinds::Table;
+use kinds::Task;
+ghost use mathlib.Core.Bool.{false};
+ghost use mathlib.Core.List.{_++_};
+ghost use mathlib.Core.Path.{_≡_};
+ghost use Prim.Native.Nat.{_≤_};
+ghost use lib.ListN.{length, drop};
+ghost use Rattle.kinds.specs.Answer.{handed};
+ghost use Rattle.kinds.specs.Limits.{longestPeriod, greatestElasticity, mostTasks, mostProcessors};
+ghost use Rattle.plan.specs.Plan.{Meets};
+ghost use Rattle.wide.specs.Limits.{mostTmins};
+ghost use Rattle.wide.specs.WideTask.{wideTask, Good, isGood};
+ghost use Rattle.wide.specs.Cores.{largestOf, leastOf, shareAt, saturationAt, ShareIs, StepIs, PeriodIs, CoresIs};
+ghost use Rattle.wide.specs.Table.{fullCompression, firstBad, coresSum, passesAt, leastStep, periodsAt, coreCountsAt, GoodTable, SumIs};
+ghost use Rattle.wide.specs.Wide.{admission, found, outcome, MayGrant, Leaves};
+
+// A task that needs several cores: cost C, span L, shortest and longest period, elasticity E. Any numbers may stand in it.
+pub struct WideTask {
+    pub c: u64,
+    pub l: u32,
+    pub tmin: u32,
+    pub tmax: u32,
+    pub e: u32,
+}
+
+impl WideTask {
+    // Ask 4: "C at most 16 × Tmin".
+    pub const MOST_TMINS: u64 = 16;
+
+    pub const LONGEST_PERIOD: u32 = Task::LONGEST_PERIOD;
+
+    pub const GREATEST_ELASTICITY: u32 = Task::GREATEST_ELASTICITY;
+
+    pub fn new(c: u64, l: u32, tmin: u32, tmax: u32, e: u32) -> WideTask
+        ensures { λ r. ⌜ r ≡ wideTask c l tmin tmax e ⌝ }
+    {
+        WideTask {
+            c,
+            l,
+            tmin,
+            tmax,
+            e,
+        }
+    }
+
+    // Ask 4: "1 ≤ L < Tmin, L < C, Tmax < C, C at most 16 × Tmin, and Tmax and E as in 01".
+    pub fn good(self) -> bool
+        ensures { λ r. ⌜ r ≡ isGood self ⌝ }
+    {
+        let costliest = WideTask::MOST_TMINS * ground::wide(self.tmin);
+        1 <= self.l
+            && self.l < self.tmin
+            && (self.l as u64) < self.c
+            && (self.tmax as u64) < self.c
+            && self.c <= costliest
+            && self.tmin <= self.tmax
+            && self.tmax <= WideTask::LONGEST_PERIOD
+            && self.e <= WideTask::GREATEST_ELASTICITY
+    }
+}
+
+// A table of such tasks by value: room for the most tasks, of which the first n count. A lent count may be greater than the room.
+pub struct WideTable {
+    pub rows: [WideTask; Table::MOST_TASKS],
+    pub n: usize,
+}
+
+// The limits that definitions name are those that the code names.
+pub fn limits()
+    ensures { λ _. do ⌜ (← ⟦WideTask::MOST_TMINS⟧ .entry) ≡ mostTmins ⌝ }
+    ensures { λ _. do ⌜ (← ⟦WideTask::LONGEST_PERIOD⟧ .entry) ≡ longestPeriod ⌝ }
+    ensures { λ _. do ⌜ (← ⟦WideTask::GREATEST_ELASTICITY⟧ .entry) ≡ greatestElasticity ⌝ }
+{}
+
+// Document 01: "Largest share: C × S / Tmin rounded up."
+pub fn largest(task: WideTask) -> Share
+    requires { ⌜ Good task ⌝ }
+    ensures { λ r. ⌜ ShareIs (largestOf task) (r .parts) ⌝ }
+{
+    Share::new(rule::part(task.c, task.tmin))
+}
+
+// Document 01: "Least share: C × S / Tmax rounded up."
+pub fn least(task: WideTask) -> Share
+    requires { ⌜ Good task ⌝ }
+    ensures { λ r. ⌜ ShareIs (leastOf task) (r .parts) ⌝ }
+{
+    Share::new(rule::part(task.c, task.tmax))
+}
+
+// The share at any step, which is above one processor's.
+pub fn share_at(task: WideTask, k: u32) -> Share
+    requires { ⌜ Good task ⌝ }
+    ensures { λ r. ⌜ ShareIs (shareAt task k) (r .parts) ⌝ }
+{
+    let high = largest(task);
+    let low = least(task);
+    Share::new(rule::share_at(high.parts, low.parts, task.e, k))
+}
+
+// The saturation step; 0 where the elasticity is 0.
+pub fn saturation(task: WideTask) -> u32
+    requires { ⌜ Good task ⌝ }
+    ensures { λ r. ⌜ StepIs (saturationAt task) r ⌝ }
+{
+    let high = largest(task);
+    let low = least(task);
+    rule::saturation(high.parts, low.parts, task.e) as u32
+}
+
+// The period at any step.
+pub fn period_at(task: WideTask, k: u32) -> u32
+    requires { ⌜ Good task ⌝ }
+    ensures { λ r. ⌜ PeriodIs task k r ⌝ }
+{
+    let share = share_at(task, k);
+    rule::period(task.c, task.tmin, share.parts) as u32
+}
+
+// The cores needed at any step: (C − L) / (T − L) rounded up, T the period at that step.
+pub fn cores_at(task: WideTask, k: u32) -> u64
+    requires { ⌜ Good task ⌝ }
+    ensures { λ r. ⌜ CoresIs task k r ⌝ }
+{
+    let l = ground::wide(task.l);
+    let t = ground::wide(period_at(task, k));
+    ground::ceil_div(task.c - l, t - l)
+}
+
+// Document 01: "Full compression K: the greatest saturation step, 0 if there is none."
+pub fn full_compression(table: WideTable) -> u32
+    requires { ⌜ GoodTable table ⌝ }
+    ensures { λ r. ⌜ StepIs (fullCompression (table .rows) (table .n)) r ⌝ }
+{
+    let n = table.n;
+    let mut greatest: u32 = 0;
+    for i in 0..n {
+        greatest = ground::later(greatest, saturation(table.rows[i]));
+    }
+    greatest
+}
+
+// The first record that is not good, or how many there are.
+pub fn first_bad(table: WideTable) -> usize
+    requires { ⌜ table .n ≤ mostTasks ⌝ }
+    ensures { λ r. ⌜ r ≡ firstBad (table .rows) (table .n) ⌝ }
+{
+    let n = table.n;
+    for i in 0..n {
+        if !table.rows[i].good() {
+            return i;
+        }
+    }
+    n
+}
+
+// The cores that the table needs at step k.
+fn cores_sum(table: WideTable, k: u32) -> u64
+    requires { ⌜ GoodTable table ⌝ }
+    ensures { λ r. ⌜ SumIs (table .rows) (table .n) k r ⌝ }
+{
+    let n = table.n;
+    let mut sum: u64 = 0;
+    for i in 0..n {
+        sum += cores_at(table.rows[i], k);
+    }
+    sum
+}
+
+// Ask 4: "A table of such tasks passes at a step when the cores add up to at most m".
+pub fn passes_at(m: u16, table: WideTable, k: u32) -> bool
+    requires { ⌜ GoodTable table ⌝ }
+    ensures { λ r. ⌜ r ≡ passesAt m (table .rows) (table .n) k ⌝ }
+{
+    cores_sum(table, k) <= m as u64
+}
+
+// The least step from 0 to full compression that passes. Passing stays, so the range is halved; full compression + 1 stands for none.
+fn least_step(m: u16, table: WideTable) -> Step
+    requires { ⌜ GoodTable table ⌝ }
+    ensures { λ r. ⌜ r ≡ leastStep m (table .rows) (table .n) ⌝ }
+{
+    let full = full_compression(table);
+    let mut from: u32 = 0;
+    let mut to: u32 = full + 1;
+    while from < to {
+        let middle = (from + to) / 2;
+        if passes_at(m, table, middle) {
+            to = middle;
+        } else {
+            from = middle + 1;
+        }
+    }
+    if from <= full {
+        return Step::At(from);
+    }
+    Step::Nothing
+}
+
+// Refusals 2, 3, 5 and 6, for outputs of which the shorter has so much room.
+fn admit(table: WideTable, m: u16, room: usize) -> Admission
+    ensures { λ r. ⌜ r ≡ admission m (table .rows) (table .n) room ⌝ }
+{
+    let n = table.n;
+    let gate = admission::gate(false, m, n, false, room);
+    let Admission::Admitted = gate else {
+        return gate;
+    };
+    let bad = first_bad(table);
+    if bad < n {
+        return Admission::Refused(Refusal::BadRecord(bad));
+    }
+    Admission::Admitted
+}
+
+// The answer, for outputs of which the shorter has so much room.
+pub fn decide(table: WideTable, m: u16, room: usize) -> Answer
+    ensures { λ r. ⌜ handed r ≡ found m (table .rows) (table .n) room ⌝ }
+{
+    let admission = admit(table, m, room);
+    let Admission::Admitted = admission else {
+        return plan::decide(admission, Step::Nothing);
+    };
+    let step = least_step(m, table);
+    plan::decide(admission, step)
+}
+
+// Writes the period of each task at step k, and nothing past them.
+fn write_periods(table: WideTable, k: u32, out: &mut [u32])
+    requires { ⌜ GoodTable table × (table .n ≤ length (now out)) ⌝ }
+    ensures { λ _. ⌜ now (out .exit) ≡ periodsAt (table .rows) (table .n) k ++ drop (table .n) (now (out .entry)) ⌝ }
+{
+    let n = table.n;
+    for i in 0..n {
+        out[i] = period_at(table.rows[i], k);
+    }
+}
+
+// Writes the cores that each task needs at step k, which fit the processors there are, and nothing past them.
+fn write_cores(table: WideTable, k: u32, out: &mut [u16])
+    requires { ⌜ GoodTable table × (table .n ≤ length (now out)) × (coresSum (table .rows) (table .n) k ≤ mostProcessors) ⌝ }
+    ensures { λ _. ⌜ now (out .exit) ≡ coreCountsAt (table .rows) (table .n) k ++ drop (table .n) (now (out .entry)) ⌝ }
+{
+    let n = table.n;
+    for i in 0..n {
+        out[i] = cores_at(table.rows[i], k) as u16;
+    }
+}
+
+// Writes what an answer grants to the two lent outputs: the periods and core counts of an accepted step, or nothing.
+fn grant(answer: Answer, table: WideTable, periods: &mut [u32], cores: &mut [u16])
+    requires { ⌜ MayGrant answer table (length (now periods)) (length (now cores)) ⌝ }
+    ensures { λ _. ⌜ Leaves (handed answer) (table .rows) (table .n) (now (periods .entry)) (now (cores .entry)) (now (periods .exit)) (now (cores .exit)) ⌝ }
+{
+    if answer.accepted() {
+        let k = answer.step();
+        write_periods(table, k, periods);
+        write_cores(table, k, cores);
+    }
+}
+
+// The periods and core counts of the least passing step, written to the two lent outputs, or the refusal, which writes nothing.
+pub fn find(table: WideTable, m: u16, periods: &mut [u32], cores: &mut [u16]) -> Answer
+    ensures { λ r. ⌜ Meets (outcome m (table .rows) (table .n) (now (periods .entry)) (now (cores .entry))) r (now (periods .exit)) (now (cores .exit)) ⌝ }
+{
+    let answer = decide(table, m, ground::shorter(periods.len(), cores.len()));
+    grant(answer, table, periods, cores);
+    answer
+}

@@ -1,0 +1,18 @@
+-- What the finder says of the table of the lent rows, it says of the rows.
+-- Assumes nothing.
+use Prim.Native.Nat.{ℕ}
+use mathlib.Core.List.{List}
+use mathlib.Core.Path.{_≡_}
+use lib.ListN.{length}
+use Rattle.kinds.specs.Limits.{mostTasks}
+use Rattle.wide.specs.declared.WideTask.{WideTask}
+use Rattle.wide.specs.WideTask.{noWideTask}
+use Rattle.wide.specs.Wide.{outcome}
+use Rattle.wide.proofs.Outcomes.{outcome-same}
+use Rattle.walk.proofs.Padding.{padded-at}
+use Rattle.wide_rows.specs.Gathered.{tableOf}
+
+pub outcome-over : (m : ℕ) (rows : List WideTask) (periods cores : List ℕ)
+    → outcome m (tableOf rows .rows) (length rows) periods cores ≡ outcome m rows (length rows) periods cores
+outcome-over m rows periods cores =
+    outcome-same m (tableOf rows .rows) rows (length rows) periods cores (λ few i _. padded-at noWideTask mostTasks rows few i)

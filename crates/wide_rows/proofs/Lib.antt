@@ -1,0 +1,4 @@
+pub mod Bridge
+pub mod Values
+pub mod Tables
+pub mod Lent
