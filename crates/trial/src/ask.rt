@@ -10,21 +10,25 @@ use kinds::Task;
 ghost use Prim.Native.Nat.{_≤_};
 ghost use Rattle.kinds.specs.Limits.{mostTasks};
 
+// A number of 1 byte and the place after it.
 pub enum ByteField {
     Value(u8, usize),
     Missing,
 }
 
+// Settings and the place after them.
 pub enum SettingsField {
     Value(Settings, usize),
     Missing,
 }
 
+// A task record and the place after it.
 enum TaskField {
     Value(Task, usize),
     Missing,
 }
 
+// A result and the place after it.
 enum GrantedField {
     Value(Granted, usize),
     Missing,
@@ -43,6 +47,7 @@ pub struct ResultsField {
     pub results: Results,
 }
 
+// The number of 1 byte at a place.
 pub fn read_byte(s: &[u8], at: usize) -> ByteField {
     if s.len() <= at {
         return ByteField::Missing;
@@ -58,6 +63,7 @@ fn policy_of(number: u16, flag: u8) -> Policy {
     Policy::Further(number)
 }
 
+// The settings at a place: policy number 2, flag 1, m 2.
 pub fn read_settings(s: &[u8], at: usize) -> SettingsField {
     let Field16::Value(number, at_flag) = field::read_u16(s, at) else {
         return SettingsField::Missing;
@@ -72,6 +78,7 @@ pub fn read_settings(s: &[u8], at: usize) -> SettingsField {
     SettingsField::Value(Settings { policy, m }, next)
 }
 
+// The task record at a place.
 fn read_task(s: &[u8], at: usize) -> TaskField {
     let Field32::Value(c, at_tmin) = field::read_u32(s, at) else {
         return TaskField::Missing;
@@ -88,6 +95,7 @@ fn read_task(s: &[u8], at: usize) -> TaskField {
     TaskField::Value(Task { c, tmin, tmax, e }, next)
 }
 
+// The result at a place.
 fn read_granted(s: &[u8], at: usize) -> GrantedField {
     let Field32::Value(period, at_processor) = field::read_u32(s, at) else {
         return GrantedField::Missing;

@@ -66,6 +66,7 @@ fn no_finding() -> Finding {
     }
 }
 
+// What the payload of a call of kind 1 or 2 asks.
 fn read_finding(s: &[u8]) -> Finding {
     let SettingsField::Value(settings, at_count) = ask::read_settings(s, KIND) else {
         return no_finding();
@@ -90,11 +91,12 @@ fn read_finding(s: &[u8]) -> Finding {
     }
 }
 
-// Whether a table goes to a finder as lent rows, and not by value: every other count that a table takes.
+// Whether a table goes to a finder through the thin call over lent rows: those with an even count up to 32. The others go by value.
 fn is_lent(n: usize) -> bool {
     n <= Table::MOST_TASKS && n % 2 == 0
 }
 
+// Asks the plain finder, over lent rows or by value.
 fn find_plain(
     table: Table,
     settings: Settings,
@@ -107,6 +109,7 @@ fn find_plain(
     plain::find(table, settings, periods, processors)
 }
 
+// Asks the quick finder, over lent rows or by value.
 fn find_quick(
     table: Table,
     settings: Settings,
@@ -119,7 +122,7 @@ fn find_quick(
     quick::find(table, settings, periods, processors)
 }
 
-// The verdict of a finder and its step.
+// Puts the verdict of a finder and its step.
 fn put_answer(out: &mut [u8; ROOM], at: usize, answer: Answer) -> usize
     ensures { λ r. ⌜ r ≤ room ⌝ }
 {
@@ -152,7 +155,7 @@ fn plain_into(
     tell::put_processors(out, at_processors, processors)
 }
 
-// Kind 1.
+// Kind 1: the plain finder.
 fn answer_plain(s: &[u8], out: &mut [u8; ROOM]) -> usize
     ensures { λ r. ⌜ r ≤ room ⌝ }
 {
@@ -186,7 +189,7 @@ fn quick_into(
     tell::put_processors(out, at_processors, processors)
 }
 
-// Kind 2.
+// Kind 2: the quick finder.
 fn answer_quick(s: &[u8], out: &mut [u8; ROOM]) -> usize
     ensures { λ r. ⌜ r ≤ room ⌝ }
 {
@@ -201,6 +204,7 @@ fn answer_quick(s: &[u8], out: &mut [u8; ROOM]) -> usize
     quick_into(asked, &mut periods[..a], &mut processors[..b], out)
 }
 
+// Puts the verdict of a margin, and the margin.
 fn put_margin(out: &mut [u8; ROOM], at: usize, margin: Margin) -> usize
     ensures { λ r. ⌜ r ≤ room ⌝ }
 {
@@ -216,7 +220,7 @@ fn put_margin(out: &mut [u8; ROOM], at: usize, margin: Margin) -> usize
     }
 }
 
-// Kind 3.
+// Kind 3: the margin.
 fn answer_margin(s: &[u8], out: &mut [u8; ROOM]) -> usize
     ensures { λ r. ⌜ r ≤ room ⌝ }
 {
@@ -237,7 +241,7 @@ fn answer_margin(s: &[u8], out: &mut [u8; ROOM]) -> usize
     put_margin(out, LENGTH, margin::margin_at(table, settings, step))
 }
 
-// The sheet that a reading hands back: settings, counts, and every row, the unused ones too.
+// Puts the sheet that a reading hands back: settings, counts, and every row, the unused ones too.
 fn put_sheet(out: &mut [u8; ROOM], at: usize, x: Sheet) -> usize
     ensures { λ r. ⌜ r ≤ room ⌝ }
 {
@@ -255,6 +259,7 @@ fn put_sheet(out: &mut [u8; ROOM], at: usize, x: Sheet) -> usize
     tell::put_results(out, at_results, granted)
 }
 
+// Puts the verdict of a reading.
 fn put_verdict(out: &mut [u8; ROOM], at: usize, verdict: Verdict) -> usize
     ensures { λ r. ⌜ r ≤ room ⌝ }
 {
@@ -264,7 +269,7 @@ fn put_verdict(out: &mut [u8; ROOM], at: usize, verdict: Verdict) -> usize
     }
 }
 
-// Kind 4.
+// Kind 4: reading a sheet.
 fn answer_read(sheet: &[u8], out: &mut [u8; ROOM]) -> usize
     ensures { λ r. ⌜ r ≤ room ⌝ }
 {
@@ -291,6 +296,7 @@ fn no_writing() -> Writing {
     }
 }
 
+// What the payload of a call of kind 5 asks.
 fn read_writing(s: &[u8]) -> Writing {
     let SettingsField::Value(settings, at_tasks) = ask::read_settings(s, KIND) else {
         return no_writing();
@@ -320,7 +326,7 @@ fn read_writing(s: &[u8]) -> Writing {
     }
 }
 
-// The verdict of a writer and its written length.
+// Puts the verdict of a writer and its written length.
 fn put_written(out: &mut [u8; ROOM], at: usize, written: Written) -> usize
     ensures { λ r. ⌜ r ≤ room ⌝ }
 {
@@ -345,7 +351,7 @@ fn write_into(x: Sheet, buffer: &mut [u8], out: &mut [u8; ROOM]) -> usize
     tell::put_bytes(out, at_buffer, buffer)
 }
 
-// Kind 5.
+// Kind 5: writing a sheet.
 fn answer_write(s: &[u8], out: &mut [u8; ROOM]) -> usize
     ensures { λ r. ⌜ r ≤ room ⌝ }
 {
@@ -373,7 +379,8 @@ fn serves(sheet: &[u8]) -> bool {
     answer.accepted()
 }
 
-// Which of two sheets a change-over's part is of (1: the proposed one), and where the part starts in it.
+// Puts which of two sheets a change-over's part is of (1: the proposed one), and where the part starts in it. Two slices cannot be
+// compared by where they lie, so this is worked out as document 01 says it.
 fn put_place(out: &mut [u8; ROOM], at: usize, standing: &[u8], proposed: &[u8]) -> usize
     ensures { λ r. ⌜ r ≤ room ⌝ }
 {
@@ -388,7 +395,7 @@ fn put_place(out: &mut [u8; ROOM], at: usize, standing: &[u8], proposed: &[u8]) 
     tell::put_count(out, at_offset, 0)
 }
 
-// The part that a change-over hands back: its place, its length and its bytes.
+// Puts the part that a change-over hands back: its place, its length and its bytes.
 fn answer_over<'a>(standing: &'a [u8], proposed: &'a [u8], out: &mut [u8; ROOM]) -> usize
     ensures { λ r. ⌜ r ≤ room ⌝ }
 {
@@ -398,7 +405,7 @@ fn answer_over<'a>(standing: &'a [u8], proposed: &'a [u8], out: &mut [u8; ROOM])
     tell::put_bytes(out, at_part, part)
 }
 
-// Kind 6.
+// Kind 6: the change-over, of two parts of the payload.
 fn answer_change_over(s: &[u8], out: &mut [u8; ROOM]) -> usize
     ensures { λ r. ⌜ r ≤ room ⌝ }
 {
@@ -416,7 +423,7 @@ fn answer_change_over(s: &[u8], out: &mut [u8; ROOM]) -> usize
     answer_over(&s[from..end], &s[end..], out)
 }
 
-// Kind 7.
+// Kind 7: what the program writes.
 fn answer_program(input: &[u8], out: &mut [u8; ROOM]) -> usize
     ensures { λ r. ⌜ r ≤ room ⌝ }
 {
@@ -492,6 +499,7 @@ fn answer_next() -> bool {
     answer_into(&mut space[..n])
 }
 
+// Answers call after call until the input ends.
 fn main() {
     let mut turns = MOST_CALLS;
     while turns > 0 && answer_next() {

@@ -10,6 +10,7 @@ ghost use Rattle.trial.specs.Room.{room};
 // The most bytes of a payload, and of an answer with its length before it.
 pub const ROOM: usize = 2_000;
 
+// A number in 1 byte.
 pub fn put_byte(out: &mut [u8; ROOM], at: usize, v: u8) -> usize
     ensures { λ r. ⌜ r ≤ room ⌝ }
 {
@@ -20,6 +21,7 @@ pub fn put_byte(out: &mut [u8; ROOM], at: usize, v: u8) -> usize
     at + 1
 }
 
+// A number in 2 bytes.
 pub fn put_short(out: &mut [u8; ROOM], at: usize, v: u16) -> usize
     ensures { λ r. ⌜ r ≤ room ⌝ }
 {
@@ -29,6 +31,7 @@ pub fn put_short(out: &mut [u8; ROOM], at: usize, v: u16) -> usize
     field::put_u16(out, at, v)
 }
 
+// A number in 4 bytes.
 pub fn put_long(out: &mut [u8; ROOM], at: usize, v: u32) -> usize
     ensures { λ r. ⌜ r ≤ room ⌝ }
 {
@@ -71,7 +74,7 @@ pub fn put_accepted(out: &mut [u8; ROOM], at: usize) -> usize
     put_long(out, at_place, 0)
 }
 
-// The verdict of a refused call: its number and its place.
+// The verdict of a refused call: its number in 1 byte and its place in 4; each fits.
 pub fn put_refused(out: &mut [u8; ROOM], at: usize, refusal: Refusal) -> usize
     ensures { λ r. ⌜ r ≤ room ⌝ }
 {
@@ -79,6 +82,7 @@ pub fn put_refused(out: &mut [u8; ROOM], at: usize, refusal: Refusal) -> usize
     put_long(out, at_place, (refusal.place() % 4_294_967_296) as u32)
 }
 
+// A task record in 16 bytes.
 fn put_task(out: &mut [u8; ROOM], at: usize, row: Task) -> usize
     ensures { λ r. ⌜ r ≤ room ⌝ }
 {
@@ -88,6 +92,7 @@ fn put_task(out: &mut [u8; ROOM], at: usize, row: Task) -> usize
     put_long(out, at_e, row.e)
 }
 
+// A result in 6 bytes.
 fn put_granted(out: &mut [u8; ROOM], at: usize, row: Granted) -> usize
     ensures { λ r. ⌜ r ≤ room ⌝ }
 {
@@ -123,6 +128,7 @@ pub fn put_results(out: &mut [u8; ROOM], from: usize, rows: [Granted; Table::MOS
     at
 }
 
+// Some bytes as they are.
 pub fn put_bytes(out: &mut [u8; ROOM], from: usize, run: &[u8]) -> usize
     requires { ⌜ from ≤ room ⌝ }
     ensures { λ r. ⌜ r ≤ room ⌝ }
