@@ -4,19 +4,14 @@
 use Prim.Native.Nat.{ℕ, _≤_, _<_, min}
 use mathlib.Core.Bool.{false}
 use mathlib.Core.List.{List}
-use mathlib.Core.Path.{_≡_, sym, ap, _∙_}
-use native.Mathlib.Omega.{arith}
+use mathlib.Core.Path.{_≡_}
 use lib.ListN.{length, getD}
-use Rattle.ground.specs.declared.Step.{Step}
-use Rattle.ground.specs.declared.Step.the-variants.{At, Nothing}
 use Rattle.ground.specs.Least.{LeastAt}
 use Rattle.ground.proofs.Buffer.{list-at, list-past}
-use Rattle.kinds.specs.declared.Answer.the-variants.{Accepted, Refused}
-use Rattle.kinds.specs.declared.Refusal.the-variants.{NoStepPasses}
-use Rattle.kinds.specs.Answer.{handed}
+use Rattle.kinds.specs.declared.Answer.the-variants.{Accepted}
 use Rattle.rule.specs.Rule.{Shortest}
 use Rattle.admission.specs.declared.Admission.the-variants.{Admitted}
-use Rattle.plan.specs.Plan.{Outcome, Meets}
+use Rattle.plan.specs.Plan.{Meets}
 use Rattle.wide.specs.declared.WideTask.{WideTask}
 use Rattle.wide.specs.declared.WideTable.{WideTable}
 use Rattle.wide.specs.WideTask.{at}

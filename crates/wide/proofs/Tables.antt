@@ -1,6 +1,6 @@
 -- What is said of full compression, of the first bad record and of the sum of the cores, and the walks over a table that work them out.
 -- Assumes nothing.
-use Prim.Native.Nat.{ℕ, _+_, _*_, _≤_, _<_, max}
+use Prim.Native.Nat.{ℕ, _+_, _≤_, _<_, max}
 use mathlib.Core.Bool.{Bool, true, false, not}
 use mathlib.Core.List.{List}
 use mathlib.Core.Path.{_≡_, sym, ap, _∙_}
@@ -16,7 +16,6 @@ use Rattle.ground.proofs.Least.{least-cong}
 use Rattle.kinds.specs.Limits.{mostTasks}
 use Rattle.wide.specs.declared.WideTask.{WideTask}
 use Rattle.wide.specs.declared.WideTable.{WideTable}
-use Rattle.wide.specs.Limits.{mostSteps, mostCores}
 use Rattle.wide.specs.WideTask.{at, Good, isGood}
 use Rattle.wide.specs.Cores.{saturationAt, periodAt, coresAt, StepIs, CoresIs}
 use Rattle.wide.specs.Table.{fullCompression, firstBad, coresSum, passesAt, leastStep, periodsAt, coreCountsAt, GoodTable, SumIs}

@@ -8,7 +8,6 @@ use lib.ListN.{length}
 use Rattle.ground.specs.First.{firstFrom, firstBelow}
 use Rattle.ground.specs.Folds.{sumTo, maxTo, listTo}
 use Rattle.ground.specs.Least.{leastUpTo}
-use Rattle.kinds.specs.Answer.{Handed}
 use Rattle.admission.specs.Admission.{gate}
 use Rattle.plan.specs.Plan.{Outcome}
 use Rattle.wide.specs.declared.WideTask.{WideTask}

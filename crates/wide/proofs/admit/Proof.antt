@@ -1,5 +1,5 @@
 -- `wide::admit` meets its contract. Assumes nothing.
-use mathlib.Core.Path.{_≡_, sym, _∙_}
+use mathlib.Core.Path.{sym, _∙_}
 use borrow.Author.Tests.{lt-ltb, le-ltb}
 use Rattle.admission.proofs.Chain.{gate-passed}
 use Rattle.wide.specs.Wide.{admission}

@@ -1,6 +1,4 @@
 -- `wide::cores_at` meets its contract. Assumes nothing.
-use mathlib.Core.Path.{_≡_}
-use native.Mathlib.Omega.{arith}
 use Rattle.wide.specs.Cores.{coresAt}
 use Rattle.wide.proofs.Tasks.{cores-is}
 use borrow.Author.Needs.{needs}
