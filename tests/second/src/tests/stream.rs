@@ -62,6 +62,10 @@ fn the_rows_present_are_those_of_the_count_and_at_most_32() {
                 assert_eq!(writing.results.len(), usize::from(writing.result_count).min(32));
             }
             Call::Program(input) => assert!(input.len() <= 800),
+            Call::Wide(table, rooms) => {
+                assert_eq!(table.rows.len(), usize::from(table.count).min(32));
+                assert!(rooms.periods <= 40 && rooms.processors <= 40);
+            }
             Call::Read(_) | Call::ChangeOver { .. } => {}
         }
     }
