@@ -7,6 +7,8 @@ use kinds::Results;
 use kinds::Settings;
 use kinds::Table;
 use kinds::Task;
+use wide::WideTable;
+use wide::WideTask;
 ghost use Prim.Native.Nat.{_≤_};
 ghost use Rattle.kinds.specs.Limits.{mostTasks};
 
@@ -28,6 +30,18 @@ enum TaskField {
     Missing,
 }
 
+// A cost and the place after it.
+enum CostField {
+    Value(u64, usize),
+    Missing,
+}
+
+// A task that needs several cores and the place after it.
+enum WideTaskField {
+    Value(WideTask, usize),
+    Missing,
+}
+
 // A result and the place after it.
 enum GrantedField {
     Value(Granted, usize),
@@ -39,6 +53,12 @@ pub struct TableField {
     pub whole: bool,
     pub table: Table,
     pub next: usize,
+}
+
+// The rows of a table of tasks that need several cores with its count: whether all are there.
+pub struct WideTableField {
+    pub whole: bool,
+    pub table: WideTable,
 }
 
 // The results of a sheet with their count: whether all are there.
@@ -95,6 +115,40 @@ fn read_task(s: &[u8], at: usize) -> TaskField {
     TaskField::Value(Task { c, tmin, tmax, e }, next)
 }
 
+// What one in the high half of 8 bytes stands for.
+const HALF: u64 = 4_294_967_296;
+
+// A cost of 8 bytes.
+fn read_cost(s: &[u8], at: usize) -> CostField {
+    let Field32::Value(low, at_high) = field::read_u32(s, at) else {
+        return CostField::Missing;
+    };
+    let Field32::Value(high, next) = field::read_u32(s, at_high) else {
+        return CostField::Missing;
+    };
+    CostField::Value(ground::wide(low) + HALF * ground::wide(high), next)
+}
+
+// The task that needs several cores at a place.
+fn read_wide_task(s: &[u8], at: usize) -> WideTaskField {
+    let CostField::Value(c, at_l) = read_cost(s, at) else {
+        return WideTaskField::Missing;
+    };
+    let Field32::Value(l, at_tmin) = field::read_u32(s, at_l) else {
+        return WideTaskField::Missing;
+    };
+    let Field32::Value(tmin, at_tmax) = field::read_u32(s, at_tmin) else {
+        return WideTaskField::Missing;
+    };
+    let Field32::Value(tmax, at_e) = field::read_u32(s, at_tmax) else {
+        return WideTaskField::Missing;
+    };
+    let Field32::Value(e, next) = field::read_u32(s, at_e) else {
+        return WideTaskField::Missing;
+    };
+    WideTaskField::Value(WideTask::new(c, l, tmin, tmax, e), next)
+}
+
 // The result at a place.
 fn read_granted(s: &[u8], at: usize) -> GrantedField {
     let Field32::Value(period, at_processor) = field::read_u32(s, at) else {
@@ -140,6 +194,27 @@ pub fn read_table(s: &[u8], from: usize, n: usize) -> TableField {
         table,
         next: at,
     }
+}
+
+// A table of tasks that need several cores with the count n, which may be above the rows that a table takes.
+pub fn read_wide_table(s: &[u8], from: usize, n: usize) -> WideTableField {
+    let present = present(n);
+    let none = WideTask::new(0, 0, 0, 0, 0);
+    let mut rows = [none; Table::MOST_TASKS];
+    let mut at = from;
+    let mut whole = true;
+    let mut i: usize = 0;
+    while i < present {
+        let WideTaskField::Value(row, next) = read_wide_task(s, at) else {
+            whole = false;
+            break;
+        };
+        rows[i] = row;
+        at = next;
+        i += 1;
+    }
+    let table = WideTable { rows, n };
+    WideTableField { whole, table }
 }
 
 // The results with the count n, which may be above those that a sheet takes.

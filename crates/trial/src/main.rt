@@ -19,6 +19,7 @@ use libc::STDOUT_FILENO;
 use quick::Looked;
 use sheet::Verdict;
 use tell::ROOM;
+use wide::WideTable;
 use writer::Written;
 ghost use Prim.Native.Nat.{_≤_};
 ghost use Rattle.trial.specs.Room.{room};
@@ -432,6 +433,85 @@ fn answer_program(input: &[u8], out: &mut [u8; ROOM]) -> usize
     tell::put_bytes(out, LENGTH, &wrote[..k])
 }
 
+// The entries of both lent outputs, and the place after them.
+struct Entries {
+    whole: bool,
+    periods: usize,
+    cores: usize,
+    next: usize,
+}
+
+// Outputs that are not there.
+fn no_entries() -> Entries {
+    Entries {
+        whole: false,
+        periods: 0,
+        cores: 0,
+        next: 0,
+    }
+}
+
+fn read_entries(s: &[u8], at: usize) -> Entries {
+    let ByteField::Value(periods, at_cores) = ask::read_byte(s, at) else {
+        return no_entries();
+    };
+    let ByteField::Value(cores, next) = ask::read_byte(s, at_cores) else {
+        return no_entries();
+    };
+    Entries {
+        whole: true,
+        periods: periods as usize,
+        cores: cores as usize,
+        next,
+    }
+}
+
+fn find_wide(table: WideTable, m: u16, periods: &mut [u32], cores: &mut [u16]) -> Answer {
+    if is_lent(table.n) {
+        return wide_rows::find_wide_over(table, m, periods, cores);
+    }
+    wide::find(table, m, periods, cores)
+}
+
+// Asks the finder of tasks that need several cores with both outputs lent, and puts its answer and their whole content.
+fn wide_into(
+    table: WideTable,
+    m: u16,
+    periods: &mut [u32],
+    cores: &mut [u16],
+    out: &mut [u8; ROOM],
+) -> usize
+    ensures { λ r. ⌜ r ≤ room ⌝ }
+{
+    let answer = find_wide(table, m, periods, cores);
+    let at_periods = put_answer(out, LENGTH, answer);
+    let at_cores = tell::put_periods(out, at_periods, periods);
+    tell::put_processors(out, at_cores, cores)
+}
+
+// Kind 8.
+fn answer_wide(s: &[u8], out: &mut [u8; ROOM]) -> usize
+    ensures { λ r. ⌜ r ≤ room ⌝ }
+{
+    let Field16::Value(m, at_count) = field::read_u16(s, KIND) else {
+        return 0;
+    };
+    let Field16::Value(n, at_entries) = field::read_u16(s, at_count) else {
+        return 0;
+    };
+    let lent = read_entries(s, at_entries);
+    let asked = ask::read_wide_table(s, lent.next, n as usize);
+    let a = lent.periods;
+    let b = lent.cores;
+    if !lent.whole || !asked.whole || MOST_ENTRIES < a || MOST_ENTRIES < b {
+        return 0;
+    }
+    let table = asked.table;
+    let mut periods = [PERIOD_BEFORE; MOST_ENTRIES];
+    let mut cores = [PROCESSOR_BEFORE; MOST_ENTRIES];
+    wide_into(table, m, &mut periods[..a], &mut cores[..b], out)
+}
+
 // Puts the answer to a payload after the place of its length; returns the place after it, or 0 where the payload is no call.
 fn answer(s: &[u8], out: &mut [u8; ROOM]) -> usize
     ensures { λ r. ⌜ r ≤ room ⌝ }
@@ -447,6 +527,7 @@ fn answer(s: &[u8], out: &mut [u8; ROOM]) -> usize
         5 => answer_write(s, out),
         6 => answer_change_over(s, out),
         7 => answer_program(&s[KIND..], out),
+        8 => answer_wide(s, out),
         _ => 0,
     }
 }

@@ -1,12 +1,13 @@
 //! The answer that document 01 gives to a call, in the bytes of the answer stream.
 
-use crate::call::{Call, Rooms, Table, Writing};
+use crate::call::{Call, Rooms, Table, WideTable, Writing};
 use crate::definition::change_over::{change_over, Which};
 use crate::definition::finder::{plain, quick};
 use crate::definition::kinds::{Refusal, Sheet};
 use crate::definition::margin::margin;
 use crate::definition::program::program;
 use crate::definition::reader::read;
+use crate::definition::wide::find_wide;
 use crate::definition::writer::write;
 
 /// What lent outputs hold before a call.
@@ -110,6 +111,16 @@ fn change_over_answer(standing: &[u8], proposed: &[u8]) -> Vec<u8> {
     bytes
 }
 
+fn wide_answer(table: &WideTable, rooms: Rooms) -> Vec<u8> {
+    let (mut periods, mut cores) = lent_outputs(rooms);
+    let answer = find_wide(&table.question(), &mut periods, &mut cores);
+    let mut bytes = Vec::new();
+    put_verdict(&mut bytes, &answer);
+    bytes.extend(answer.unwrap_or(0).to_le_bytes());
+    put_outputs(&mut bytes, &periods, &cores);
+    bytes
+}
+
 /// The answer's bytes, without their length.
 pub fn answer(call: &Call) -> Vec<u8> {
     match call {
@@ -120,5 +131,6 @@ pub fn answer(call: &Call) -> Vec<u8> {
         Call::Write(writing) => write_answer(writing),
         Call::ChangeOver { standing, proposed } => change_over_answer(standing, proposed),
         Call::Program(input) => program(input),
+        Call::Wide(table, rooms) => wide_answer(table, *rooms),
     }
 }

@@ -2,6 +2,7 @@
 
 use crate::definition::admission::Question;
 use crate::definition::kinds::{Granted, Policy, Record, Sheet, MOST_TASKS};
+use crate::definition::wide::{WideQuestion, WideRecord};
 
 /// The most bytes of a payload.
 pub const MOST_PAYLOAD: usize = 2_000;
@@ -21,6 +22,14 @@ pub struct Table {
     pub settings: Settings,
     pub count: u16,
     pub rows: Vec<Record>,
+}
+
+/// Processors and a table of tasks that need several cores; of more than 32 tasks the stream has 32 rows.
+#[derive(Clone, Debug, PartialEq, Eq)]
+pub struct WideTable {
+    pub m: u16,
+    pub count: u16,
+    pub rows: Vec<WideRecord>,
 }
 
 /// The entries of the two lent outputs.
@@ -50,11 +59,20 @@ pub enum Call {
     Write(Writing),
     ChangeOver { standing: Vec<u8>, proposed: Vec<u8> },
     Program(Vec<u8>),
+    Wide(WideTable, Rooms),
 }
 
 /// The names of the kinds of call, from kind 1.
-pub const KIND_NAMES: [&str; 7] =
-    ["plain finder", "quick finder", "margin", "read", "write", "change-over", "program"];
+pub const KIND_NAMES: [&str; 8] = [
+    "plain finder",
+    "quick finder",
+    "margin",
+    "read",
+    "write",
+    "change-over",
+    "program",
+    "several cores",
+];
 
 /// The rows or results that the stream has of a count.
 pub fn present(count: u16) -> usize {
@@ -102,6 +120,17 @@ impl Table {
     }
 }
 
+impl WideTable {
+    /// A table that has all its rows.
+    pub fn new(m: u16, rows: &[WideRecord]) -> WideTable {
+        WideTable { m, count: rows.len() as u16, rows: rows.to_vec() }
+    }
+
+    pub fn question(&self) -> WideQuestion {
+        WideQuestion { m: self.m, count: usize::from(self.count), rows: self.rows.clone() }
+    }
+}
+
 impl Rooms {
     /// Just the entries that the rows present need.
     pub fn just(table: &Table) -> Rooms {
@@ -144,6 +173,18 @@ fn put_finder(bytes: &mut Vec<u8>, table: &Table, rooms: Rooms) {
     put_rows(bytes, &table.rows);
 }
 
+fn put_wide(bytes: &mut Vec<u8>, table: &WideTable, rooms: Rooms) {
+    bytes.extend(table.m.to_le_bytes());
+    bytes.extend(table.count.to_le_bytes());
+    bytes.extend([rooms.periods, rooms.processors]);
+    for row in &table.rows {
+        bytes.extend(row.c.to_le_bytes());
+        for number in [row.l, row.tmin, row.tmax, row.e] {
+            bytes.extend(number.to_le_bytes());
+        }
+    }
+}
+
 fn put_writing(bytes: &mut Vec<u8>, writing: &Writing) {
     writing.settings.put(bytes);
     for number in [writing.task_count, writing.result_count, writing.room] {
@@ -163,6 +204,7 @@ impl Call {
             Call::Write(..) => 5,
             Call::ChangeOver { .. } => 6,
             Call::Program(..) => 7,
+            Call::Wide(..) => 8,
         }
     }
 
@@ -186,6 +228,7 @@ impl Call {
                 bytes.extend(proposed);
             }
             Call::Program(input) => bytes.extend(input),
+            Call::Wide(table, rooms) => put_wide(&mut bytes, table, *rooms),
         }
         bytes
     }

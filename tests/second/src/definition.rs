@@ -10,4 +10,5 @@ pub mod policy;
 pub mod program;
 pub mod reader;
 pub mod share;
+pub mod wide;
 pub mod writer;

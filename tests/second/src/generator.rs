@@ -4,9 +4,11 @@
 pub mod bench;
 mod edges_of_finders;
 mod edges_of_sheets;
+pub mod edges_of_wide;
 mod mix;
 pub mod sheets;
 mod tables;
+mod wide_tables;
 
 use crate::call::Call;
 use crate::random::Random;
@@ -21,6 +23,7 @@ impl Calls {
         let mut fixed = bench::calls();
         fixed.extend(edges_of_finders::calls());
         fixed.extend(edges_of_sheets::calls());
+        fixed.extend(edges_of_wide::calls());
         Calls { seed, fixed }
     }
 

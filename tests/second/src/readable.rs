@@ -1,7 +1,7 @@
 //! Calls and answers in words, for the reader of a difference.
 
 use crate::answer::{BUFFER_SENTINEL, PERIOD_SENTINEL, PROCESSOR_SENTINEL};
-use crate::call::{Call, Rooms, Settings, Table, KIND_NAMES};
+use crate::call::{Call, Rooms, Settings, Table, WideTable, KIND_NAMES};
 use crate::definition::kinds::{Granted, Record, MOST_TASKS};
 use std::fmt::Write;
 
@@ -40,6 +40,19 @@ fn bytes_line(name: &str, bytes: &[u8]) -> String {
     format!("  {name} ({} bytes): {}\n", bytes.len(), hex(bytes))
 }
 
+fn wide_lines(table: &WideTable) -> String {
+    let mut text = format!("  m {}\n", table.m);
+    let _ = writeln!(text, "  count {}, rows present {}", table.count, table.rows.len());
+    for (index, row) in table.rows.iter().enumerate() {
+        let _ = writeln!(
+            text,
+            "  row {index}: C {} L {} Tmin {} Tmax {} E {}",
+            row.c, row.l, row.tmin, row.tmax, row.e
+        );
+    }
+    text
+}
+
 /// What a call asks.
 pub fn call_text(call: &Call) -> String {
     let mut text = format!("{}\n", KIND_NAMES[usize::from(call.kind()) - 1]);
@@ -72,6 +85,10 @@ pub fn call_text(call: &Call) -> String {
             text.push_str(&bytes_line("proposed", proposed));
         }
         Call::Program(input) => text.push_str(&bytes_line("input", input)),
+        Call::Wide(table, rooms) => {
+            text.push_str(&wide_lines(table));
+            text.push_str(&rooms_line(*rooms));
+        }
     }
     text
 }
@@ -165,7 +182,7 @@ impl<'a> Fields<'a> {
 fn fields_text(call: &Call, answer: &[u8]) -> Option<String> {
     let mut fields = Fields { rest: answer };
     let text = match call {
-        Call::Plain(_, rooms) => {
+        Call::Plain(_, rooms) | Call::Wide(_, rooms) => {
             let verdict = fields.verdict()?;
             format!("{verdict}  step {}\n{}", fields.number(4)?, fields.outputs(*rooms)?)
         }

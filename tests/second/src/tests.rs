@@ -4,6 +4,7 @@ mod bench;
 mod finders;
 mod sheets;
 mod stream;
+mod wide;
 
 use crate::call::Table;
 use crate::definition::finder::{plain, quick};

@@ -5,6 +5,7 @@ use super::tables::{
     crossing, exact, exact_first_fit, general, huge, spoil, telling_step, tied, turning_step,
     wavering, Aim,
 };
+use super::wide_tables::random_wide;
 use crate::call::{present, Call, Rooms, Settings, Table, Writing};
 use crate::definition::kinds::{Record, Sheet};
 use crate::definition::share::springs;
@@ -24,7 +25,8 @@ pub fn random_call(random: &mut Random, index: usize) -> Call {
         64..=70 => Call::Read(sheet(random)),
         71..=77 => Call::Write(writing(random)),
         78..=87 => Call::ChangeOver { standing: sheet(random), proposed: sheet(random) },
-        _ => Call::Program(sheet(random)),
+        88..=94 => Call::Program(sheet(random)),
+        _ => several_cores(random),
     }
 }
 
@@ -38,14 +40,20 @@ fn long_scan(random: &mut Random) -> Call {
 
 fn plain(random: &mut Random) -> Call {
     let table = table(random, 4);
-    let rooms = rooms(random, &table);
+    let rooms = rooms(random, table.rows.len());
     Call::Plain(table, rooms)
 }
 
 fn quick(random: &mut Random) -> Call {
     let table = if random.one_in(12) { huge_table(random) } else { table(random, 3) };
-    let rooms = rooms(random, &table);
+    let rooms = rooms(random, table.rows.len());
     Call::Quick(table, rooms)
+}
+
+fn several_cores(random: &mut Random) -> Call {
+    let table = random_wide(random);
+    let rooms = rooms(random, table.rows.len());
+    Call::Wide(table, rooms)
 }
 
 fn margin(random: &mut Random) -> Call {
@@ -127,9 +135,9 @@ fn first_fit_table(random: &mut Random, aim: Aim) -> Table {
 }
 
 /// The entries lent: just enough, more, or too few in one of the two outputs or in both.
-fn rooms(random: &mut Random, table: &Table) -> Rooms {
+fn rooms(random: &mut Random, rows: usize) -> Rooms {
     let mut entries = || {
-        let needed = table.rows.len() as u32;
+        let needed = rows as u32;
         match random.between(0, 29) {
             0 => needed.saturating_sub(1) as u8,
             1 => random.small(0, 40) as u8,
