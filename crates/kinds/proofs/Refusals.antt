@@ -6,7 +6,7 @@ use native.Mathlib.Omega.{arith}
 use lib.Dec.{eqb}
 use Rattle.ground.specs.Choice.{pick}
 use Rattle.kinds.specs.declared.Refusal.{Refusal}
-use Rattle.kinds.specs.declared.Refusal.the-variants.{NoSuchPolicy, NoSuchProcessors, TooManyTasks, PolicyNotServed, OutputTooShort, BadRecord, NoStepPasses, SheetEnds, NotTwoSettings, WrongResultCount, BytesAfterLast}
+use Rattle.kinds.specs.declared.Refusal.the-variants.{NoSuchPolicy, NoSuchProcessors, TooManyTasks, PolicyNotServed, OutputTooShort, BadRecord, NoStepPasses, SheetEnds, NotTwoSettings, WrongResultCount, BytesAfterLast, NoResults, WrongResult}
 use Rattle.kinds.specs.Refusal.{numberOf, placeOf}
 
 -- from its number and place a refusal can be had back
@@ -22,7 +22,9 @@ again number place =
     (pick (eqb number 8) (SheetEnds place)
     (pick (eqb number 9) NotTwoSettings
     (pick (eqb number 10) (WrongResultCount place)
-    (BytesAfterLast place))))))))))
+    (pick (eqb number 11) (BytesAfterLast place)
+    (pick (eqb number 18) NoResults
+    (WrongResult place))))))))))))
 
 again-is : (r : Refusal) → again (numberOf r) (placeOf r) ≡ r
 unfolding again
@@ -37,6 +39,8 @@ again-is (SheetEnds place) = refl
 again-is NotTwoSettings = refl
 again-is (WrongResultCount place) = refl
 again-is (BytesAfterLast place) = refl
+again-is NoResults = refl
+again-is (WrongResult place) = refl
 
 pub refusal-one : (r q : Refusal) → numberOf r ≡ numberOf q → placeOf r ≡ placeOf q → r ≡ q
 refusal-one r q n p =
@@ -54,3 +58,5 @@ refusal-numbered (SheetEnds place) = omega arith
 refusal-numbered NotTwoSettings = omega arith
 refusal-numbered (WrongResultCount place) = omega arith
 refusal-numbered (BytesAfterLast place) = omega arith
+refusal-numbered NoResults = omega arith
+refusal-numbered (WrongResult place) = omega arith

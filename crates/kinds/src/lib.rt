@@ -177,7 +177,7 @@ pub struct Sheet {
     pub results: Results,
 }
 
-// One variant for each number of document 01, with its place where that is not 0.
+// One variant for each number of documents 01 and 02, with its place where that is not 0.
 pub enum Refusal {
     NoSuchPolicy,
     NoSuchProcessors,
@@ -190,6 +190,8 @@ pub enum Refusal {
     NotTwoSettings,
     WrongResultCount(usize),
     BytesAfterLast(usize),
+    NoResults,
+    WrongResult(usize),
 }
 
 impl Refusal {
@@ -208,6 +210,8 @@ impl Refusal {
             Refusal::NotTwoSettings => 9,
             Refusal::WrongResultCount(_) => 10,
             Refusal::BytesAfterLast(_) => 11,
+            Refusal::NoResults => 18,
+            Refusal::WrongResult(_) => 19,
         }
     }
 
@@ -226,6 +230,8 @@ impl Refusal {
             Refusal::NotTwoSettings => 0,
             Refusal::WrongResultCount(place) => place,
             Refusal::BytesAfterLast(place) => place,
+            Refusal::NoResults => 0,
+            Refusal::WrongResult(place) => place,
         }
     }
 }
