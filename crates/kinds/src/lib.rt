@@ -190,6 +190,7 @@ pub enum Refusal {
     NotTwoSettings,
     WrongResultCount(usize),
     BytesAfterLast(usize),
+    BadPeriod(usize),
     NoResults,
     WrongResult(usize),
 }
@@ -210,6 +211,7 @@ impl Refusal {
             Refusal::NotTwoSettings => 9,
             Refusal::WrongResultCount(_) => 10,
             Refusal::BytesAfterLast(_) => 11,
+            Refusal::BadPeriod(_) => 17,
             Refusal::NoResults => 18,
             Refusal::WrongResult(_) => 19,
         }
@@ -230,6 +232,7 @@ impl Refusal {
             Refusal::NotTwoSettings => 0,
             Refusal::WrongResultCount(place) => place,
             Refusal::BytesAfterLast(place) => place,
+            Refusal::BadPeriod(place) => place,
             Refusal::NoResults => 0,
             Refusal::WrongResult(place) => place,
         }
