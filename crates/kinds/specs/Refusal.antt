@@ -2,7 +2,7 @@
 -- Assumes nothing.
 use Prim.Native.Nat.{ℕ}
 use Rattle.kinds.specs.declared.Refusal.{Refusal}
-use Rattle.kinds.specs.declared.Refusal.the-variants.{NoSuchPolicy, NoSuchProcessors, TooManyTasks, PolicyNotServed, OutputTooShort, BadRecord, NoStepPasses, SheetEnds, NotTwoSettings, WrongResultCount, BytesAfterLast, BadPeriod, NoResults, WrongResult}
+use Rattle.kinds.specs.declared.Refusal.the-variants.{NoSuchPolicy, NoSuchProcessors, TooManyTasks, PolicyNotServed, OutputTooShort, BadRecord, NoStepPasses, SheetEnds, NotTwoSettings, WrongResultCount, BytesAfterLast, BadLine, BadPeriod, NoResults, WrongResult}
 
 abbrev pub numberOf : Refusal → ℕ
 numberOf NoSuchPolicy = 1
@@ -16,6 +16,7 @@ numberOf (SheetEnds place) = 8
 numberOf NotTwoSettings = 9
 numberOf (WrongResultCount place) = 10
 numberOf (BytesAfterLast place) = 11
+numberOf (BadLine place) = 16
 numberOf (BadPeriod place) = 17
 numberOf NoResults = 18
 numberOf (WrongResult place) = 19
@@ -32,6 +33,7 @@ placeOf (SheetEnds place) = place
 placeOf NotTwoSettings = 0
 placeOf (WrongResultCount place) = place
 placeOf (BytesAfterLast place) = place
+placeOf (BadLine place) = place
 placeOf (BadPeriod place) = place
 placeOf NoResults = 0
 placeOf (WrongResult place) = place
