@@ -42,7 +42,7 @@ module _ (s : List ℕ) (bytes : Bytes s) (w : Whole s) (k : ℕ) (e : asked (sh
       canonical-same (withPlan (sheetIn s) k) (planned-held s bytes w k e .tasks-room) (plan-room (sheetIn s) k) (sheet-few s w) (sheet-few s w)
       (record { policy-meant = c .policy-meant; tasks-unused = c .tasks-unused; results-unused = plan-unused (sheetIn s) k })
 
-  reads-again : readSheet (encode (withPlan (sheetIn s) k)) ≡ accepted (withPlan (sheetIn s) k)
+  pub reads-again : readSheet (encode (withPlan (sheetIn s) k)) ≡ accepted (withPlan (sheetIn s) k)
   unfolding withPlan resultsOf
   reads-again =
       forth (withPlan (sheetIn s) k) (planned-held s bytes w k e) (sheet-few s w) (plan-fits (sheetIn s .table .n))

@@ -1,6 +1,6 @@
 -- What the plain finder leaves in two outputs is the plan of the definition, and its sheet can always be written.
 -- Assumes nothing.
-use Prim.Native.Nat.{ℕ, _+_, _≤_, min}
+use Prim.Native.Nat.{ℕ, _+_, _≤_, _<_, min}
 use mathlib.Core.Bool.{true}
 use mathlib.Core.List.{List, _++_}
 use mathlib.Core.Path.{_≡_, refl, sym, ap, ap₂, _∙_}
@@ -62,7 +62,7 @@ plan-fits n = by-bool (eqb n 0) (λ e. rw e) (λ e. rw (e, eq-eqb n n refl))
 
 module _ (x : Sheet) (few : x .table .n ≤ mostTasks) (ps qs ps′ qs′ : List ℕ) (long-ps : length ps ≡ mostTasks) (long-qs : length qs ≡ mostTasks)
     (a : Answer) (m : Meets (outcome true (x .settings) (x .table .rows) (x .table .n) ps qs) a ps′ qs′) where
-  answers : handed a ≡ asked x
+  pub answers : handed a ≡ asked x
   unfolding outcome
   answers = m .answers ∙ asked-roomy x (min (length ps) (length qs)) (omega arith)
 
@@ -89,17 +89,20 @@ module _ (x : Sheet) (few : x .table .n ≤ mostTasks) (ps qs ps′ qs′ : List
     unfolding processorsAt
     processors-long = list-long _ (x .table .n)
 
+    -- entry by entry
+    pub entry-is : (i : ℕ) → i < x .table .n → entryAt ps′ qs′ i ≡ entryAt (planPeriods x k) (planProcessors x k) i
+    entry-is i l =
+        let n = x .table .n in
+        ap₂ granted
+        (ap (λ (p : List ℕ). getD p i 0) periods-are ∙ List·getD-append (planPeriods x k) (drop n ps) 0 i (rw periods-long l))
+        (ap (λ (p : List ℕ). getD p i 0) processors-are ∙ List·getD-append (planProcessors x k) (drop n qs) 0 i (rw processors-long l))
+
     module _ (r : Results) (is : r ≡ resultsOf ps′ qs′ (x .table .n)) where
       planned-is : withResults x r ≡ withPlan x k
       unfolding withPlan resultsOf
       planned-is =
           let n = x .table .n in
-          let rows =
-          padded-cong noGranted (entryAt ps′ qs′)
-          (entryAt (planPeriods x k) (planProcessors x k)) n few
-          (λ i l. ap₂ granted
-          (ap (λ (p : List ℕ). getD p i 0) periods-are ∙ List·getD-append (planPeriods x k) (drop n ps) 0 i (rw periods-long l))
-          (ap (λ (p : List ℕ). getD p i 0) processors-are ∙ List·getD-append (planProcessors x k) (drop n qs) 0 i (rw processors-long l))) in
+          let rows = padded-cong noGranted (entryAt ps′ qs′) (entryAt (planPeriods x k) (planProcessors x k)) n few entry-is in
           ap (withResults x) is
           ∙ ap (λ (g : List Granted). withResults x (record { rows = g; n = n })) rows
 

@@ -28,7 +28,7 @@ filled-accepted s x e = ap (λ (h : Handed Sheet). orLine h filledSheet) e
 
 -- as the reader hands it back
 module _ (s : List ℕ) (r : Reading) (read : handedReading r ≡ readSheet s) where
-  handed-as : (v : Verdict) → r .verdict ≡ v → readSheet s ≡ handedBy v (r .sheet)
+  pub handed-as : (v : Verdict) → r .verdict ≡ v → readSheet s ≡ handedBy v (r .sheet)
   handed-as v e = sym read ∙ ap (λ (w : Verdict). handedBy w (r .sheet)) e
 
   pub reading-refused : (q : Refusal) → r .verdict ≡ verdict.Refused q → filled s ≡ refusalLine (numberOf q) (placeOf q)

@@ -1,0 +1,4 @@
+pub mod Chain
+pub mod Verdicts
+pub mod Compared
+pub mod Readings
