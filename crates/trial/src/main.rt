@@ -260,7 +260,7 @@ fn put_sheet(out: &mut [u8; ROOM], at: usize, x: Sheet) -> usize
     tell::put_results(out, at_results, granted)
 }
 
-// Puts the verdict of a reading.
+// Puts the verdict of a reading or of the checker.
 fn put_verdict(out: &mut [u8; ROOM], at: usize, verdict: Verdict) -> usize
     ensures { λ r. ⌜ r ≤ room ⌝ }
 {
@@ -512,6 +512,16 @@ fn answer_wide(s: &[u8], out: &mut [u8; ROOM]) -> usize
     wide_into(table, m, &mut periods[..a], &mut cores[..b], out)
 }
 
+// Kind 9: the checker of filled sheets, and the line of its program.
+fn answer_check(sheet: &[u8], out: &mut [u8; ROOM]) -> usize
+    ensures { λ r. ⌜ r ≤ room ⌝ }
+{
+    let mut line = [0u8; LONGEST_SHEET];
+    let k = checked::tell(sheet, &mut line);
+    let at_line = put_verdict(out, LENGTH, checked::check(sheet));
+    tell::put_bytes(out, at_line, &line[..k])
+}
+
 // Puts the answer to a payload after the place of its length; returns the place after it, or 0 where the payload is no call.
 fn answer(s: &[u8], out: &mut [u8; ROOM]) -> usize
     ensures { λ r. ⌜ r ≤ room ⌝ }
@@ -528,6 +538,7 @@ fn answer(s: &[u8], out: &mut [u8; ROOM]) -> usize
         6 => answer_change_over(s, out),
         7 => answer_program(&s[KIND..], out),
         8 => answer_wide(s, out),
+        9 => answer_check(&s[KIND..], out),
         _ => 0,
     }
 }

@@ -2,6 +2,7 @@
 
 use crate::call::{Call, Rooms, Table, WideTable, Writing};
 use crate::definition::change_over::{change_over, Which};
+use crate::definition::checked::{check, told};
 use crate::definition::finder::{plain, quick};
 use crate::definition::kinds::{Refusal, Sheet};
 use crate::definition::margin::margin;
@@ -121,6 +122,13 @@ fn wide_answer(table: &WideTable, rooms: Rooms) -> Vec<u8> {
     bytes
 }
 
+fn check_answer(sheet: &[u8]) -> Vec<u8> {
+    let mut bytes = Vec::new();
+    put_verdict(&mut bytes, &check(sheet));
+    bytes.extend(told(sheet));
+    bytes
+}
+
 /// The answer's bytes, without their length.
 pub fn answer(call: &Call) -> Vec<u8> {
     match call {
@@ -132,5 +140,6 @@ pub fn answer(call: &Call) -> Vec<u8> {
         Call::ChangeOver { standing, proposed } => change_over_answer(standing, proposed),
         Call::Program(input) => program(input),
         Call::Wide(table, rooms) => wide_answer(table, *rooms),
+        Call::Check(sheet) => check_answer(sheet),
     }
 }

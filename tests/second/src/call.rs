@@ -60,10 +60,11 @@ pub enum Call {
     ChangeOver { standing: Vec<u8>, proposed: Vec<u8> },
     Program(Vec<u8>),
     Wide(WideTable, Rooms),
+    Check(Vec<u8>),
 }
 
 /// The names of the kinds of call, from kind 1.
-pub const KIND_NAMES: [&str; 8] = [
+pub const KIND_NAMES: [&str; 9] = [
     "plain finder",
     "quick finder",
     "margin",
@@ -72,6 +73,7 @@ pub const KIND_NAMES: [&str; 8] = [
     "change-over",
     "program",
     "several cores",
+    "check",
 ];
 
 /// The rows or results that the stream has of a count.
@@ -205,6 +207,7 @@ impl Call {
             Call::ChangeOver { .. } => 6,
             Call::Program(..) => 7,
             Call::Wide(..) => 8,
+            Call::Check(..) => 9,
         }
     }
 
@@ -229,6 +232,7 @@ impl Call {
             }
             Call::Program(input) => bytes.extend(input),
             Call::Wide(table, rooms) => put_wide(&mut bytes, table, *rooms),
+            Call::Check(sheet) => bytes.extend(sheet),
         }
         bytes
     }

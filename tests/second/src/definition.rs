@@ -3,6 +3,7 @@
 
 pub mod admission;
 pub mod change_over;
+pub mod checked;
 pub mod finder;
 pub mod kinds;
 pub mod margin;

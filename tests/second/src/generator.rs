@@ -2,6 +2,7 @@
 //! then calls that hang on the seed and on their index only.
 
 pub mod bench;
+mod edges_of_checked;
 mod edges_of_finders;
 mod edges_of_sheets;
 pub mod edges_of_wide;
@@ -24,6 +25,7 @@ impl Calls {
         fixed.extend(edges_of_finders::calls());
         fixed.extend(edges_of_sheets::calls());
         fixed.extend(edges_of_wide::calls());
+        fixed.extend(edges_of_checked::calls());
         Calls { seed, fixed }
     }
 

@@ -65,7 +65,7 @@ pub fn call_text(call: &Call) -> String {
             text.push_str(&table_lines(table));
             let _ = writeln!(text, "  at step {step}");
         }
-        Call::Read(sheet) => text.push_str(&bytes_line("sheet", sheet)),
+        Call::Read(sheet) | Call::Check(sheet) => text.push_str(&bytes_line("sheet", sheet)),
         Call::Write(writing) => {
             text.push_str(&settings_line(writing.settings));
             let _ = writeln!(
@@ -205,13 +205,18 @@ fn fields_text(call: &Call, answer: &[u8]) -> Option<String> {
         }
         Call::ChangeOver { .. } => fields.change_over()?,
         Call::Program(_) => program_text(fields.take(answer.len())?),
+        Call::Check(_) => {
+            format!("{}{}", fields.verdict()?, program_text(fields.take(fields.rest.len())?))
+        }
     };
     fields.rest.is_empty().then_some(text)
 }
 
 fn program_text(output: &[u8]) -> String {
     match std::str::from_utf8(output) {
-        Ok(line) if line.starts_with("refused") => format!("  writes {line:?}\n"),
+        Ok(line) if line.starts_with("refused") || line.starts_with("accepted") => {
+            format!("  writes {line:?}\n")
+        }
         _ => bytes_line("writes", output),
     }
 }

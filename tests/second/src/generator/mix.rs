@@ -8,6 +8,7 @@ use super::tables::{
 use super::wide_tables::random_wide;
 use crate::call::{present, Call, Rooms, Settings, Table, Writing};
 use crate::definition::kinds::{Record, Sheet};
+use crate::definition::program::program;
 use crate::definition::share::springs;
 use crate::random::Random;
 
@@ -19,13 +20,14 @@ pub fn random_call(random: &mut Random, index: usize) -> Call {
         return long_scan(random);
     }
     match random.between(0, 99) {
-        0..=24 => plain(random),
-        25..=49 => quick(random),
-        50..=63 => margin(random),
-        64..=70 => Call::Read(sheet(random)),
-        71..=77 => Call::Write(writing(random)),
-        78..=87 => Call::ChangeOver { standing: sheet(random), proposed: sheet(random) },
-        88..=94 => Call::Program(sheet(random)),
+        0..=22 => plain(random),
+        23..=45 => quick(random),
+        46..=58 => margin(random),
+        59..=65 => Call::Read(sheet(random)),
+        66..=72 => Call::Write(writing(random)),
+        73..=82 => Call::ChangeOver { standing: sheet(random), proposed: sheet(random) },
+        83..=89 => Call::Program(sheet(random)),
+        90..=94 => Call::Check(checked_sheet(random)),
         _ => several_cores(random),
     }
 }
@@ -158,6 +160,22 @@ fn sheet(random: &mut Random) -> Vec<u8> {
         5 => overlong(random, &raw),
         _ => raw.bytes(),
     }
+}
+
+/// A sheet for the checker: mostly one that the program filled, as it is or with a byte changed; else any.
+fn checked_sheet(random: &mut Random) -> Vec<u8> {
+    let mut bytes = program(&sheet(random));
+    match random.between(0, 9) {
+        0..=1 => return sheet(random),
+        2..=6 => {
+            let last = bytes.len() - 1;
+            let place = if random.one_in(4) { 0 } else { last.saturating_sub(40) };
+            let at = random.between(place as u64, last as u64) as usize;
+            bytes[at] = bytes[at].wrapping_add(random.small(1, 255) as u8);
+        }
+        _ => {}
+    }
+    bytes
 }
 
 /// A record that nobody judges: a writer and a reader take any numbers.
