@@ -1,18 +1,14 @@
--- `bench::print_processors` meets its contract. Assumes nothing.
+-- `show::counts` meets its contract. Assumes nothing.
 use Prim.Native.Nat.{_-_, _≤_}
-use mathlib.Core.Path.{refl}
 use native.Mathlib.Omega.{arith}
-use Rattle.bench.proofs.print_processors.Statement.{statement}
-use Rattle.bench.proofs.print_processors.Tie as tie
+use Rattle.show.proofs.counts.Statement.{statement}
+use Rattle.show.proofs.counts.Tie as tie
 
 abbrev Inv-loop : tie.InvT-loop
-Inv-loop n processors i₀ i = i ≤ 33
+Inv-loop n name counts i₀ i = i ≤ 33
 
 abbrev μ-loop : tie.MeasureT-loop
-μ-loop n processors i₀ i = 33 - i
-
-slice-aggregate-words : tie.Need-slice-aggregate-words Inv-loop μ-loop
-slice-aggregate-words c = refl
+μ-loop n name counts i₀ i = 33 - i
 
 words-requires : tie.Need-words-requires Inv-loop μ-loop
 words-requires c κs = tt
@@ -44,13 +40,12 @@ loop-again c = omega arith
 returns-2 : tie.Need-returns-2 Inv-loop μ-loop
 returns-2 c = tt
 
-pub print-processors-spec : {M : Type 1} → statement M
-print-processors-spec =
+pub counts-spec : {M : Type 1} → statement M
+counts-spec =
     tie.close
     (tie.spec
     Inv-loop
     μ-loop
-    slice-aggregate-words
     words-requires
     loop-holds
     returns

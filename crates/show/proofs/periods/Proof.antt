@@ -1,9 +1,9 @@
--- `wide_bench::print_periods` meets its contract. Assumes nothing.
+-- `show::periods` meets its contract. Assumes nothing.
 use Prim.Native.Nat.{_-_, _≤_}
 use mathlib.Core.Path.{refl}
 use native.Mathlib.Omega.{arith}
-use Rattle.wide_bench.proofs.print_periods.Statement.{statement}
-use Rattle.wide_bench.proofs.print_periods.Tie as tie
+use Rattle.show.proofs.periods.Statement.{statement}
+use Rattle.show.proofs.periods.Tie as tie
 
 abbrev Inv-loop : tie.InvT-loop
 Inv-loop n periods i₀ i = i ≤ 33
@@ -44,8 +44,8 @@ loop-again c = omega arith
 returns-2 : tie.Need-returns-2 Inv-loop μ-loop
 returns-2 c = tt
 
-pub print-periods-spec : {M : Type 1} → statement M
-print-periods-spec =
+pub periods-spec : {M : Type 1} → statement M
+periods-spec =
     tie.close
     (tie.spec
     Inv-loop
