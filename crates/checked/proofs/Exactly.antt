@@ -2,12 +2,11 @@
 -- first result that differs: `first-differing`.
 -- Assumes nothing.
 use Prim.Native.Nat.{ℕ, _≤_, _<_}
-use mathlib.Core.Bool.{Bool, true, false, not}
+use mathlib.Core.Bool.{true, false, not}
 use mathlib.Core.List.{List}
 use mathlib.Core.Path.{_≡_, refl, sym, ap, ap₂, _∙_}
 use native.Mathlib.Omega.{arith}
 use lib.Dec.{eqb, leb}
-use lib.ListN.{getD}
 use borrow.Author.Tests.{eqb-true, eq-eqb, leb-true, le-leb, not-false}
 use Rattle.ground.specs.declared.Step.{Step}
 use Rattle.ground.specs.declared.Step.the-variants.{At, Nothing}
@@ -17,11 +16,11 @@ use Rattle.ground.proofs.First.{first-is, first-none}
 use Rattle.ground.proofs.Cases.{by-bool, true-false}
 use Rattle.kinds.specs.declared.Granted.{Granted}
 use Rattle.kinds.specs.declared.Sheet.{Sheet}
-use Rattle.kinds.specs.declared.Refusal.the-variants.{NoStepPasses, NoResults, WrongResult}
+use Rattle.kinds.specs.declared.Refusal.the-variants.{NoResults, WrongResult}
 use Rattle.kinds.specs.Limits.{mostTasks}
 use Rattle.kinds.specs.Task.{at}
 use Rattle.kinds.specs.Policy.{meant}
-use Rattle.kinds.specs.Answer.{Handed, accepted}
+use Rattle.kinds.specs.Answer.{accepted}
 use Rattle.kinds.proofs.Refusals.{refusal-numbered}
 use Rattle.share.specs.Share.{periodAt}
 use Rattle.share.specs.Table.{periodsAt}
@@ -38,7 +37,7 @@ use Rattle.sheet.proofs.Stages.{fits-few}
 use Rattle.sheet.proofs.Whole.{whole}
 use Rattle.sheet.proofs.Numbered.{accepted-by-number}
 use Rattle.writer.specs.Canonical.{grantedIn}
-use Rattle.fill.specs.Results.{entryAt, planPeriods, planProcessors, withPlan}
+use Rattle.fill.specs.Results.{withPlan}
 use Rattle.fill.proofs.Held.{list-in}
 use Rattle.checked.specs.Checked.{differ, differsAt, firstDiffering, compared, checkedSheet, checked}
 use Rattle.checked.specs.Agrees.{grantedAt, Agrees}

@@ -1,7 +1,7 @@
 -- Ask 14: "Each sheet our program fills in is accepted", `filled-accepted`; and of two accepted sheets with the same settings and tasks the
 -- results are the same, `same-results`.
 -- Assumes nothing.
-use Prim.Native.Nat.{ℕ, _≤_, _<_}
+use Prim.Native.Nat.{ℕ, _≤_}
 use mathlib.Core.List.{List}
 use mathlib.Core.Path.{_≡_, refl, sym, ap, ap₂, _∙_}
 use native.Mathlib.Omega.{arith}
@@ -9,7 +9,6 @@ use lib.ListN.{length}
 use lib.Seq.{ext-getD}
 use Rattle.ground.proofs.Cases.{by-le}
 use Rattle.kinds.specs.declared.Granted.{Granted}
-use Rattle.kinds.specs.declared.Results.{Results}
 use Rattle.kinds.specs.declared.Sheet.{Sheet}
 use Rattle.kinds.specs.Limits.{mostTasks}
 use Rattle.kinds.specs.Answer.{Handed, accepted}
@@ -28,7 +27,7 @@ use Rattle.fill.proofs.Readings as readings
 use Rattle.fill.proofs.Again.{reads-again}
 use Rattle.fill.proofs.Held.{plan-room, plan-unused}
 use Rattle.checked.specs.Checked.{checked}
-use Rattle.checked.specs.Agrees.{grantedAt, Agrees}
+use Rattle.checked.specs.Agrees.{Agrees}
 use Rattle.checked.proofs.Exactly.{plan-at, read-few, accepted-agrees, agrees-accepted}
 
 -- a sheet with its plan agrees

@@ -1,5 +1,4 @@
 -- `checked::tell` meets its contract. Assumes nothing.
-use native.Mathlib.Omega.{arith}
 use borrow.Author.Needs.{needs}
 use Rattle.fill.proofs.Fronts.{put-fronts}
 use Rattle.checked.proofs.Lines.{accepted-line, refused-line}
