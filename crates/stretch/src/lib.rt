@@ -11,8 +11,8 @@ ghost use Rattle.kinds.specs.Limits.{scale, greatestElasticity, mostTasks};
 ghost use Rattle.kinds.specs.Task.{Good};
 ghost use Rattle.policy.specs.Sides.{Light, TotalIs};
 ghost use Rattle.rule.specs.Rule.{shareOf};
-ghost use Rattle.share.specs.Table.{GoodTable};
-ghost use Rattle.stretch.specs.Spring.{SpringIs, springIn, sharesOn, weighedAt, AllWithin, Sprung};
+ghost use Rattle.share.specs.Share.{largestOf, leastOf, PeriodIs};
+ghost use Rattle.stretch.specs.Spring.{SpringIs, springIn, sharesOn, weighedAt, AllWithin, columns, Roomy, SprungUntil};
 ghost use Rattle.stretch.specs.Next.{nearer, nextTo};
 ghost use Rattle.stretch.specs.Division.{Fair, slopeOf, slopesIn, need, harder, needTo, divided, FallIs, Falls, Stretches};
 
@@ -22,14 +22,6 @@ pub struct Spring {
     pub least: u32,
     pub elasticity: u32,
     pub saturation: u32,
-}
-
-// The springs of a table, as columns.
-pub struct Springs {
-    pub largest: [u32; Table::MOST_TASKS],
-    pub least: [u32; Table::MOST_TASKS],
-    pub elasticity: [u32; Table::MOST_TASKS],
-    pub saturation: [u32; Table::MOST_TASKS],
 }
 
 // The spring of a task.
@@ -47,26 +39,40 @@ pub fn spring_of(task: Task) -> Spring
     }
 }
 
-// The springs of a table, worked out once for a call.
-pub fn springs_of(table: Table) -> Springs
-    requires { ⌜ GoodTable table ⌝ }
-    ensures { λ r. ⌜ Sprung (table .rows) (table .n) r ⌝ }
+// The springs of a table, worked out once for a call into four lent columns, up to the first record that is not good. Returns the
+// number of that record, or how many there are.
+pub fn springs_of(
+    table: Table,
+    largest: &mut [u32; Table::MOST_TASKS],
+    least: &mut [u32; Table::MOST_TASKS],
+    elasticity: &mut [u32; Table::MOST_TASKS],
+    saturation: &mut [u32; Table::MOST_TASKS],
+) -> usize
+    requires { ⌜ (table .n ≤ mostTasks) × Roomy (columns (now largest) (now least) (now elasticity) (now saturation)) ⌝ }
+    ensures { λ r. ⌜ SprungUntil (table .rows) (table .n) r (columns (now (largest .exit)) (now (least .exit)) (now (elasticity .exit)) (now (saturation .exit))) ⌝ }
 {
     let n = table.n;
-    let mut springs = Springs {
-        largest: [0; Table::MOST_TASKS],
-        least: [0; Table::MOST_TASKS],
-        elasticity: [0; Table::MOST_TASKS],
-        saturation: [0; Table::MOST_TASKS],
-    };
     for i in 0..n {
-        let spring = spring_of(table.rows[i]);
-        springs.largest[i] = spring.largest;
-        springs.least[i] = spring.least;
-        springs.elasticity[i] = spring.elasticity;
-        springs.saturation[i] = spring.saturation;
+        let task = table.rows[i];
+        if !task.good() {
+            return i;
+        }
+        let spring = spring_of(task);
+        largest[i] = spring.largest;
+        least[i] = spring.least;
+        elasticity[i] = spring.elasticity;
+        saturation[i] = spring.saturation;
     }
-    springs
+    n
+}
+
+// The period at step k of a task whose largest and least share are at hand.
+pub fn period_on(task: Task, largest: u32, least: u32, k: u32) -> u32
+    requires { ⌜ Good task × (largest ≡ largestOf task) × (least ≡ leastOf task) ⌝ }
+    ensures { λ r. ⌜ PeriodIs task k r ⌝ }
+{
+    let share = rule::share_at(ground::wide(largest), ground::wide(least), task.e, k);
+    rule::period(share::cost(task), task.tmin, share) as u32
 }
 
 // The sum and the max of the shares at step k.
