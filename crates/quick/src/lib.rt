@@ -20,7 +20,7 @@ ghost use Rattle.policy.specs.Sides.{Light};
 ghost use Rattle.share.specs.Table.{GoodTable, periodsAt};
 ghost use Rattle.admission.specs.Admission.{gateOf};
 ghost use Rattle.plan.specs.Plan.{Leaves};
-ghost use Rattle.stretch.specs.Spring.{springIn, weighedAt, saturations, AllWithin, columns, Roomy};
+ghost use Rattle.stretch.specs.Spring.{springIn, weighedAt, saturations, AllWithin, SumIs, columns, Roomy};
 ghost use Rattle.stretch.specs.Division.{Fair};
 ghost use Rattle.quick.specs.Search.{dueAfter, OneLook, Searchable, SearchEnds};
 ghost use Rattle.quick.specs.Looked.{FoundLooked, MeetsLooked};
@@ -32,12 +32,14 @@ pub struct Looked {
     pub looks: u32,
 }
 
-// Where a search stands: the looks made, the step of the last, the step before it, and whether the last one passed.
+// Where a search stands: the looks made, the step of the last, the step before it, whether the last one passed, and the sum of the
+// shares at its step.
 pub struct Search {
     pub looks: u32,
     pub step: u32,
     pub from: u32,
     pub passed: bool,
+    pub sum: u64,
 }
 
 // How a search ended.
@@ -231,14 +233,16 @@ fn look(
     due: u32,
 ) -> Search
     requires { ⌜ Light w × (n ≤ mostTasks) × AllWithin (springIn (now largest) (now least) (now elasticity)) n × (before .looks ≤ mostTasks) × (due ≡ dueAfter (saturations (springIn (now largest) (now least) (now elasticity))) n before) ⌝ }
-    ensures { λ after. ⌜ OneLook (weighedAt w (springIn (now (largest .entry)) (now (least .entry)) (now (elasticity .entry))) n) (saturations (springIn (now (largest .entry)) (now (least .entry)) (now (elasticity .entry)))) n before after ⌝ }
+    ensures { λ after. ⌜ OneLook (weighedAt w (springIn (now (largest .entry)) (now (least .entry)) (now (elasticity .entry))) n) (saturations (springIn (now (largest .entry)) (now (least .entry)) (now (elasticity .entry)))) n before after × SumIs (springIn (now (largest .entry)) (now (least .entry)) (now (elasticity .entry))) n (after .step) (after .sum) ⌝ }
 {
-    let passed = stretch::weighed_at(w, largest, least, elasticity, n, due);
+    let total = stretch::total_at(largest, least, elasticity, n, due);
+    let passed = stretch::weighs(w, total);
     Search {
         looks: before.looks + 1,
         step: due,
         from: before.step,
         passed,
+        sum: total.sum,
     }
 }
 
@@ -259,6 +263,7 @@ fn search_columns(
         step: 0,
         from: 0,
         passed: false,
+        sum: 0,
     };
     let mut search = look(w, largest, least, elasticity, n, start, 0);
     if search.passed {
@@ -269,6 +274,7 @@ fn search_columns(
     }
     let mut due = stretch::next_due(saturation, n, 0);
     while due != 0 {
+        let sum = search.sum;
         search = look(w, largest, least, elasticity, n, search, due);
         if search.passed {
             let step = stretch::divide(
@@ -280,6 +286,7 @@ fn search_columns(
                 n,
                 search.from,
                 search.step,
+                sum,
             );
             return Ended {
                 step: Step::At(step),

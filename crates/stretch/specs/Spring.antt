@@ -1,6 +1,6 @@
 -- The spring of a task: all that its shares depend on. The springs of a table stand in columns.
 -- Assumes nothing.
-use Prim.Native.Nat.{ℕ, _≤_, _<_}
+use Prim.Native.Nat.{ℕ, _*_, _≤_, _<_}
 use mathlib.Core.Bool.{Bool}
 use mathlib.Core.List.{List}
 use mathlib.Core.Path.{_≡_}
@@ -73,6 +73,11 @@ pub record Within (s : Spring) : Type 0 where
 
 abbrev pub AllWithin : (ℕ → Spring) → ℕ → Type 0
 AllWithin springs n = (i : ℕ) → i < n → Within (springs i)
+
+-- the sum of the shares at step k
+pub record SumIs (springs : ℕ → Spring) (n k sum : ℕ) : Type 0 where
+  pub is : sum ≡ sumTo (sharesOn springs k) n
+  pub most : sum ≤ scale * n
 
 -- a column of saturation steps goes with three columns
 abbrev pub Saturates : (ℕ → Spring) → List ℕ → ℕ → Type 0

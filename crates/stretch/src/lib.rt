@@ -6,13 +6,14 @@ use policy::Total;
 use policy::Weights;
 ghost use mathlib.Core.Path.{_≡_};
 ghost use Prim.Native.Nat.{ℕ, _≤_, _<_};
+ghost use lib.Dec.{leb};
 ghost use lib.ListN.{getD};
 ghost use Rattle.kinds.specs.Limits.{scale, greatestElasticity, mostTasks};
 ghost use Rattle.kinds.specs.Task.{Good};
-ghost use Rattle.policy.specs.Sides.{Light, TotalIs};
+ghost use Rattle.policy.specs.Sides.{Light, left, right, TotalIs};
 ghost use Rattle.rule.specs.Rule.{shareOf};
 ghost use Rattle.share.specs.Share.{largestOf, leastOf, PeriodIs};
-ghost use Rattle.stretch.specs.Spring.{SpringIs, springIn, sharesOn, weighedAt, AllWithin, columns, Roomy, SprungUntil};
+ghost use Rattle.stretch.specs.Spring.{SpringIs, springIn, sharesOn, AllWithin, SumIs, columns, Roomy, SprungUntil};
 ghost use Rattle.stretch.specs.Next.{nearer, nextTo};
 ghost use Rattle.stretch.specs.Division.{Fair, slopeOf, slopesIn, need, harder, needTo, divided, FallIs, Falls, Stretches};
 
@@ -101,19 +102,11 @@ pub fn total_at(
     Total { sum, max }
 }
 
-// Whether the test holds at step k.
-pub fn weighed_at(
-    w: Weights,
-    largest: &[u32; Table::MOST_TASKS],
-    least: &[u32; Table::MOST_TASKS],
-    elasticity: &[u32; Table::MOST_TASKS],
-    n: usize,
-    k: u32,
-) -> bool
-    requires { ⌜ Light w × (n ≤ mostTasks) × AllWithin (springIn (now largest) (now least) (now elasticity)) n ⌝ }
-    ensures { λ r. ⌜ r ≡ weighedAt w (springIn (now (largest .entry)) (now (least .entry)) (now (elasticity .entry))) n k ⌝ }
+// Whether the test holds for a sum and a max.
+pub fn weighs(w: Weights, total: Total) -> bool
+    requires { ⌜ Light w × (total .sum ≤ 32000000) × (total .max ≤ scale) ⌝ }
+    ensures { λ r. ⌜ r ≡ leb (left w (total .sum) (total .max)) (right w (total .max)) ⌝ }
 {
-    let total = total_at(largest, least, elasticity, n, k);
     policy::left_of(w, total.sum, total.max) <= policy::right_of(w, total.max)
 }
 
@@ -237,7 +230,8 @@ fn need_over(
     hardest
 }
 
-// The least passing step of the stretch from p, which fails, to the next saturation step q, which passes.
+// The least passing step of the stretch from p, which fails, to the next saturation step q, which passes. The sum of the shares at p
+// is at hand.
 pub fn divide(
     w: Weights,
     largest: &[u32; Table::MOST_TASKS],
@@ -247,23 +241,13 @@ pub fn divide(
     n: usize,
     p: u32,
     q: u32,
+    sum: u64,
 ) -> u32
-    requires { ⌜ Light w × Fair w × Stretches (springIn (now largest) (now least) (now elasticity)) (now saturation) n p q ⌝ }
+    requires { ⌜ Light w × Fair w × Stretches (springIn (now largest) (now least) (now elasticity)) (now saturation) n p q × SumIs (springIn (now largest) (now least) (now elasticity)) n p sum ⌝ }
     ensures { λ r. ⌜ r ≡ divided w (springIn (now (largest .entry)) (now (least .entry)) (now (elasticity .entry))) n p q ⌝ }
 {
-    let total = total_at(largest, least, elasticity, n, p);
     let fall = slope_sum(elasticity, saturation, n, p);
-    let more = need_over(
-        w,
-        largest,
-        least,
-        elasticity,
-        saturation,
-        n,
-        p,
-        total.sum,
-        fall,
-    );
+    let more = need_over(w, largest, least, elasticity, saturation, n, p, sum, fall);
     if more < (q - p) as u64 {
         return p + more as u32;
     }
