@@ -8,6 +8,7 @@ ghost use mathlib.Core.Path.{_≡_};
 ghost use Prim.Native.Nat.{ℕ, _≤_, _<_};
 ghost use lib.Dec.{leb};
 ghost use lib.ListN.{getD};
+ghost use Rattle.ground.specs.Rounding.{ceilDiv};
 ghost use Rattle.kinds.specs.Limits.{scale, greatestElasticity, mostTasks};
 ghost use Rattle.kinds.specs.Task.{Good};
 ghost use Rattle.policy.specs.Sides.{Light, left, right, TotalIs};
@@ -15,7 +16,7 @@ ghost use Rattle.rule.specs.Rule.{shareOf};
 ghost use Rattle.share.specs.Share.{largestOf, leastOf, PeriodIs};
 ghost use Rattle.stretch.specs.Spring.{SpringIs, springIn, sharesOn, AllWithin, SumIs, columns, Roomy, SprungUntil};
 ghost use Rattle.stretch.specs.Next.{nearer, nextTo};
-ghost use Rattle.stretch.specs.Division.{Fair, slopeOf, slopesIn, need, harder, needTo, divided, FallIs, Falls, Stretches};
+ghost use Rattle.stretch.specs.Division.{Fair, slopeOf, slopesIn, harder, needTo, divided, FallIs, Falls, Falling, LineIs, NeedIs, Stretches};
 
 // The spring of a task, with its saturation step.
 pub struct Spring {
@@ -23,6 +24,12 @@ pub struct Spring {
     pub least: u32,
     pub elasticity: u32,
     pub saturation: u32,
+}
+
+// How far the left side of a test is above the right, and by how much that falls at each step.
+pub struct Line {
+    pub over: u64,
+    pub by: u64,
 }
 
 // The spring of a task.
@@ -159,18 +166,20 @@ fn slope_sum(
     fall
 }
 
-// The steps that are needed if a task with this share and slope has the max.
-fn need_of(w: Weights, sum: u64, fall: u64, share: u64, slope: u64) -> u64
+// By how much the left side of the test is above the right if a task with this share and slope has the max, and by how much that falls
+// at each step.
+fn line_of(w: Weights, sum: u64, fall: u64, share: u64, slope: u64) -> Line
     requires { ⌜ Light w × Fair w × (sum ≤ 32000000) × (share ≤ scale) × (1 ≤ fall) × (fall ≤ 32000000) × (slope ≤ fall) × (slope ≤ greatestElasticity) ⌝ }
-    ensures { λ r. ⌜ r ≡ need w sum fall share slope ⌝ }
+    ensures { λ r. ⌜ LineIs w sum fall share slope r ⌝ }
 {
-    let over = ground::less_or_zero(policy::left_of(w, sum, share), policy::right_of(w, share));
-    let by = ground::less_or_zero(policy::left_of(w, fall, slope), w.c * slope);
-    ground::ceil_div(over, by)
+    Line {
+        over: ground::less_or_zero(policy::left_of(w, sum, share), policy::right_of(w, share)),
+        by: ground::less_or_zero(policy::left_of(w, fall, slope), w.c * slope),
+    }
 }
 
-// The steps that are needed after p if a task with this spring has the max.
-fn need_of_task(
+// The line of a task with this spring after p.
+fn line_of_task(
     w: Weights,
     largest: u32,
     least: u32,
@@ -179,23 +188,36 @@ fn need_of_task(
     p: u32,
     sum: u64,
     fall: u64,
-) -> u64
+) -> Line
     requires { ⌜ Light w × Fair w × (largest ≤ scale) × (least ≤ scale) × (elasticity ≤ greatestElasticity) × (sum ≤ 32000000) × (1 ≤ fall) × (fall ≤ 32000000) × (slopeOf elasticity saturation p ≤ fall) ⌝ }
-    ensures { λ r. ⌜ r ≡ need w sum fall (shareOf largest least elasticity p) (slopeOf elasticity saturation p) ⌝ }
+    ensures { λ r. ⌜ LineIs w sum fall (shareOf largest least elasticity p) (slopeOf elasticity saturation p) r ⌝ }
 {
     let share = rule::share_at(ground::wide(largest), ground::wide(least), elasticity, p);
     let slope = ground::wide(slope_of(elasticity, saturation, p));
-    need_of(w, sum, fall, share, slope)
+    line_of(w, sum, fall, share, slope)
 }
 
-// The greater of two needs, or the smaller where the max counts the other way.
-fn harder_of(w: Weights, x: u64, y: u64) -> u64
-    ensures { λ r. ⌜ r ≡ harder w x y ⌝ }
+// The steps that a line needs to come down.
+fn need_of(line: Line) -> u64
+    requires { ⌜ Falling line ⌝ }
+    ensures { λ r. ⌜ NeedIs (ceilDiv (line .over) (line .by)) r ⌝ }
+{
+    ground::ceil_div(line.over, line.by)
+}
+
+// The greater of the steps needed before and those that a line needs, or the smaller where the max counts the other way. It divides only
+// where it must: a product says that a line needs no more.
+fn harder_of(w: Weights, before: u64, line: Line) -> u64
+    requires { ⌜ Falling line × (before ≤ 1000000000) ⌝ }
+    ensures { λ r. ⌜ NeedIs (harder w before (ceilDiv (line .over) (line .by))) r ⌝ }
 {
     if w.c <= w.b {
-        return ground::larger(x, y);
+        if line.over <= before * line.by {
+            return before;
+        }
+        return need_of(line);
     }
-    ground::smaller(x, y)
+    ground::smaller(before, need_of(line))
 }
 
 // The steps that are needed after p, over all tasks.
@@ -213,9 +235,9 @@ fn need_over(
     requires { ⌜ Light w × Fair w × Falls (springIn (now largest) (now least) (now elasticity)) (now saturation) n p sum fall ⌝ }
     ensures { λ r. ⌜ r ≡ needTo w (springIn (now (largest .entry)) (now (least .entry)) (now (elasticity .entry))) p sum fall n ⌝ }
 {
-    let mut hardest = need_of(w, sum, fall, 0, 0);
+    let mut hardest = need_of(line_of(w, sum, fall, 0, 0));
     for i in 0..n {
-        let need = need_of_task(
+        let line = line_of_task(
             w,
             largest[i],
             least[i],
@@ -225,7 +247,7 @@ fn need_over(
             sum,
             fall,
         );
-        hardest = harder_of(w, hardest, need);
+        hardest = harder_of(w, hardest, line);
     }
     hardest
 }
