@@ -1,11 +1,11 @@
--- `stretch::need_of_task` meets its contract. Assumes nothing.
+-- `stretch::line_of_task` meets its contract. Assumes nothing.
 use mathlib.Core.Path.{_≡_, _∙_}
 use native.Mathlib.Omega.{arith}
 use Rattle.rule.specs.Rule.{shareOf}
 use Rattle.stretch.proofs.Lines.{slope-most}
 use borrow.Author.Needs.{needs}
-use Rattle.stretch.proofs.need_of_task.Statement.{statement}
-use Rattle.stretch.proofs.need_of_task.Tie as tie
+use Rattle.stretch.proofs.line_of_task.Statement.{statement}
+use Rattle.stretch.proofs.line_of_task.Tie as tie
 
 -- the share at p
 shared : (c : tie.After-share-at) → let a = c .before .before .before .args in c .share-at .result ≡ shareOf (a .largest) (a .least) (a .elasticity) (a .p)
@@ -26,8 +26,8 @@ slope-of-requires c κs = search needs
 wide-requires-3 : tie.Need-wide-requires-3
 wide-requires-3 c κs = search needs
 
-need-of-requires : tie.Need-need-of-requires
-need-of-requires c κs =
+line-of-requires : tie.Need-line-of-requires
+line-of-requires c κs =
     let s = c .before .before .before .before .before in
     let p = s .pre in
     let e = c .wide3 .ensures ∙ c .before .slope-of .ensures in
@@ -36,10 +36,10 @@ need-of-requires c κs =
 returns : tie.Need-returns
 returns c =
     let d = c .before in
-    rw (← shared (d .before .before), ← d .before .slope-of .ensures, ← d .wide3 .ensures) (c .need-of .ensures)
+    rw (← shared (d .before .before), ← d .before .slope-of .ensures, ← d .wide3 .ensures) (c .line-of .ensures)
 
-pub need-of-task-spec : {M : Type 1} → statement M
-need-of-task-spec =
+pub line-of-task-spec : {M : Type 1} → statement M
+line-of-task-spec =
     tie.close
     (tie.spec
     wide-requires
@@ -47,5 +47,5 @@ need-of-task-spec =
     share-at-requires
     slope-of-requires
     wide-requires-3
-    need-of-requires
+    line-of-requires
     returns)
