@@ -5,14 +5,13 @@ use mathlib.Core.Bool.{Bool, true, false, not}
 use mathlib.Core.List.{List, _++_}
 use mathlib.Core.Path.{_≡_, refl, sym, ap, _∙_}
 use native.Mathlib.Omega.{arith}
-use lib.Dec.{ltb}
-use lib.ListN.{length, drop, replicate, length-append, length-drop, length-replicate}
-use borrow.Author.Tests.{leb-true, lt-ltb, le-ltb, ltb-true, ltb-false}
+use lib.ListN.{length, getD, drop, replicate, length-append, length-drop, length-replicate}
+use borrow.Author.Tests.{leb-true, le-leb, lt-ltb, le-ltb}
 use Rattle.ground.specs.First.{IsFirst}
 use Rattle.ground.specs.Folds.{listTo}
-use Rattle.ground.proofs.Cases.{by-bool, true-false, both-true}
+use Rattle.ground.proofs.Cases.{by-bool, by-le, true-false, both-true}
 use Rattle.ground.proofs.First.{first-is, first-here, first-more, first-none}
-use Rattle.ground.proofs.Buffer.{Front, list-long, list-at}
+use Rattle.ground.proofs.Buffer.{list-long, list-at}
 use Rattle.kinds.specs.declared.Refusal.the-variants.{TooManyTasks, BadPeriod}
 use Rattle.kinds.specs.Answer.{Handed, accepted, refused}
 use Rattle.kinds.specs.Limits.{longestPeriod, mostTasks}
@@ -79,22 +78,31 @@ module _ (ps : List ℕ) (tick : ℕ) where
   -- an accepted start is one of periods that are all taken
   pub begun : started ps tick .number ≡ 0 → Whole ps
   begun e =
-      by-bool (ltb mostTasks (length ps))
-      (λ t. absurd (omega (arith, e, ap (λ (x : Handed Clock). x .number) (started-many (many t)))))
-      (λ t. by-bool (ltb (firstBad ps) (length ps))
-      (λ u. absurd (omega (arith, e, ap (λ (x : Handed Clock). x .number) (started-bad (ltb-false mostTasks (length ps) t) (less u)))))
-      (λ u. record { few = ltb-false mostTasks (length ps) t; fair = all-fair ps (ltb-false (firstBad ps) (length ps) u) }))
-    where
-      many : ltb mostTasks (length ps) ≡ true → mostTasks < length ps
-      many t = ltb-true mostTasks (length ps) t
+      by-le (length ps) mostTasks
+      (λ few. by-le (length ps) (firstBad ps)
+      (λ l. record { few = few; fair = all-fair ps l })
+      (λ l. absurd (omega (arith, e, ap (λ (x : Handed Clock). x .number) (started-bad few l)))))
+      (λ many. absurd (omega (arith, e, ap (λ (x : Handed Clock). x .number) (started-many many))))
 
-      less : ltb (firstBad ps) (length ps) ≡ true → firstBad ps < length ps
-      less u = ltb-true (firstBad ps) (length ps) u
+-- and such periods are never refused
+fair-is : (ticks : ℕ) → Fair ticks → isPeriod ticks ≡ true
+fair-is ticks f = rw (le-leb 1 ticks (f .some), le-leb ticks longestPeriod (f .most))
 
--- a clock's column of n numbers
+none-bad : (ps : List ℕ) → Whole ps → length ps ≤ firstBad ps
+none-bad ps w =
+    by-le (length ps) (firstBad ps) (λ l. l)
+    (λ l. true-false (first-bad-is ps .there l) (ap not (fair-is (every ps (firstBad ps)) (w .fair (firstBad ps) l))))
+
+pub whole-started : (ps : List ℕ) (tick : ℕ) → Whole ps → started ps tick ≡ accepted (clockFrom ps tick)
+whole-started ps tick w = sym (started-well ps tick (w .few) (none-bad ps w))
+
+-- a clock's column of n numbers has room for the most tasks, and its numbers stand where they should
 pub padded-long : (f : ℕ → ℕ) (n : ℕ) → n ≤ mostTasks → length (padded f n) ≡ mostTasks
 padded-long f n h =
     omega (arith, length-append {A = ℕ} (listTo f n) (drop n (replicate mostTasks 0)), list-long f n, length-drop {A = ℕ} n (replicate mostTasks 0), length-replicate {A = ℕ} mostTasks 0)
+
+pub padded-at : (f : ℕ → ℕ) (n i : ℕ) → i < n → getD (padded f n) i 0 ≡ f i
+padded-at f n i l = list-at f n i (drop n (replicate mostTasks 0)) l
 
 -- no second answer, nor a second clock
 begin-one : (v w : Begin) (x y : Clock) → handedBy v x ≡ handedBy w y → v ≡ w
