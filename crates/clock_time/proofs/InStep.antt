@@ -97,10 +97,10 @@ around-moved ps next t w k l d a = record {
 }
 
 module _ (ps : List ℕ) (whole : Whole ps) (next : ℕ → ℕ) (f : ℕ) (b : Bounded (length ps) next f)
-    (t : ℕ) (back : f ≤ t + longestPeriod) (near : (i : ℕ) → i < length ps → t < next i + halfTurn) where
-  -- a tick at most 1,000,000,000 behind the furthest has every release around it
-  pub around : Around (length ps) next t
-  around = record { ahead = λ i l. omega (arith, b .ahead i l); near = near }
+    (t : ℕ) (near : (i : ℕ) → i < length ps → t < next i + halfTurn) where
+  -- a tick at most 1,000,000,000 behind the furthest has every release around it, and so has one up to 1,147,483,648 behind
+  pub around : f + longestPeriod ≤ t + halfTurn → Around (length ps) next t
+  around back = record { ahead = λ i l. omega (arith, b .ahead i l); near = near }
 
   bounded-call : Bounded (length ps) (afterwards (every ps) next (earliest (length ps) next t)) (max t f)
   bounded-call =
@@ -137,16 +137,16 @@ module _ (ps : List ℕ) (from : ℕ) (start : started ps (from % turn) .number 
   kept (t ∷ h) q =
       let k : Kept ps from h = kept h (q .0) in
       let x = nextAfter ps from h in
-      let a : Around (length ps) x t = around ps whole x (furthest ps from h) (k .bounded) t (q .1) (q .2) in
+      let a : Around (length ps) x t = around ps whole x (furthest ps from h) (k .bounded) t (q .2) (omega (arith, q .1)) in
       record {
         shows = shows-call ps (clockAfter ps from h) x (k .shows) t a;
-        bounded = bounded-call ps whole x (furthest ps from h) (k .bounded) t (q .1) (q .2);
+        bounded = bounded-call ps whole x (furthest ps from h) (k .bounded) t (q .2);
       }
 
   -- the releases are around the tick of a call under the premise
   pub call-around : (h : List ℕ) (t : ℕ) → Premise ps from (t ∷ h) → Around (length ps) (nextAfter ps from h) t
   unfolding Premise
-  call-around h t q = around ps whole (nextAfter ps from h) (furthest ps from h) (kept h (q .0) .bounded) t (q .1) (q .2)
+  call-around h t q = around ps whole (nextAfter ps from h) (furthest ps from h) (kept h (q .0) .bounded) t (q .2) (omega (arith, q .1))
 
   -- each call under the premise hands back what the clock of unbroken time hands back
   pub in-step : (h : List ℕ) (t : ℕ) → Premise ps from (t ∷ h)
