@@ -116,9 +116,13 @@ value-is : (v : Begin) (x : Clock) → handedBy v x .value ≡ x
 value-is begin.Begun x = refl
 value-is (begin.Refused r) x = refl
 
+-- what is handed back tells the clock
+pub clock-is : (r : Started) → r .clock ≡ handedStart r .value
+clock-is r = sym (value-is (r .answer) (r .clock))
+
 pub start-one : (ps : List ℕ) (tick : ℕ) (r q : Started) → handedStart r ≡ started ps tick → handedStart q ≡ started ps tick → r ≡ q
 start-one ps tick r q e f =
     let h : handedStart r ≡ handedStart q = e ∙ sym f in
     let v = begin-one (r .answer) (q .answer) (r .clock) (q .clock) h in
-    let x : r .clock ≡ q .clock = sym (value-is (r .answer) (r .clock)) ∙ (ap (λ (g : Handed Clock). g .value) h ∙ value-is (q .answer) (q .clock)) in
+    let x : r .clock ≡ q .clock = clock-is r ∙ (ap (λ (g : Handed Clock). g .value) h ∙ sym (clock-is q)) in
     λ i. record { answer = v i; clock = x i }
