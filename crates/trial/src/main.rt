@@ -2,6 +2,7 @@
 // streams are those of the second program, which has its own answers to compare. A stream that is not of that form ends the run.
 // Contracts cite `specs/Room`.
 mod ask;
+mod clocked;
 mod tell;
 
 use ask::ByteField;
@@ -539,6 +540,7 @@ fn answer(s: &[u8], out: &mut [u8; ROOM]) -> usize
         7 => answer_program(&s[KIND..], out),
         8 => answer_wide(s, out),
         9 => answer_check(&s[KIND..], out),
+        10 => clocked::answer_clock(s, KIND, out),
         _ => 0,
     }
 }

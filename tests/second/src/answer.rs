@@ -17,7 +17,7 @@ pub const PROCESSOR_SENTINEL: u16 = 0x5A5A;
 pub const BUFFER_SENTINEL: u8 = 0xEE;
 
 /// The number (0 when accepted) and the place (0 when accepted).
-fn put_verdict<T>(bytes: &mut Vec<u8>, answer: &Result<T, Refusal>) {
+pub fn put_verdict<T>(bytes: &mut Vec<u8>, answer: &Result<T, Refusal>) {
     let refusal = answer.as_ref().err().copied().unwrap_or(Refusal { number: 0, place: 0 });
     bytes.push(refusal.number);
     bytes.extend(refusal.place.to_le_bytes());
@@ -141,5 +141,6 @@ pub fn answer(call: &Call) -> Vec<u8> {
         Call::Program(input) => program(input),
         Call::Wide(table, rooms) => wide_answer(table, *rooms),
         Call::Check(sheet) => check_answer(sheet),
+        Call::Clock(run) => run.answer(),
     }
 }

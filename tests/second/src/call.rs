@@ -1,5 +1,6 @@
 //! A call of the stream: what is asked, and its payload in bytes.
 
+use crate::clock_run::Run;
 use crate::definition::admission::Question;
 use crate::definition::kinds::{Granted, Policy, Record, Sheet, MOST_TASKS};
 use crate::definition::wide::{WideQuestion, WideRecord};
@@ -61,10 +62,11 @@ pub enum Call {
     Program(Vec<u8>),
     Wide(WideTable, Rooms),
     Check(Vec<u8>),
+    Clock(Run),
 }
 
 /// The names of the kinds of call, from kind 1.
-pub const KIND_NAMES: [&str; 9] = [
+pub const KIND_NAMES: [&str; 10] = [
     "plain finder",
     "quick finder",
     "margin",
@@ -74,6 +76,7 @@ pub const KIND_NAMES: [&str; 9] = [
     "program",
     "several cores",
     "check",
+    "release clock",
 ];
 
 /// The rows or results that the stream has of a count.
@@ -208,6 +211,7 @@ impl Call {
             Call::Program(..) => 7,
             Call::Wide(..) => 8,
             Call::Check(..) => 9,
+            Call::Clock(..) => 10,
         }
     }
 
@@ -233,6 +237,7 @@ impl Call {
             Call::Program(input) => bytes.extend(input),
             Call::Wide(table, rooms) => put_wide(&mut bytes, table, *rooms),
             Call::Check(sheet) => bytes.extend(sheet),
+            Call::Clock(run) => run.put(&mut bytes),
         }
         bytes
     }

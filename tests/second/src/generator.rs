@@ -2,7 +2,9 @@
 //! then calls that hang on the seed and on their index only.
 
 pub mod bench;
+mod clock_runs;
 mod edges_of_checked;
+pub mod edges_of_clock;
 mod edges_of_finders;
 mod edges_of_sheets;
 pub mod edges_of_wide;
@@ -26,6 +28,7 @@ impl Calls {
         fixed.extend(edges_of_sheets::calls());
         fixed.extend(edges_of_wide::calls());
         fixed.extend(edges_of_checked::calls());
+        fixed.extend(edges_of_clock::calls());
         Calls { seed, fixed }
     }
 

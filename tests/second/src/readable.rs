@@ -2,6 +2,7 @@
 
 use crate::answer::{BUFFER_SENTINEL, PERIOD_SENTINEL, PROCESSOR_SENTINEL};
 use crate::call::{Call, Rooms, Settings, Table, WideTable, KIND_NAMES};
+use crate::clock_run::released_text;
 use crate::definition::kinds::{Granted, Record, MOST_TASKS};
 use std::fmt::Write;
 
@@ -89,6 +90,7 @@ pub fn call_text(call: &Call) -> String {
             text.push_str(&wide_lines(table));
             text.push_str(&rooms_line(*rooms));
         }
+        Call::Clock(run) => text.push_str(&run.text()),
     }
     text
 }
@@ -207,6 +209,9 @@ fn fields_text(call: &Call, answer: &[u8]) -> Option<String> {
         Call::Program(_) => program_text(fields.take(answer.len())?),
         Call::Check(_) => {
             format!("{}{}", fields.verdict()?, program_text(fields.take(fields.rest.len())?))
+        }
+        Call::Clock(run) => {
+            format!("{}{}", fields.verdict()?, released_text(run, &mut fields.rest)?)
         }
     };
     fields.rest.is_empty().then_some(text)

@@ -1,5 +1,6 @@
 //! One random call: its kind, its settings, its table or sheet, its outputs.
 
+use super::clock_runs::random_run;
 use super::sheets::{damaged, overlong, random_results, random_sheet};
 use super::tables::{
     crossing, exact, exact_first_fit, general, huge, spoil, telling_step, tied, turning_step,
@@ -20,14 +21,15 @@ pub fn random_call(random: &mut Random, index: usize) -> Call {
         return long_scan(random);
     }
     match random.between(0, 99) {
-        0..=22 => plain(random),
-        23..=45 => quick(random),
-        46..=58 => margin(random),
-        59..=65 => Call::Read(sheet(random)),
-        66..=72 => Call::Write(writing(random)),
-        73..=82 => Call::ChangeOver { standing: sheet(random), proposed: sheet(random) },
-        83..=89 => Call::Program(sheet(random)),
-        90..=94 => Call::Check(checked_sheet(random)),
+        0..=21 => plain(random),
+        22..=43 => quick(random),
+        44..=55 => margin(random),
+        56..=61 => Call::Read(sheet(random)),
+        62..=68 => Call::Write(writing(random)),
+        69..=77 => Call::ChangeOver { standing: sheet(random), proposed: sheet(random) },
+        78..=84 => Call::Program(sheet(random)),
+        85..=89 => Call::Check(checked_sheet(random)),
+        90..=94 => Call::Clock(random_run(random)),
         _ => several_cores(random),
     }
 }
