@@ -1,16 +1,15 @@
 -- The task that is most late, the lowest on a tie: what `latest` says, and the walk that works it out.
 -- Assumes nothing.
 use Prim.Native.Nat.{ℕ, suc, _+_, _-_, _≤_, _<_}
-use mathlib.Core.Bool.{Bool, true, false}
-use mathlib.Core.List.{List, [], _∷_}
-use mathlib.Core.Path.{_≡_, refl, sym, ap, _∙_}
+use mathlib.Core.Bool.{Bool}
+use mathlib.Core.List.{[], _∷_}
+use mathlib.Core.Path.{_≡_, sym, ap, _∙_}
 use native.Mathlib.Omega.{arith}
 use lib.Dec.{eqb}
 use borrow.Author.Tests.{eqb-true, eqb-false, eq-eqb, ne-eqb}
-use Rattle.ground.specs.Choice.{pick}
 use Rattle.ground.specs.First.{firstBelow, IsFirst}
 use Rattle.ground.specs.Folds.{maxTo}
-use Rattle.ground.proofs.Cases.{by-bool, by-le, by-eq, true-false}
+use Rattle.ground.proofs.Cases.{by-le, by-eq, true-false}
 use Rattle.ground.proofs.First.{first-is, first-unique, first-cong}
 use Rattle.ground.proofs.Folds.{max-none, max-more, le-max-to, max-reached, max-cong}
 use Rattle.kinds.specs.Limits.{mostTasks}

@@ -5,7 +5,6 @@ use mathlib.Core.Bool.{Bool, true, false}
 use mathlib.Core.List.{List, [], _++_, append-nil}
 use mathlib.Core.Path.{_≡_, refl, sym, ap, _∙_}
 use native.Mathlib.Omega.{arith}
-use lib.Dec.{eqb}
 use lib.ListN.{length, getD, take, drop}
 use lib.Seq.{take-at}
 use borrow.Author.Tests.{ne-eqb}
@@ -24,7 +23,7 @@ use Rattle.share.specs.Table.{periodsAt}
 use Rattle.share.proofs.Tables.{all-good}
 use Rattle.share.proofs.Tasks.{shortest}
 use Rattle.plan.specs.Plan.{found, Outcome, outcome, Meets}
-use Rattle.plan.proofs.Found.{Accepting, accepting}
+use Rattle.plan.proofs.Found.{accepting}
 use Rattle.plan.proofs.Outcomes.{no-second-answer}
 use Rattle.clock.specs.declared.Clock.{Clock}
 use Rattle.clock.specs.declared.Started.{Started}

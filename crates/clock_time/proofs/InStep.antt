@@ -10,7 +10,7 @@ use Rattle.ground.proofs.Cases.{by-eq}
 use Rattle.kinds.specs.Answer.{Handed, accepted}
 use Rattle.kinds.specs.Limits.{longestPeriod, mostTasks}
 use Rattle.clock.specs.declared.Clock.{Clock}
-use Rattle.clock.specs.Ticks.{turn, halfTurn, late, latest}
+use Rattle.clock.specs.Ticks.{turn, halfTurn, late}
 use Rattle.clock.specs.Start.{every, started, clockFrom}
 use Rattle.clock.specs.Call.{nextOf, periodOf, lateAt, released, movedOn, afterCall}
 use Rattle.clock.proofs.Wrap.{late-is, add-wraps}

@@ -1,5 +1,4 @@
 -- `clock::start` meets its contract. Assumes nothing.
-use mathlib.Core.Path.{_≡_, _∙_}
 use native.Mathlib.Omega.{arith}
 use borrow.Author.Needs.{needs}
 use Rattle.clock.proofs.Starts.{started-many, started-bad, started-well}

@@ -1,5 +1,5 @@
 -- `clock_plan::start_plan` meets its contract. Assumes nothing.
-use mathlib.Core.Path.{_≡_, sym, _∙_}
+use mathlib.Core.Path.{sym, _∙_}
 use lib.Seq.{length-take-le}
 use borrow.Author.Needs.{needs}
 use Rattle.clock_plan.proofs.Accepted.{roomy, planned-well, planned-none}
