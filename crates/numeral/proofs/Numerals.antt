@@ -12,7 +12,6 @@ use lib.ListN.{length, getD, drop}
 use lib.Seq.{drop-cons, drop-drop, getD-drop, getD-append-seam, drop-append-add}
 use borrow.Author.Tests.{leb-true, leb-false, eqb-true, eqb-false}
 use Rattle.ground.proofs.Cases.{by-bool}
-use Rattle.numeral.specs.declared.Numeral.{Numeral}
 use Rattle.numeral.specs.declared.Numeral.the-variants.{Is, Bad}
 use Rattle.numeral.specs.Decimal.{decimal}
 use Rattle.numeral.specs.Scan.{mostNumber, isDigit, digits, digitsAt, valueFrom, valueAt, pastDigits, plain, numeralAt}

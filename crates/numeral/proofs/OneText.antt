@@ -9,7 +9,7 @@ use native.Mathlib.Omega.{arith}
 use lib.Dec.{eqb}
 use lib.ListN.{length, getD, List·getD-append}
 use borrow.Author.Tests.{ne-eqb, eqb-false}
-use Rattle.ground.proofs.Cases.{by-le, by-bool}
+use Rattle.ground.proofs.Cases.{by-le}
 use Rattle.numeral.specs.Decimal.{lastDigit, decimal}
 use Rattle.numeral.specs.Scan.{isDigit, valueFrom, plain}
 use Rattle.numeral.proofs.Digits.{one-digit, more-digits, one-long, more-long}

@@ -3,8 +3,7 @@ use Prim.Native.Nat.{_<_}
 use lib.ListN.{length}
 use borrow.Author.Tests.{not-true, not-false}
 use native.Mathlib.Omega.{arith}
-use mathlib.Core.Path.{_≡_, sym, ap, _∙_}
-use Prim.Native.Nat.{ℕ}
+use mathlib.Core.Path.{sym, _∙_}
 use lib.ListN.{getD}
 use Rattle.numeral.proofs.Scan.{within, not-plain, read-large, read-other, read-whole}
 use borrow.Author.Needs.{needs}

@@ -1,6 +1,6 @@
 -- `numeral::width` meets its contract: the digits that are left and those counted are all. Assumes nothing.
 use native.Mathlib.Omega.{arith}
-use Prim.Native.Nat.{ℕ, _+_, _≤_, _<_}
+use Prim.Native.Nat.{_+_}
 use mathlib.Core.Path.{_≡_}
 use lib.ListN.{length}
 use Rattle.numeral.specs.Decimal.{decimal}

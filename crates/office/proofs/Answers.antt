@@ -1,0 +1,135 @@
+-- What import and export answer in each case, with the output after it, and that no second answer meets either promise.
+-- Assumes nothing.
+use Prim.Native.Nat.{ℕ, _≤_, _<_}
+use mathlib.Core.List.{List, [], _++_, append-nil}
+use mathlib.Core.Path.{_≡_, sym, ap, ap₂, _∙_}
+use native.Mathlib.Omega.{arith}
+use lib.ListN.{length, drop, drop-of-length-le}
+use borrow.Author.Tests.{lt-ltb, le-ltb, ne-eqb}
+use Rattle.kinds.specs.declared.Task.{Task}
+use Rattle.kinds.specs.declared.Table.{Table}
+use Rattle.kinds.specs.declared.Refusal.{Refusal}
+use Rattle.kinds.specs.declared.Refusal.the-variants.{TooManyTasks, OutputTooShort}
+use Rattle.kinds.specs.Limits.{mostTasks}
+use Rattle.kinds.specs.Refusal.{numberOf}
+use Rattle.kinds.specs.Answer.{Handed, accepted, refused}
+use Rattle.kinds.proofs.Refusals.{refusal-numbered}
+use Rattle.kinds.proofs.Answers.{not-refused, refused-one}
+use Rattle.field.specs.Stored.{Put}
+use Rattle.field.proofs.Stores.{stored-front}
+use Rattle.office.specs.declared.Carried.{Carried}
+use Rattle.office.specs.declared.Carried.the-variants.{Count, Refused}
+use Rattle.office.specs.declared.Imported.{Imported}
+use Rattle.office.specs.Text.{textTo}
+use Rattle.office.specs.Reading.{Rows, Not, readText, rowsOf}
+use Rattle.office.specs.Carrying.{handedCarried, carry, importHanded, exportHanded, after, Imports, Exports, tableOf, Reads, importedNot}
+use Rattle.office.proofs.Lines.{Going, going-end}
+
+-- a refused call leaves what it was lent
+pub after-refused : {A : Type 0} (r : Refusal) (new old : List A) → after (refused 0 r) new old ≡ old
+after-refused r new old = rw (ne-eqb (numberOf r) 0 (λ z. omega (arith, refusal-numbered r)))
+
+module _ (needed room : ℕ) where
+  pub carry-short : room < needed → carry needed room ≡ refused 0 (OutputTooShort needed)
+  carry-short h = simp (lt-ltb room needed h)
+
+  pub carry-done : needed ≤ room → carry needed room ≡ accepted needed
+  carry-done h = simp (le-ltb room needed h)
+
+-- ---- import
+module _ (s : List ℕ) (room : ℕ) where
+  pub import-not : (r : Refusal) → readText s ≡ Not r → importHanded s room ≡ refused 0 r
+  unfolding importHanded
+  import-not r e = rw e
+
+  pub import-rows : (rows : List Task) → readText s ≡ Rows rows → importHanded s room ≡ carry (length rows) room
+  unfolding importHanded
+  import-rows rows e = rw e
+
+  reads-refused : (r : Refusal) → importHanded s room ≡ refused 0 r → (i : Imported) → i ≡ importedNot r → Reads s room i
+  reads-refused r e i k =
+      rw k
+      (record {
+        answer = sym e;
+        table = ap tableOf (sym (ap (λ (h : Handed ℕ). after h (rowsOf (readText s)) []) e ∙ after-refused r (rowsOf (readText s)) []));
+      })
+
+  pub reads-not : (r : Refusal) → readText s ≡ Not r → (i : Imported) → i ≡ importedNot r → Reads s room i
+  reads-not r e i k = reads-refused r (import-not r e) i k
+
+  -- where the text has come to its end
+  module _ (array : List Task) (at n : ℕ) (g : Going s array at n) (h : length s ≤ at) where
+    handed : importHanded s room ≡ carry n room
+    handed = import-rows (g .rows) (going-end s array at n g h) ∙ ap (λ (k : ℕ). carry k room) (g .count)
+
+    pub reads-short : room < n → (i : Imported) → i ≡ importedNot (OutputTooShort n) → Reads s room i
+    reads-short q i k = reads-refused (OutputTooShort n) (handed ∙ carry-short n room q) i k
+
+    pub reads-done : n ≤ room → Reads s room (record { answer = Count n; table = record { rows = array; n = n } })
+    reads-done q =
+        let e = handed ∙ carry-done n room q in
+        let r : rowsOf (readText s) ≡ g .rows = ap rowsOf (going-end s array at n g h) in
+        let t : after (importHanded s room) (rowsOf (readText s)) [] ≡ g .rows =
+        ap (λ (x : Handed ℕ). after x (rowsOf (readText s)) []) e ∙ (ap (λ (l : List Task). l ++ drop n []) r ∙ none (g .rows) n) in
+        let p = g .placed in
+        let c = g .count in
+        record { answer = sym e; table = cc t }
+      where
+        none : (l : List Task) (k : ℕ) → l ++ drop k [] ≡ l
+        none l k = let e : drop {A = Task} k [] ≡ [] = drop-of-length-le [] {i = k} (omega arith) in ap (λ (x : List Task). l ++ x) e ∙ append-nil l
+
+-- ---- export
+many-of : (rows : List Task) (n room : ℕ) → mostTasks < n → exportHanded rows n room ≡ refused 0 (TooManyTasks n)
+unfolding exportHanded
+many-of rows n room h = simp (lt-ltb mostTasks n h)
+
+few-of : (rows : List Task) (n room : ℕ) → n ≤ mostTasks → (needed : ℕ) → needed ≡ length (textTo rows n) → exportHanded rows n room ≡ carry needed room
+unfolding exportHanded
+few-of rows n room h needed e = simp (le-ltb mostTasks n h, ← e)
+
+module _ (rows : List Task) (n : ℕ) (old : List ℕ) where
+  refused-keeps : (r : Refusal) → exportHanded rows n (length old) ≡ refused 0 r → Exports rows n old (Refused r) old
+  refused-keeps r e =
+      record { answer = sym e; output = sym (ap (λ (h : Handed ℕ). after h (textTo rows n) old) e ∙ after-refused r (textTo rows n) old) }
+
+  pub exports-many : mostTasks < n → Exports rows n old (Refused (TooManyTasks n)) old
+  exports-many h = refused-keeps (TooManyTasks n) (many-of rows n (length old) h)
+
+  module _ (h : n ≤ mostTasks) (needed : ℕ) (e : needed ≡ length (textTo rows n)) where
+    pub exports-short : length old < needed → Exports rows n old (Refused (OutputTooShort needed)) old
+    exports-short q = refused-keeps (OutputTooShort needed) (few-of rows n (length old) h needed e ∙ carry-short needed (length old) q)
+
+  module _ (h : n ≤ mostTasks) (q : length (textTo rows n) ≤ length old) where
+    pub exports-done : (written : ℕ) (new : List ℕ) → Put old 0 (length (textTo rows n)) (textTo rows n) written new → Exports rows n old (Count written) new
+    exports-done written new p =
+        let e : written ≡ length (textTo rows n) = omega (arith, p .next-is) in
+        let k : exportHanded rows n (length old) ≡ accepted written =
+        few-of rows n (length old) h written e ∙ carry-done written (length old) (omega arith) in
+        record {
+          answer = sym k;
+          output =
+              p .new-is
+              ∙ (stored-front old (textTo rows n) written (sym e) (omega arith)
+              ∙ sym (ap (λ (h : Handed ℕ). after h (textTo rows n) old) k));
+        }
+
+-- ---- no second answer
+pub carried-one : (r q : Carried) → handedCarried r ≡ handedCarried q → r ≡ q
+carried-one (Count m) (Count n) e = ap Count (ap (λ (h : Handed ℕ). h .value) e)
+carried-one (Count m) (Refused q) e = not-refused m 0 q e
+carried-one (Refused r) (Count n) e = not-refused n 0 r (sym e)
+carried-one (Refused r) (Refused q) e = ap Refused (refused-one 0 r q e)
+
+pub import-one : (text : List ℕ) (old : List Task) (r q : Carried) (new other : List Task) → Imports text old r new → Imports text old q other
+    → (r ≡ q) × (new ≡ other)
+import-one text old r q new other a b = (carried-one r q (a .answer ∙ sym (b .answer)), a .output ∙ sym (b .output))
+
+pub export-one : (rows : List Task) (n : ℕ) (old : List ℕ) (r q : Carried) (new other : List ℕ) → Exports rows n old r new → Exports rows n old q other
+    → (r ≡ q) × (new ≡ other)
+export-one rows n old r q new other a b = (carried-one r q (a .answer ∙ sym (b .answer)), a .output ∙ sym (b .output))
+
+pub read-one : (text : List ℕ) (room : ℕ) (r q : Imported) → Reads text room r → Reads text room q → r ≡ q
+read-one text room r q a b =
+    let x = carried-one (r .answer) (q .answer) (a .answer ∙ sym (b .answer)) in
+    let y = a .table ∙ sym (b .table) in
+    ap₂ (λ (answer : Carried) (table : Table). record { answer = answer; table = table }) x y
