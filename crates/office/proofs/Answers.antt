@@ -2,15 +2,17 @@
 -- Assumes nothing.
 use Prim.Native.Nat.{ℕ, _≤_, _<_}
 use mathlib.Core.List.{List, [], _++_, append-nil}
-use mathlib.Core.Path.{_≡_, sym, ap, ap₂, _∙_}
+use mathlib.Core.Path.{_≡_, refl, sym, ap, ap₂, _∙_}
 use native.Mathlib.Omega.{arith}
 use lib.ListN.{length, drop, drop-of-length-le}
 use borrow.Author.Tests.{lt-ltb, le-ltb, ne-eqb}
+use Rattle.ground.proofs.Cases.{by-le}
 use Rattle.kinds.specs.declared.Task.{Task}
 use Rattle.kinds.specs.declared.Table.{Table}
 use Rattle.kinds.specs.declared.Refusal.{Refusal}
 use Rattle.kinds.specs.declared.Refusal.the-variants.{TooManyTasks, OutputTooShort}
 use Rattle.kinds.specs.Limits.{mostTasks}
+use Rattle.kinds.specs.Task.{at}
 use Rattle.kinds.specs.Refusal.{numberOf}
 use Rattle.kinds.specs.Answer.{Handed, accepted, refused}
 use Rattle.kinds.proofs.Refusals.{refusal-numbered}
@@ -24,6 +26,7 @@ use Rattle.office.specs.Text.{textTo}
 use Rattle.office.specs.Reading.{Rows, Not, readText, rowsOf}
 use Rattle.office.specs.Carrying.{handedCarried, carry, importHanded, exportHanded, after, Imports, Exports, tableOf, Reads, importedNot}
 use Rattle.office.proofs.Lines.{Going, going-end}
+use Rattle.office.proofs.Texts.{text-same}
 
 -- a refused call leaves what it was lent
 pub after-refused : {A : Type 0} (r : Refusal) (new old : List A) → after (refused 0 r) new old ≡ old
@@ -133,3 +136,25 @@ read-one text room r q a b =
     let x = carried-one (r .answer) (q .answer) (a .answer ∙ sym (b .answer)) in
     let y = a .table ∙ sym (b .table) in
     ap₂ (λ (answer : Carried) (table : Table). record { answer = answer; table = table }) x y
+
+-- ---- rows that agree as far as they count are exported alike
+module _ (rows other : List Task) (n : ℕ) (agree : n ≤ mostTasks → (i : ℕ) → i < n → at rows i ≡ at other i) where
+  handed-same : (room : ℕ) → exportHanded rows n room ≡ exportHanded other n room
+  handed-same room =
+      by-le n mostTasks
+      (λ h.
+      let e : length (textTo other n) ≡ length (textTo rows n) = ap length (sym (text-same rows other n (agree h))) in
+      few-of rows n room h (length (textTo rows n)) refl ∙ sym (few-of other n room h (length (textTo rows n)) (sym e)))
+      (λ h. many-of rows n room h ∙ sym (many-of other n room h))
+
+  after-same : (old : List ℕ) → after (exportHanded rows n (length old)) (textTo rows n) old ≡ after (exportHanded other n (length old)) (textTo other n) old
+  after-same old =
+      by-le n mostTasks
+      (λ h. rw (handed-same (length old), text-same rows other n (agree h)))
+      (λ h.
+      let x = many-of rows n (length old) h in
+      let y = many-of other n (length old) h in
+      rw (x, y) (after-refused (TooManyTasks n) (textTo rows n) old ∙ sym (after-refused (TooManyTasks n) (textTo other n) old)))
+
+  pub exports-same : (old : List ℕ) (r : Carried) (new : List ℕ) → Exports rows n old r new → Exports other n old r new
+  exports-same old r new x = record { answer = x .answer ∙ handed-same (length old); output = x .output ∙ after-same old }

@@ -1,5 +1,6 @@
 pub mod Gets
 pub mod Thin
+pub mod ThinM
 pub mod ThinVmm
 pub mod ThinVv
 pub mod Item
