@@ -34,7 +34,7 @@ fn put_bytes(out: &mut [u8], at: usize, bytes: &[u8]) -> usize
 }
 
 // Writes `refused N at P` and a newline; returns their length.
-fn put_refusal(out: &mut [u8], refusal: Refusal) -> usize
+pub fn put_refusal(out: &mut [u8], refusal: Refusal) -> usize
     requires { ⌜ longestSheet ≤ length (now out) ⌝ }
     ensures { λ r. ⌜ Fronts (refusalLine (numberOf refusal) (placeOf refusal)) (now (out .entry)) r (now (out .exit)) ⌝ }
 {

@@ -3,18 +3,18 @@
 -- Assumes nothing.
 use Prim.Native.Nat.{ℕ, suc, _+_, _≤_, _<_}
 use mathlib.Core.Bool.{true, false}
-use mathlib.Core.List.{List, [], _∷_, _++_}
+use mathlib.Core.List.{List, [], _∷_, _++_, append-nil}
 use mathlib.Core.Path.{_≡_, refl, sym, ap, _∙_}
 use native.Mathlib.Numerals.{add-one}
 use native.Mathlib.Omega.{arith}
 use lib.Dec.{leb, eqb}
-use lib.ListN.{length, getD, drop}
+use lib.ListN.{length, getD, drop, drop-of-length-le}
 use lib.Seq.{drop-cons, drop-drop, getD-drop, getD-append-seam, drop-append-add}
-use borrow.Author.Tests.{leb-true, leb-false, eqb-true, eqb-false}
+use borrow.Author.Tests.{leb-true, leb-false, le-leb, eqb-true, eqb-false, eq-eqb}
 use Rattle.ground.proofs.Cases.{by-bool}
 use Rattle.numeral.specs.declared.Numeral.the-variants.{Is, Bad}
 use Rattle.numeral.specs.Decimal.{decimal}
-use Rattle.numeral.specs.Scan.{mostNumber, isDigit, digits, digitsAt, valueFrom, valueAt, pastDigits, plain, numeralAt}
+use Rattle.numeral.specs.Scan.{mostNumber, isDigit, digits, digitsAt, valueFrom, valueAt, pastDigits, plain, numeralAt, numeralIn}
 use Rattle.numeral.proofs.Scan.{within, not-plain, too-large, other-end, whole}
 use Rattle.numeral.proofs.OneText.{AllDigits, own-text, decimal-digits, decimal-plain, decimal-value}
 
@@ -122,3 +122,37 @@ module _ (s : List ℕ) (at end v : ℕ) (rest : List ℕ) (n : isDigit end ≡ 
       ap (λ (k : ℕ). drop k s) (sym e)
       ∙ (sym (drop-drop (length (decimal v) + 1) at s)
       ∙ (ap (drop (length (decimal v) + 1)) t ∙ drop-append-add (decimal v) (end ∷ rest) 1))
+
+-- a whole text that is read is the number's text, and a number's text is read as that number
+pub whole-got : (s : List ℕ) (v next : ℕ) → numeralIn s ≡ Is v next → (v ≤ mostNumber) × (s ≡ decimal v)
+unfolding numeralIn
+whole-got s v next k =
+    by-bool (plain (digitsAt s 0))
+    (λ p. by-bool (leb (valueAt s 0) mostNumber)
+    (λ q. by-bool (eqb (pastDigits s 0) (length s))
+    (λ e.
+    let j : Is (valueAt s 0) (length s) ≡ Is v next = (rw (p, q, e) at k) in
+    let x : valueAt s 0 ≡ v = cc in
+    let l : length (digits s) ≡ length s = (let z : pastDigits s 0 ≡ length s = eqb-true (pastDigits s 0) (length s) e in omega arith) in
+    let none : drop (length (digits s)) s ≡ [] = drop-of-length-le s {i = length (digits s)} (omega arith) in
+    let all : digits s ≡ s = sym (digits-then s ∙ (ap (λ (r : List ℕ). digits s ++ r) none ∙ append-nil (digits s))) in
+    (rw (← x) (leb-true _ _ q), sym all ∙ (sym (own-text (digits s) (front-digits s) p) ∙ ap decimal x)))
+    (λ e. never (rw (p, q, e) at k)))
+    (λ q. never (rw (p, q) at k)))
+    (λ p. never (rw p at k))
+  where
+    never : {B : Type 0} → Bad ≡ Is v next → B
+    never w = absurd (let t : _≡_ {A = ℕ} 0 1 = cc in omega arith)
+
+all-of : (ds : List ℕ) → AllDigits ds → digits ds ≡ ds
+unfolding digits
+all-of [] f = refl
+all-of (d ∷ ds) f = digits-cons d ds (f .0) ∙ ap (λ (x : List ℕ). d ∷ x) (all-of ds (f .1))
+
+pub whole-back : (v : ℕ) → v ≤ mostNumber → numeralIn (decimal v) ≡ Is v (length (decimal v))
+unfolding numeralIn
+whole-back v h =
+    let d = all-of (decimal v) (decimal-digits v) in
+    let p = decimal-plain v in
+    let x = decimal-value v in
+    rw (d, p, x, le-leb v mostNumber h, eq-eqb (0 + length (decimal v)) (length (decimal v)) (omega arith))

@@ -13,7 +13,7 @@ use borrow.Author.Tests.{le-leb, lt-leb, leb-true, eq-eqb, ne-eqb}
 use Rattle.ground.proofs.Cases.{by-le, by-bool, both-true}
 use Rattle.numeral.specs.declared.Run.{Run}
 use Rattle.numeral.specs.declared.Numeral.the-variants.{Is, Bad}
-use Rattle.numeral.specs.Scan.{mostNumber, held, isDigit, digits, valueFrom, digitsAt, valueAt, pastDigits, plain, numeralAt, Runs}
+use Rattle.numeral.specs.Scan.{mostNumber, held, isDigit, digits, valueFrom, digitsAt, valueAt, pastDigits, plain, numeralAt, numeralIn, Runs}
 
 -- a digit lies from 48 to 57
 pub digit-is : (b : ℕ) → isDigit b ≡ true → (48 ≤ b) × (b ≤ 57)
@@ -150,3 +150,31 @@ module _ (s : List ℕ) (at end : ℕ) (r : Run) (run : Runs s at r) (p : plain 
         let v : r .value ≡ valueAt s at = let w = run .value-is in omega arith in
         let n = run .next-is in
         cc (whole s at end p small (there ∙ k))
+
+-- the cases of the number that is the whole text, from what a run says
+module _ (s : List ℕ) where
+  pub in-not-plain : plain (digitsAt s 0) ≡ false → numeralIn s ≡ Bad
+  unfolding numeralIn
+  in-not-plain p = simp p
+
+  module _ (r : Run) (run : Runs s 0 r) (p : plain (digitsAt s 0) ≡ true) where
+    pub in-large : mostNumber < r .value → numeralIn s ≡ Bad
+    unfolding numeralIn
+    in-large h = let q : mostNumber < valueAt s 0 = (let v = run .value-is in omega arith) in simp (p, lt-leb (valueAt s 0) mostNumber q)
+
+    module _ (h : r .value ≤ mostNumber) where
+      in-small : valueAt s 0 ≤ mostNumber
+      in-small = let v = run .value-is in omega arith
+
+      pub in-longer : (r .next ≡ length s → ⊥) → numeralIn s ≡ Bad
+      unfolding numeralIn
+      in-longer n =
+          let l : pastDigits s 0 ≡ length s → ⊥ = λ e. n (run .next-is ∙ e) in
+          simp (p, le-leb (valueAt s 0) mostNumber in-small, ne-eqb (pastDigits s 0) (length s) l)
+
+      pub in-whole : r .next ≡ length s → Is (r .value) (r .next) ≡ numeralIn s
+      unfolding numeralIn
+      in-whole n =
+          let l : pastDigits s 0 ≡ length s = sym (run .next-is) ∙ n in
+          let v : r .value ≡ valueAt s 0 = let w = run .value-is in omega arith in
+          simp (p, le-leb (valueAt s 0) mostNumber in-small, eq-eqb (pastDigits s 0) (length s) l, v, n)

@@ -57,6 +57,15 @@ numeralAt s at end =
     Bad)
     Bad
 
+-- the number whose text is the whole text, and its length
+unfoldable pub numeralIn : List ℕ → Numeral
+numeralIn s =
+    pick (plain (digitsAt s 0))
+    (pick (leb (valueAt s 0) mostNumber)
+    (pick (eqb (pastDigits s 0) (length s)) (Is (valueAt s 0) (length s)) Bad)
+    Bad)
+    Bad
+
 -- what a run of digits says: the place after it, and its value, held down
 pub record Runs (s : List ℕ) (at : ℕ) (r : Run) : Type 0 where
   pub next-is : r .next ≡ pastDigits s at

@@ -7,7 +7,7 @@ ghost use Prim.Native.Nat.{_+_, _*_, _-_, _≤_, _<_};
 ghost use lib.ListN.{length, getD};
 ghost use Rattle.field.specs.Stored.{Put};
 ghost use Rattle.numeral.specs.Decimal.{decimal, Sized};
-ghost use Rattle.numeral.specs.Scan.{mostNumber, held, isDigit, digitsAt, pastDigits, plain, numeralAt, Runs};
+ghost use Rattle.numeral.specs.Scan.{mostNumber, held, isDigit, digitsAt, pastDigits, plain, numeralAt, numeralIn, Runs};
 
 // The greatest number that a text may hold.
 pub const MOST_NUMBER: u64 = 4_294_967_295;
@@ -132,4 +132,24 @@ pub fn numeral_at(s: &[u8], at: usize, end: u8) -> Numeral
         return Numeral::Bad;
     }
     Numeral::Is(value as u32, next + 1)
+}
+
+// The number whose text is the whole text.
+pub fn numeral_in(s: &[u8]) -> Numeral
+    ensures { λ r. ⌜ r ≡ numeralIn (now (s .entry)) ⌝ }
+{
+    let run = run_at(s, 0);
+    let value = run.value;
+    let next = run.next;
+    let fit = is_plain(s, 0, next);
+    if !fit {
+        return Numeral::Bad;
+    }
+    if MOST_NUMBER < value {
+        return Numeral::Bad;
+    }
+    if next != s.len() {
+        return Numeral::Bad;
+    }
+    Numeral::Is(value as u32, next)
 }

@@ -116,6 +116,18 @@ module _ (rows : List Task) (n : ℕ) (old : List ℕ) where
               ∙ sym (ap (λ (h : Handed ℕ). after h (textTo rows n) old) k));
         }
 
+-- an accepted export has the text's length, and there is room for it
+pub export-fits : (rows : List Task) (n room k : ℕ) → exportHanded rows n room ≡ accepted k → (k ≡ length (textTo rows n)) × (length (textTo rows n) ≤ room)
+export-fits rows n room k e =
+    let size = length (textTo rows n) in
+    by-le n mostTasks
+    (λ h.
+    let c = few-of rows n room h size refl in
+    by-le size room
+    (λ l. (ap (λ (h : Handed ℕ). h .value) (sym e ∙ (c ∙ carry-done size room l)), l))
+    (λ l. not-refused k 0 (OutputTooShort size) (sym e ∙ (c ∙ carry-short size room l))))
+    (λ h. not-refused k 0 (TooManyTasks n) (sym e ∙ many-of rows n room h))
+
 -- ---- no second answer
 pub carried-one : (r q : Carried) → handedCarried r ≡ handedCarried q → r ≡ q
 carried-one (Count m) (Count n) e = ap Count (ap (λ (h : Handed ℕ). h .value) e)

@@ -52,3 +52,10 @@ lands text room = by (readText text) refl
         rw same
         (lands-all rows room (importHanded text room) (i ∙ carry-done (length rows) room h) h (export-of-import text rows e .few)))
         (λ h. lands-none (rowsOf (readText text)) room (importHanded text room) (OutputTooShort (length rows)) (i ∙ carry-short (length rows) room h))
+
+-- an accepted import hands over all that it read
+pub all-landed : (text : List ℕ) (room n : ℕ) → importHanded text room ≡ accepted n → landing text room ≡ rowsOf (readText text)
+all-landed text room n e =
+    let rows = rowsOf (readText text) in
+    let past : drop {A = Task} n [] ≡ [] = drop-of-length-le [] {i = n} (omega arith) in
+    ap (λ (h : Handed ℕ). after h rows []) e ∙ (ap (λ (l : List Task). rows ++ l) past ∙ append-nil rows)
