@@ -9,6 +9,7 @@ ghost use mathlib.Core.Path.{_≡_};
 ghost use Prim.Native.Nat.{_≤_};
 ghost use lib.ListN.{length};
 ghost use Rattle.kinds.specs.Limits.{mostTasks};
+ghost use Rattle.rows.specs.Gathered.{front};
 ghost use Rattle.office.specs.Carrying.{Imports, Exports};
 ghost use Rattle.office_rows.specs.Filled.{filled};
 
@@ -52,4 +53,13 @@ pub fn export(rows: &[Task], out: &mut [u8]) -> Carried
     ensures { λ r. ⌜ Exports (now (rows .entry)) (length (now (rows .entry))) (now (out .entry)) r (now (out .exit)) ⌝ }
 {
     office::export(rows::gather(rows), out)
+}
+
+// Lends the rows of a table that count to the export, so that a function that makes no slice of records can run the call.
+pub fn export_over(table: Table, out: &mut [u8]) -> Carried
+    ensures { λ r. ⌜ Exports (front table) (length (front table)) (now (out .entry)) r (now (out .exit)) ⌝ }
+{
+    let rows = table.rows;
+    let n = rows::capped(table.n);
+    export(&rows[..n], out)
 }

@@ -2,6 +2,7 @@
 // streams are those of the second program, which has its own answers to compare. A stream that is not of that form ends the run.
 // Contracts cite `specs/Room`.
 mod ask;
+mod office_calls;
 mod tell;
 
 use ask::ByteField;
@@ -528,6 +529,8 @@ fn answer(s: &[u8], out: &mut [u8; ROOM]) -> usize
         6 => answer_change_over(s, out),
         7 => answer_program(&s[KIND..], out),
         8 => answer_wide(s, out),
+        11 => office_calls::answer_import(s, out),
+        12 => office_calls::answer_export(s, out),
         _ => 0,
     }
 }

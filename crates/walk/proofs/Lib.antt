@@ -8,4 +8,5 @@ pub mod Padding
 pub mod Tabled
 pub mod GatherRows
 pub mod Lends
+pub mod LendM
 pub mod LendVmm

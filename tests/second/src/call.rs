@@ -50,6 +50,14 @@ pub struct Writing {
     pub results: Vec<Granted>,
 }
 
+/// The table that an export is asked to write, and the bytes of the lent output; of more than 32 tasks the stream has 32 rows.
+#[derive(Clone, Debug, PartialEq, Eq)]
+pub struct Exporting {
+    pub count: u16,
+    pub room: u16,
+    pub rows: Vec<Record>,
+}
+
 #[derive(Clone, Debug, PartialEq, Eq)]
 pub enum Call {
     Plain(Table, Rooms),
@@ -60,10 +68,12 @@ pub enum Call {
     ChangeOver { standing: Vec<u8>, proposed: Vec<u8> },
     Program(Vec<u8>),
     Wide(WideTable, Rooms),
+    Import { entries: u8, text: Vec<u8> },
+    Export(Exporting),
 }
 
 /// The names of the kinds of call, from kind 1.
-pub const KIND_NAMES: [&str; 8] = [
+pub const KIND_NAMES: [&str; 12] = [
     "plain finder",
     "quick finder",
     "margin",
@@ -72,6 +82,10 @@ pub const KIND_NAMES: [&str; 8] = [
     "change-over",
     "program",
     "several cores",
+    "kind 9",
+    "kind 10",
+    "import",
+    "export",
 ];
 
 /// The rows or results that the stream has of a count.
@@ -205,6 +219,8 @@ impl Call {
             Call::ChangeOver { .. } => 6,
             Call::Program(..) => 7,
             Call::Wide(..) => 8,
+            Call::Import { .. } => 11,
+            Call::Export(..) => 12,
         }
     }
 
@@ -229,6 +245,15 @@ impl Call {
             }
             Call::Program(input) => bytes.extend(input),
             Call::Wide(table, rooms) => put_wide(&mut bytes, table, *rooms),
+            Call::Import { entries, text } => {
+                bytes.push(*entries);
+                bytes.extend(text);
+            }
+            Call::Export(exporting) => {
+                bytes.extend(exporting.count.to_le_bytes());
+                bytes.extend(exporting.room.to_le_bytes());
+                put_rows(&mut bytes, &exporting.rows);
+            }
         }
         bytes
     }

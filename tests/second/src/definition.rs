@@ -6,6 +6,7 @@ pub mod change_over;
 pub mod finder;
 pub mod kinds;
 pub mod margin;
+pub mod office;
 pub mod policy;
 pub mod program;
 pub mod reader;

@@ -3,9 +3,11 @@
 
 pub mod bench;
 mod edges_of_finders;
+pub mod edges_of_office;
 mod edges_of_sheets;
 pub mod edges_of_wide;
 mod mix;
+mod office_texts;
 pub mod sheets;
 mod tables;
 mod wide_tables;
@@ -24,6 +26,7 @@ impl Calls {
         fixed.extend(edges_of_finders::calls());
         fixed.extend(edges_of_sheets::calls());
         fixed.extend(edges_of_wide::calls());
+        fixed.extend(edges_of_office::calls());
         Calls { seed, fixed }
     }
 

@@ -2,6 +2,7 @@
 
 mod bench;
 mod finders;
+mod office;
 mod sheets;
 mod stream;
 mod wide;

@@ -1,5 +1,6 @@
 //! One random call: its kind, its settings, its table or sheet, its outputs.
 
+use super::office_texts;
 use super::sheets::{damaged, overlong, random_results, random_sheet};
 use super::tables::{
     crossing, exact, exact_first_fit, general, huge, spoil, telling_step, tied, turning_step,
@@ -25,8 +26,10 @@ pub fn random_call(random: &mut Random, index: usize) -> Call {
         64..=70 => Call::Read(sheet(random)),
         71..=77 => Call::Write(writing(random)),
         78..=87 => Call::ChangeOver { standing: sheet(random), proposed: sheet(random) },
-        88..=94 => Call::Program(sheet(random)),
-        _ => several_cores(random),
+        88..=92 => Call::Program(sheet(random)),
+        93..=94 => several_cores(random),
+        95..=97 => office_texts::import(random),
+        _ => office_texts::export(random),
     }
 }
 

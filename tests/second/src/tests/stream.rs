@@ -66,6 +66,11 @@ fn the_rows_present_are_those_of_the_count_and_at_most_32() {
                 assert_eq!(table.rows.len(), usize::from(table.count).min(32));
                 assert!(rooms.periods <= 40 && rooms.processors <= 40);
             }
+            Call::Export(exporting) => {
+                assert_eq!(exporting.rows.len(), usize::from(exporting.count).min(32));
+                assert!(exporting.room <= 1_500);
+            }
+            Call::Import { entries, .. } => assert!(entries <= 40),
             Call::Read(_) | Call::ChangeOver { .. } => {}
         }
     }
@@ -94,14 +99,14 @@ fn number_of(call: &Call, answer: &[u8]) -> u8 {
 }
 
 #[test]
-fn the_first_3000_calls_reach_every_number_that_a_call_can_give() {
+fn the_first_3500_calls_reach_every_number_that_a_call_can_give() {
     let calls = Calls::of_seed(1);
-    let mut reached = vec![BTreeSet::new(); 9];
-    for index in 0..3_000 {
+    let mut reached = vec![BTreeSet::new(); 13];
+    for index in 0..3_500 {
         let call = calls.call(index);
         reached[usize::from(call.kind())].insert(number_of(&call, &answer(&call)));
     }
-    let expected: [&[u8]; 8] = [
+    let expected: [&[u8]; 12] = [
         &[0, 1, 2, 3, 5, 6, 7],
         &[0, 1, 2, 3, 4, 5, 6, 7],
         &[0, 1, 2, 3, 4, 6],
@@ -110,6 +115,10 @@ fn the_first_3000_calls_reach_every_number_that_a_call_can_give() {
         &[0, 1],
         &[0, 1, 2, 3, 6, 7, 8, 9, 10, 11],
         &[0, 2, 3, 5, 6, 7],
+        &[],
+        &[],
+        &[0, 3, 5, 16],
+        &[0, 3, 5],
     ];
     for (index, numbers) in expected.iter().enumerate() {
         assert_eq!(reached[index + 1], numbers.iter().copied().collect(), "kind {}", index + 1);
