@@ -7,6 +7,7 @@ use field::Field16;
 use kinds::Table;
 use kinds::Task;
 use office::Carried;
+use office::Imported;
 ghost use Prim.Native.Nat.{_≤_};
 ghost use Rattle.trial.specs.Room.{room};
 
@@ -39,15 +40,38 @@ fn put_carried(out: &mut [u8; ROOM], at: usize, carried: Carried) -> usize
     }
 }
 
-// A row of an output after an import by value: the table's, or what stood there.
+// A row that nothing was put into.
+fn row_before() -> Task {
+    Task::new(NUMBER_BEFORE, NUMBER_BEFORE, NUMBER_BEFORE, NUMBER_BEFORE)
+}
+
+// Whether an output or a table goes through the calls over lent rows: those of an even count up to 32. The others go by value.
+fn is_lent(n: usize) -> bool {
+    n <= Table::MOST_TASKS && n % 2 == 0
+}
+
+// Imports a text for an output of so many rows, over lent rows or by value.
+fn import(text: &[u8], entries: usize) -> Imported {
+    if is_lent(entries) {
+        let unused = row_before();
+        let before = Table {
+            rows: [unused; Table::MOST_TASKS],
+            n: entries,
+        };
+        return office_rows::import_over(text, before);
+    }
+    office::import(text, entries)
+}
+
+// A row of an output after an import: the table's, or what stood there.
 fn row_after(table: Table, i: usize) -> Task {
     if i < table.n && i < Table::MOST_TASKS {
         return table.rows[i];
     }
-    Task::new(NUMBER_BEFORE, NUMBER_BEFORE, NUMBER_BEFORE, NUMBER_BEFORE)
+    row_before()
 }
 
-// Puts the whole output of so many rows after an import by value.
+// Puts the whole output of so many rows after an import.
 fn put_output(out: &mut [u8; ROOM], from: usize, table: Table, entries: usize) -> usize
     requires { ⌜ from ≤ room ⌝ }
     ensures { λ r. ⌜ r ≤ room ⌝ }
@@ -61,11 +85,11 @@ fn put_output(out: &mut [u8; ROOM], from: usize, table: Table, entries: usize) -
     at
 }
 
-// Imports a text for an output of so many rows, and puts the answer and the whole output.
+// Imports a text, and puts the answer and the whole output.
 fn import_into(text: &[u8], entries: usize, out: &mut [u8; ROOM]) -> usize
     ensures { λ r. ⌜ r ≤ room ⌝ }
 {
-    let imported = office::import(text, entries);
+    let imported = import(text, entries);
     let answer = imported.answer;
     let table = imported.table;
     let at_output = put_carried(out, PAST_LENGTH, answer);
@@ -85,9 +109,9 @@ pub fn answer_import(s: &[u8], out: &mut [u8; ROOM]) -> usize
     import_into(&s[at..], entries as usize, out)
 }
 
-// Exports a table: an even count up to 32 goes over lent rows, the others by value.
+// Exports a table, over lent rows or by value.
 fn export(table: Table, buffer: &mut [u8]) -> Carried {
-    if table.n <= Table::MOST_TASKS && table.n % 2 == 0 {
+    if is_lent(table.n) {
         return office_rows::export_over(table, buffer);
     }
     office::export(table, buffer)

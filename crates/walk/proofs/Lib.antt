@@ -8,5 +8,6 @@ pub mod Padding
 pub mod Tabled
 pub mod GatherRows
 pub mod Lends
+pub mod LendsMut
 pub mod LendM
 pub mod LendVmm
