@@ -1,6 +1,19 @@
-/* Fills in bench case K from C: seven tasks on three processors by first fit. */
+/* Fills in bench case K from C, seven tasks on three processors by first fit, and runs a release clock with its periods. */
 #include <stdio.h>
 #include "eelbasket.h"
+
+/* Prints the tasks that are due at a tick, and hands the clock back. */
+static struct eelbasket_clock release(struct eelbasket_clock clock, uint32_t tick) {
+    printf("tick %u releases", tick);
+    for (;;) {
+        struct eelbasket_called called = eelbasket_clock_call(clock, tick);
+        clock = called.clock;
+        if (called.due == 0) break;
+        printf(" %zu", called.task);
+    }
+    printf("\n");
+    return clock;
+}
 
 int main(void) {
     const struct eelbasket_task tasks[] = {
@@ -21,5 +34,13 @@ int main(void) {
     printf("the quick finder is refused by %u: it does not serve policy 4\n", told.number);
     struct eelbasket_margin margin = eelbasket_margin(tasks, 7, (struct eelbasket_station){.policy = 1, .m = 3}, 0);
     printf("pooled, the same tasks have a margin of %lld parts at step 0\n", (long long)margin.margin);
+    struct eelbasket_started started = eelbasket_clock_start(periods, 7, 4294967290u);
+    struct eelbasket_clock clock = release(started.clock, 4294967290u);
+    clock = release(clock, 993);  /* 999 ticks later, over the turn */
+    clock = release(clock, 994);
+    clock = release(clock, 4280);
+    periods[3] = 0;
+    started = eelbasket_clock_start(periods, 7, 0);
+    printf("a period of 0 is refused by %u at %zu\n", started.number, started.place);
     return 0;
 }

@@ -21,7 +21,7 @@ use Rattle.admission.specs.declared.Admission.the-variants.{Admitted, Re
 use Rattle.admission.specs.Admission.{check, gate, gateOf, recordsGood, andThen, admission}
 
 -- an admission was refused nowhere
-unchecked : (test : Bool) (r : Refusal) (rest : Admission) → check test r rest ≡ Admitted → (test ≡ false) × (rest ≡ Admitted)
+pub unchecked : (test : Bool) (r : Refusal) (rest : Admission) → check test r rest ≡ Admitted → (test ≡ false) × (rest ≡ Admitted)
 unchecked true r rest e = absurd (let z : _≡_ {A = ℕ} 0 1 = cc in omega arith)
 unchecked false r rest e = (refl, e)
 
@@ -56,7 +56,7 @@ gate-passed unknown m n unserved room e =
       roomy = ltb-false _ _ (e₅ .0);
     }
 
-then-admitted : (a rest : Admission) → andThen a rest ≡ Admitted → (a ≡ Admitted) × (rest ≡ Admitted)
+pub then-admitted : (a rest : Admission) → andThen a rest ≡ Admitted → (a ≡ Admitted) × (rest ≡ Admitted)
 then-admitted Admitted rest e = (refl, e)
 then-admitted (Refused r) rest e = absurd (let z : _≡_ {A = ℕ} 0 1 = cc in omega arith)
 

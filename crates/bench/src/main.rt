@@ -6,110 +6,51 @@ use kinds::Policy;
 use kinds::Settings;
 use kinds::Table;
 use kinds::Task;
-use libc::STDOUT_FILENO;
-
-fn words(text: &[u8]) {
-    io::write_all(STDOUT_FILENO, text);
-}
-
-fn number(x: u32) {
-    io::write_all(STDOUT_FILENO, b" ");
-    io::print_decimal(STDOUT_FILENO, x as u64);
-}
-
-fn short_number(x: u16) {
-    number(x as u32);
-}
-
-// A step, or the number and the place of a refusal.
-fn print_answer(answer: Answer) {
-    match answer {
-        Answer::Accepted(step) => {
-            words(b" step");
-            number(step);
-        }
-        Answer::Refused(refusal) => {
-            words(b" refused");
-            number(refusal.number() as u32);
-            words(b" at ");
-            io::print_decimal(STDOUT_FILENO, refusal.place() as u64);
-        }
-    }
-}
-
-// The periods up to the entry after the last task.
-fn print_periods(n: usize, periods: &[u32; 33]) {
-    words(b" periods");
-    let mut i: usize = 0;
-    while i < 33 {
-        if n < i {
-            return;
-        }
-        number(periods[i]);
-        i += 1;
-    }
-}
-
-// The processors up to the entry after the last task.
-fn print_processors(n: usize, processors: &[u16; 33]) {
-    words(b" processors");
-    let mut i: usize = 0;
-    while i < 33 {
-        if n < i {
-            return;
-        }
-        short_number(processors[i]);
-        i += 1;
-    }
-}
+use show::LENT;
 
 fn run_plain(table: Table, settings: Settings) {
-    let mut periods = [7u32; 33];
-    let mut processors = [9u16; 33];
-    words(b"plain");
-    print_answer(plain::find(table, settings, &mut periods, &mut processors));
-    print_periods(table.n, &periods);
-    print_processors(table.n, &processors);
-    words(b"\n");
+    let mut periods = [7u32; LENT];
+    let mut processors = [9u16; LENT];
+    show::words(b"plain");
+    show::answer(plain::find(table, settings, &mut periods, &mut processors));
+    show::outputs(b" processors", table.n, &periods, &processors);
+    show::words(b"\n");
 }
 
 fn run_quick(table: Table, settings: Settings) {
-    let mut periods = [7u32; 33];
-    let mut processors = [9u16; 33];
-    words(b"quick");
+    let mut periods = [7u32; LENT];
+    let mut processors = [9u16; LENT];
+    show::words(b"quick");
     let looked = quick::find(table, settings, &mut periods, &mut processors);
     let answer = looked.answer;
-    print_answer(answer);
-    words(b" looks");
-    number(looked.looks);
-    print_periods(table.n, &periods);
-    print_processors(table.n, &processors);
-    words(b"\n");
+    show::answer(answer);
+    show::words(b" looks");
+    show::number(looked.looks);
+    show::outputs(b" processors", table.n, &periods, &processors);
+    show::words(b"\n");
 }
 
 // The same calls over the table's rows, lent as a slice of records.
 fn run_rows(table: Table, settings: Settings) {
-    let mut periods = [7u32; 33];
-    let mut processors = [9u16; 33];
-    words(b"rows plain");
-    print_answer(rows::find_plain_over(table, settings, &mut periods, &mut processors));
-    print_periods(table.n, &periods);
-    print_processors(table.n, &processors);
-    words(b"\nrows quick");
-    periods = [7u32; 33];
-    processors = [9u16; 33];
+    let mut periods = [7u32; LENT];
+    let mut processors = [9u16; LENT];
+    show::words(b"rows plain");
+    show::answer(rows::find_plain_over(table, settings, &mut periods, &mut processors));
+    show::outputs(b" processors", table.n, &periods, &processors);
+    show::words(b"\nrows quick");
+    periods = [7u32; LENT];
+    processors = [9u16; LENT];
     let looked = rows::find_quick_over(table, settings, &mut periods, &mut processors);
     let answer = looked.answer;
-    print_answer(answer);
-    words(b" looks");
-    number(looked.looks);
-    print_periods(table.n, &periods);
-    print_processors(table.n, &processors);
-    words(b"\n");
+    show::answer(answer);
+    show::words(b" looks");
+    show::number(looked.looks);
+    show::outputs(b" processors", table.n, &periods, &processors);
+    show::words(b"\n");
 }
 
 fn run(name: &[u8], policy: Policy, m: u16, table: Table) {
-    words(name);
+    show::words(name);
     let settings = Settings { policy, m };
     run_plain(table, settings);
     run_quick(table, settings);
@@ -118,23 +59,23 @@ fn run(name: &[u8], policy: Policy, m: u16, table: Table) {
 
 // Whether the margin at a step is negative, zero or positive.
 fn run_margin(policy: Policy, m: u16, table: Table, step: u32) {
-    words(b"margin");
+    show::words(b"margin");
     let settings = Settings { policy, m };
     match margin::margin_at(table, settings, step) {
         Margin::Is(x) => {
             if x < 0 {
-                words(b" below 0");
+                show::words(b" below 0");
             } else if x == 0 {
-                words(b" 0");
+                show::words(b" 0");
             } else {
-                words(b" above 0");
+                show::words(b" above 0");
             }
         }
         Margin::Refused(refusal) => {
-            print_answer(Answer::Refused(refusal));
+            show::answer(Answer::Refused(refusal));
         }
     }
-    words(b"\n");
+    show::words(b"\n");
 }
 
 // A table of n times the same task.

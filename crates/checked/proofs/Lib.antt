@@ -2,3 +2,6 @@ pub mod Chain
 pub mod Verdicts
 pub mod Compared
 pub mod Readings
+pub mod Exactly
+pub mod Filled
+pub mod Lines

@@ -1,4 +1,6 @@
-// Ask 14: whether the results of a filled sheet are those that we would give. Contracts cite `specs/Checked`.
+// Ask 14: whether the results of a filled sheet are those that we would give, as a verdict and as the program's line. Contracts cite
+// `specs/Checked` and `specs/Told`.
+use fill::LONGEST_SHEET;
 use kinds::Answer;
 use kinds::Granted;
 use kinds::Refusal;
@@ -10,7 +12,9 @@ ghost use mathlib.Core.Path.{_≡_};
 ghost use Prim.Native.Nat.{_≤_};
 ghost use Rattle.ground.specs.First.{firstBelow};
 ghost use Rattle.kinds.specs.Limits.{mostTasks};
+ghost use Rattle.fill.specs.Fill.{Fronts};
 ghost use Rattle.checked.specs.Checked.{differ, unlike, checkedSheet, checked, handedVerdict};
+ghost use Rattle.checked.specs.Told.{told};
 
 // Whether two results differ, in the period or in the processor.
 fn differ(stored: Granted, planned: Granted) -> bool
@@ -80,5 +84,16 @@ pub fn check(bytes: &[u8]) -> Verdict
     match verdict {
         Verdict::Refused(refusal) => Verdict::Refused(refusal),
         Verdict::Accepted => check_sheet(reading.sheet),
+    }
+}
+
+// Writes what the program says of what it read, `accepted` or `refused N at P` and a newline; returns how many bytes.
+pub fn tell(input: &[u8], out: &mut [u8; LONGEST_SHEET]) -> usize
+    ensures { λ r. ⌜ Fronts (told (now (input .entry))) (now (out .entry)) r (now (out .exit)) ⌝ }
+{
+    let verdict = check(input);
+    match verdict {
+        Verdict::Refused(refusal) => fill::put_refusal(out, refusal),
+        Verdict::Accepted => fill::put_bytes(out, 0, b"accepted\n"),
     }
 }

@@ -1,5 +1,7 @@
 // The library for C and Rust. An enum does not cross, so a policy comes as its number, and an answer goes as document 01's numbers: 0 for
 // an acceptance. A slice is a pointer and then a length. Contracts cite `specs/Told`, which reads the numbers as the calls' own promises.
+mod clocked;
+
 use fill::LONGEST_SHEET;
 use kinds::Answer;
 use kinds::Margin;

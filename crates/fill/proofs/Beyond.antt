@@ -21,13 +21,16 @@ use Rattle.sheet.proofs.After.{front-refused}
 use Rattle.fill.specs.Fill.{longestSheet, refusalLine, orLine, filledSheet, filled}
 use Rattle.fill.proofs.Readings.{filled-refused}
 
--- the answer for any input is the answer for its first 715 bytes
+-- any input reads as its first 715 bytes do
+pub front-reads : (s : List ℕ) → readSheet (take (longestSheet + 1) s) ≡ readSheet s
+front-reads s =
+    by-le (length s) (longestSheet + 1)
+    (λ h. ap readSheet (take-all (longestSheet + 1) s h))
+    (λ h. front-reading s (longestSheet + 1) (omega arith) (omega arith))
+
 pub front-fills : (s : List ℕ) → filled (take (longestSheet + 1) s) ≡ filled s
 unfolding filled
-front-fills s =
-    by-le (length s) (longestSheet + 1)
-    (λ h. ap filled (take-all (longestSheet + 1) s h))
-    (λ h. ap (λ (r : Handed Sheet). orLine r filledSheet) (front-reading s (longestSheet + 1) (omega arith) (omega arith)))
+front-fills s = ap (λ (r : Handed Sheet). orLine r filledSheet) (front-reads s)
 
 module _ (s : List ℕ) (long : longestSheet < length s) where
   -- "refused as 11 at 714 if the first 714 read as a sheet of that length"

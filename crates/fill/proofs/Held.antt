@@ -42,7 +42,7 @@ unfolding numberAt
 number-held s bytes zero place = omega arith
 number-held s bytes (suc size) place = omega (arith, bytes place, number-held s bytes size (place + 1))
 
-list-in : (f : ℕ → ℕ) (n i : ℕ) → i < n → getD (listTo f n) i 0 ≡ f i
+pub list-in : (f : ℕ → ℕ) (n i : ℕ) → i < n → getD (listTo f n) i 0 ≡ f i
 list-in f n i l = rw (append-nil (listTo f n)) at (list-at f n i [] l)
 
 -- what holds of each row that is used, and of an unused place, holds at each number

@@ -21,7 +21,7 @@ ghost use Rattle.fill.specs.Fill.{longestSheet, refusalLine, filledSheet
 pub const LONGEST_SHEET: usize = 714;
 
 // Copies some bytes to a place of a buffer, and nothing else; returns the place after them.
-fn put_bytes(out: &mut [u8], at: usize, bytes: &[u8]) -> usize
+pub fn put_bytes(out: &mut [u8], at: usize, bytes: &[u8]) -> usize
     requires { ⌜ at + length (now bytes) ≤ length (now out) ⌝ }
     ensures { λ r. ⌜ Put (now (out .entry)) at (length (now (bytes .entry))) (now (bytes .entry)) r (now (out .exit)) ⌝ }
 {

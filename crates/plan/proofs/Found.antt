@@ -28,7 +28,7 @@ use Rattle.admission.proofs.Chain.{Ready, admitted}
 use Rattle.plan.specs.Plan.{decided, found, outcome, Meets, Leaves, Grantable, MayGrant}
 
 -- an acceptance was admitted, and its step is the least that passes
-decided-accepted : (a : adm.Admission) (step : Step) (k : ℕ) → accepted k ≡ decided a step → (a ≡ adm.the-variants.Admitted) × (step ≡ At k)
+pub decided-accepted : (a : adm.Admission) (step : Step) (k : ℕ) → accepted k ≡ decided a step → (a ≡ adm.the-variants.Admitted) × (step ≡ At k)
 decided-accepted (adm.the-variants.Refused r) step k e = not-refused k 0 r e
 decided-accepted adm.the-variants.Admitted (At j) k e = (refl, ap At (sym (ap (λ (h : Handed ℕ). h .value) e)))
 decided-accepted adm.the-variants.Admitted Nothing k e = not-refused k 0 NoStepPasses e

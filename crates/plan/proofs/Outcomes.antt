@@ -47,6 +47,10 @@ decided-apart : (a : adm.Admission) (x y : Step) → (a ≡ adm.the-variants.Adm
 decided-apart adm.the-variants.Admitted x y h = absurd (h refl)
 decided-apart (adm.the-variants.Refused r) x y h = refl
 
+-- what would have been written is of no account where the call is refused
+pub keeps : (h : Handed ℕ) (f g : List ℕ) (n : ℕ) (old : List ℕ) → (h .number ≡ 0 → ⊥) → written h f n old ≡ written h g n old
+keeps h f g n old d = rw (ne-eqb (h .number) 0 d)
+
 module _ (serves : Bool) (s : Settings) (xs ys : List Task) (n : ℕ) where
   -- too many tasks: no record is looked at
   not-admitted : (rows : List Task) (room : ℕ) → mostTasks < n → admission serves s rows n room ≡ adm.the-variants.Admitted → ⊥
@@ -62,9 +66,6 @@ module _ (serves : Bool) (s : Settings) (xs ys : List Task) (n : ℕ) where
   unfolding found
   refused-many room h = decided-refused (admission serves s ys n room) _ (not-admitted ys room h)
 
-  keeps : (h : Handed ℕ) (f g : List ℕ) (old : List ℕ) → (h .number ≡ 0 → ⊥) → written h f n old ≡ written h g n old
-  keeps h f g old d = rw (ne-eqb (h .number) 0 d)
-
   outcome-many : (periods processors : List ℕ) → mostTasks < n → outcome serves s xs n periods processors ≡ outcome serves s ys n periods processors
   unfolding outcome
   outcome-many periods processors h =
@@ -73,8 +74,8 @@ module _ (serves : Bool) (s : Settings) (xs ys : List Task) (n : ℕ) where
       let d = refused-many room h in
       rw (
         e,
-        keeps (found serves s ys n room) (periodsAt xs n (found serves s ys n room .value)) (periodsAt ys n (found serves s ys n room .value)) periods d,
-        keeps (found serves s ys n room) (processorsAt (meant (s .policy)) (s .m) xs n (found serves s ys n room .value)) (processorsAt (meant (s .policy)) (s .m) ys n (found serves s ys n room .value)) processors d,
+        keeps (found serves s ys n room) (periodsAt xs n (found serves s ys n room .value)) (periodsAt ys n (found serves s ys n room .value)) n periods d,
+        keeps (found serves s ys n room) (processorsAt (meant (s .policy)) (s .m) xs n (found serves s ys n room .value)) (processorsAt (meant (s .policy)) (s .m) ys n (found serves s ys n room .value)) n processors d,
       )
 
   module _ (same : (i : ℕ) → i < n → at xs i ≡ at ys i) where

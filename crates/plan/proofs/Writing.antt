@@ -21,7 +21,7 @@ use Rattle.share.specs.Table.{periodsAt}
 use Rattle.plan.specs.Plan.{processorsAt, written, Leaves}
 
 -- a refused call writes nothing
-written-kept : (a : Answer) (front : List ℕ) (n : ℕ) (old : List ℕ) → isAccepted a ≡ false → written (handed a) front n old ≡ old
+pub written-kept : (a : Answer) (front : List ℕ) (n : ℕ) (old : List ℕ) → isAccepted a ≡ false → written (handed a) front n old ≡ old
 written-kept (Accepted k) front n old e = true-false refl e
 written-kept (Refused r) front n old e = rw (ne-eqb (numberOf r) 0 (λ z. omega (arith, refusal-numbered r)))
 

@@ -31,8 +31,7 @@ use Rattle.policy.proofs.Tests.{passes-weighed, passes-same}
 use Rattle.admission.specs.declared.Admission as adm
 use Rattle.admission.specs.Admission.{admission}
 use Rattle.admission.proofs.Chain.{Ready, admitted, admission-same, admission-many}
-use Rattle.stretch.specs.declared.Springs.{Springs}
-use Rattle.stretch.specs.Spring.{springsOf, saturations, weighed, weighedAt, sharesOn, Sprung}
+use Rattle.stretch.specs.Spring.{Springs, springsOf, saturations, weighed, weighedAt, sharesOn, Sprung}
 use Rattle.stretch.specs.Division.{Fair}
 use Rattle.stretch.proofs.Columns.{shares-are, saturations-are}
 use Rattle.quick.specs.declared.Ended.{Ended}

@@ -1,34 +1,36 @@
 -- Columns that hold the springs of a table: the walk that fills them, and what they then say of the table's shares and saturation steps.
 -- Assumes nothing.
 use Prim.Native.Nat.{ℕ, _+_, _≤_, _<_}
+use mathlib.Core.Bool.{Bool, false, not}
 use mathlib.Core.List.{List}
 use mathlib.Core.Path.{_≡_, refl, sym, ap, _∙_}
 use native.Mathlib.Omega.{arith}
 use lib.Dec.{leb}
-use lib.ListN.{length, set, replicate, length-set}
+use lib.ListN.{length, set, length-set}
 use lib.Seq.{getD-set-same, getD-set-other}
-use Rattle.ground.proofs.Cases.{by-eq}
+use Rattle.ground.proofs.Cases.{by-eq, by-bool, true-false}
 use Rattle.kinds.specs.declared.Task.{Task}
 use Rattle.kinds.specs.Limits.{scale, mostTasks}
-use Rattle.kinds.specs.Task.{at, Good}
+use Rattle.kinds.specs.Task.{at, Good, isGood}
+use Rattle.kinds.proofs.Records.{good-is}
 use Rattle.policy.specs.declared.Weights.{Weights}
 use Rattle.policy.specs.Sides.{left, right, TotalIs}
 use Rattle.share.specs.Share.{shareAt, saturationAt}
 use Rattle.share.proofs.Tasks.{largest-most, least-largest}
 use Rattle.stretch.specs.declared.Spring as declared
-use Rattle.stretch.specs.declared.Springs.{Springs}
-use Rattle.stretch.specs.Spring.{Spring, springOf, shareOn, saturationOn, weighed, springsOf, Within, AllWithin, Saturates, SpringIs, Sprung}
+use Rattle.stretch.specs.Spring.{Spring, Springs, springOf, shareOn, saturationOn, weighed, springsOf, Within, AllWithin, Saturates, SpringIs, Roomy, Sprung}
 
-abbrev pub unsprung : Springs
-unsprung = record { largest = replicate mostTasks 0; least = replicate mostTasks 0; elasticity = replicate mostTasks 0; saturation = replicate mostTasks 0 }
-
-pub sprung-none : (rows : List Task) → Sprung rows 0 unsprung
-sprung-none rows =
+pub sprung-none : (rows : List Task) (s : Springs) → Roomy s → Sprung rows 0 s
+sprung-none rows s w =
     record {
-      roomy = record { largest = refl; least = refl; elasticity = refl; saturation = refl };
+      roomy = w;
       springs = λ i l. absurd (omega arith);
       saturates = λ i l. absurd (omega arith);
     }
+
+-- a record whose test was not failed is good
+pub found-good : (t : Task) (b : Bool) → b ≡ isGood t → not b ≡ false → Good t
+found-good t b e f = good-is t (by-bool (isGood t) (λ g. g) (λ g. true-false (rw (e, g)) f))
 
 -- the columns with one spring more
 abbrev with-spring : Springs → ℕ → declared.Spring → Springs

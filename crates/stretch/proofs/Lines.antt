@@ -8,12 +8,13 @@ use native.Mathlib.Omega.{arith}
 use borrow.Author.Tests.{le-leb, lt-leb, lt-ltb, le-ltb}
 use Rattle.ground.specs.Rounding.{ceilDiv}
 use Rattle.ground.proofs.Cases.{by-le}
-use Rattle.ground.proofs.Rounding.{ceil-enough, ceil-least}
+use Rattle.ground.proofs.Rounding.{ceil-enough, ceil-least, ceil-over}
 use Rattle.policy.specs.declared.Weights.{Weights}
 use Rattle.policy.specs.Sides.{left, right}
 use Rattle.rule.proofs.Shares.{share-saturated, share-above}
+use Rattle.stretch.specs.declared.Line.{Line}
 use Rattle.stretch.specs.Spring.{Spring, shareOn, saturationOn}
-use Rattle.stretch.specs.Division.{Fair, slopeOf, slope, need, harder}
+use Rattle.stretch.specs.Division.{Fair, slopeOf, slope, need, harder, LineIs, NeedIs}
 
 -- a spring with its saturation step above k is still falling at k
 falling : (s : Spring) (k : ℕ) → k < saturationOn s → (0 < s .elasticity) × (s .least + k * s .elasticity < s .largest)
@@ -113,6 +114,23 @@ harder-all w x y h = rw (le-leb (w .c) (w .b) h)
 pub harder-any : (w : Weights) (x y : ℕ) → w .b < w .c → harder w x y ≡ min x y
 unfolding harder
 harder-any w x y h = rw (lt-leb (w .c) (w .b) h)
+
+-- the harder of the steps x and of a quotient rounded up, which need not be divided where a product says that it is no more
+module _ (w : Weights) (x over by : ℕ) (few : x ≤ 1000000000) where
+  pub harder-kept : w .c ≤ w .b → 1 ≤ by → over ≤ x * by → NeedIs (harder w x (ceilDiv over by)) x
+  harder-kept h some e = record { is = omega (arith, harder-all w x (ceilDiv over by) h, ceil-least over by x some e); most = few }
+
+  pub harder-divided : (r : ℕ) → w .c ≤ w .b → 1 ≤ by → x * by < over → NeedIs (ceilDiv over by) r → NeedIs (harder w x (ceilDiv over by)) r
+  harder-divided r h some e n =
+      record { is = omega (arith, n .is, harder-all w x (ceilDiv over by) h, ceil-over over by x some e); most = n .most }
+
+  pub harder-smaller : (q r : ℕ) → w .b < w .c → NeedIs (ceilDiv over by) q → r ≡ min x q → NeedIs (harder w x (ceilDiv over by)) r
+  harder-smaller q r h n e = record { is = omega (arith, e, n .is, harder-any w x (ceilDiv over by) h); most = omega arith }
+
+-- the steps that a line needs
+pub need-line : (w : Weights) (sum fall x d : ℕ) (r : Line) → LineIs w sum fall x d r → ceilDiv (r .over) (r .by) ≡ need w sum fall x d
+unfolding need
+need-line w sum fall x d r l = rw (l .over-is, l .by-is)
 
 -- the max over one task more, either way
 pub both-ways : (w : Weights) (sum N x j a b : ℕ) → (N ≤ j) ↔ (left w sum a ≤ right w a) → (x ≤ j) ↔ (left w sum b ≤ right w b)

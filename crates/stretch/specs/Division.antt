@@ -11,6 +11,7 @@ use Rattle.ground.specs.Rounding.{ceilDiv}
 use Rattle.kinds.specs.Limits.{greatestElasticity, mostTasks}
 use Rattle.policy.specs.declared.Weights.{Weights}
 use Rattle.policy.specs.Sides.{left, right}
+use Rattle.stretch.specs.declared.Line.{Line}
 use Rattle.stretch.specs.Spring.{Spring, shareOn, saturationOn, sharesOn, saturations, AllWithin, Saturates}
 use Rattle.stretch.specs.Next.{Next}
 
@@ -56,6 +57,22 @@ divided w springs n p q = min q (p + needTo w springs p (sumTo (sharesOn springs
 pub record FallIs (slopes : ℕ → ℕ) (n r : ℕ) : Type 0 where
   pub is : r ≡ sumTo slopes n
   pub most : r ≤ greatestElasticity * n
+
+-- a line whose division is safe
+pub record Falling (r : Line) : Type 0 where
+  pub over-most : r .over ≤ 1000000000
+  pub by-some : 1 ≤ r .by
+  pub by-most : r .by ≤ 1000000000
+
+-- the line of the task with the share x and the slope d
+pub record LineIs (w : Weights) (sum fall x d : ℕ) (r : Line) : Type 0 where
+  pub over-is : r .over ≡ left w sum x - right w x
+  pub by-is : r .by ≡ left w fall d - w .c * d
+  pub falling : Falling r
+
+pub record NeedIs (steps r : ℕ) : Type 0 where
+  pub is : r ≡ steps
+  pub most : r ≤ 1000000000
 
 pub record Falls (springs : ℕ → Spring) (saturation : List ℕ) (n p sum fall : ℕ) : Type 0 where
   pub few : n ≤ mostTasks

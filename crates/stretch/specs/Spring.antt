@@ -1,6 +1,6 @@
 -- The spring of a task: all that its shares depend on. The springs of a table stand in columns.
 -- Assumes nothing.
-use Prim.Native.Nat.{ℕ, _≤_, _<_}
+use Prim.Native.Nat.{ℕ, _*_, _≤_, _<_}
 use mathlib.Core.Bool.{Bool}
 use mathlib.Core.List.{List}
 use mathlib.Core.Path.{_≡_}
@@ -14,8 +14,8 @@ use Rattle.policy.specs.declared.Weights.{Weights}
 use Rattle.policy.specs.Sides.{left, right}
 use Rattle.rule.specs.Rule.{shareOf, saturationOf}
 use Rattle.share.specs.Share.{largestOf, leastOf, saturationAt}
+use Rattle.share.specs.Table.{firstBad}
 use Rattle.stretch.specs.declared.Spring as declared
-use Rattle.stretch.specs.declared.Springs.{Springs}
 
 pub record Spring : Type 0 where
   pub largest : ℕ
@@ -51,6 +51,17 @@ abbrev pub springIn : List ℕ → List ℕ → List ℕ → ℕ → Spring
 springIn largest least elasticity i =
     record { largest = getD largest i 0; least = getD least i 0; elasticity = getD elasticity i 0 }
 
+-- the springs of a table, as columns
+pub record Springs : Type 0 where
+  pub largest : List ℕ
+  pub least : List ℕ
+  pub elasticity : List ℕ
+  pub saturation : List ℕ
+
+abbrev pub columns : List ℕ → List ℕ → List ℕ → List ℕ → Springs
+columns largest least elasticity saturation =
+    record { largest = largest; least = least; elasticity = elasticity; saturation = saturation }
+
 abbrev pub springsOf : Springs → ℕ → Spring
 springsOf s = springIn (s .largest) (s .least) (s .elasticity)
 
@@ -62,6 +73,11 @@ pub record Within (s : Spring) : Type 0 where
 
 abbrev pub AllWithin : (ℕ → Spring) → ℕ → Type 0
 AllWithin springs n = (i : ℕ) → i < n → Within (springs i)
+
+-- the sum of the shares at step k
+pub record SumIs (springs : ℕ → Spring) (n k sum : ℕ) : Type 0 where
+  pub is : sum ≡ sumTo (sharesOn springs k) n
+  pub most : sum ≤ scale * n
 
 -- a column of saturation steps goes with three columns
 abbrev pub Saturates : (ℕ → Spring) → List ℕ → ℕ → Type 0
@@ -86,3 +102,8 @@ pub record Sprung (rows : List Task) (n : ℕ) (s : Springs) : Type 0 where
   pub roomy : Roomy s
   pub springs : (i : ℕ) → i < n → springsOf s i ≡ springOf (at rows i)
   pub saturates : (i : ℕ) → i < n → getD (s .saturation) i 0 ≡ saturationAt (at rows i)
+
+-- those before the first record that is not good, which is number r; it is n where all are
+pub record SprungUntil (rows : List Task) (n r : ℕ) (s : Springs) : Type 0 where
+  pub first : r ≡ firstBad rows n
+  pub sprung : Sprung rows r s

@@ -6,15 +6,17 @@ use policy::Total;
 use policy::Weights;
 ghost use mathlib.Core.Path.{_≡_};
 ghost use Prim.Native.Nat.{ℕ, _≤_, _<_};
+ghost use lib.Dec.{leb};
 ghost use lib.ListN.{getD};
+ghost use Rattle.ground.specs.Rounding.{ceilDiv};
 ghost use Rattle.kinds.specs.Limits.{scale, greatestElasticity, mostTasks};
 ghost use Rattle.kinds.specs.Task.{Good};
-ghost use Rattle.policy.specs.Sides.{Light, TotalIs};
+ghost use Rattle.policy.specs.Sides.{Light, left, right, TotalIs};
 ghost use Rattle.rule.specs.Rule.{shareOf};
-ghost use Rattle.share.specs.Table.{GoodTable};
-ghost use Rattle.stretch.specs.Spring.{SpringIs, springIn, sharesOn, weighedAt, AllWithin, Sprung};
+ghost use Rattle.share.specs.Share.{largestOf, leastOf, PeriodIs};
+ghost use Rattle.stretch.specs.Spring.{SpringIs, springIn, sharesOn, AllWithin, SumIs, columns, Roomy, SprungUntil};
 ghost use Rattle.stretch.specs.Next.{nearer, nextTo};
-ghost use Rattle.stretch.specs.Division.{Fair, slopeOf, slopesIn, need, harder, needTo, divided, FallIs, Falls, Stretches};
+ghost use Rattle.stretch.specs.Division.{Fair, slopeOf, slopesIn, harder, needTo, divided, FallIs, Falls, Falling, LineIs, NeedIs, Stretches};
 
 // The spring of a task, with its saturation step.
 pub struct Spring {
@@ -24,12 +26,10 @@ pub struct Spring {
     pub saturation: u32,
 }
 
-// The springs of a table, as columns.
-pub struct Springs {
-    pub largest: [u32; Table::MOST_TASKS],
-    pub least: [u32; Table::MOST_TASKS],
-    pub elasticity: [u32; Table::MOST_TASKS],
-    pub saturation: [u32; Table::MOST_TASKS],
+// How far the left side of a test is above the right, and by how much that falls at each step.
+pub struct Line {
+    pub over: u64,
+    pub by: u64,
 }
 
 // The spring of a task.
@@ -47,26 +47,40 @@ pub fn spring_of(task: Task) -> Spring
     }
 }
 
-// The springs of a table, worked out once for a call.
-pub fn springs_of(table: Table) -> Springs
-    requires { ⌜ GoodTable table ⌝ }
-    ensures { λ r. ⌜ Sprung (table .rows) (table .n) r ⌝ }
+// The springs of a table, worked out once for a call into four lent columns, up to the first record that is not good. Returns the
+// number of that record, or how many there are.
+pub fn springs_of(
+    table: Table,
+    largest: &mut [u32; Table::MOST_TASKS],
+    least: &mut [u32; Table::MOST_TASKS],
+    elasticity: &mut [u32; Table::MOST_TASKS],
+    saturation: &mut [u32; Table::MOST_TASKS],
+) -> usize
+    requires { ⌜ (table .n ≤ mostTasks) × Roomy (columns (now largest) (now least) (now elasticity) (now saturation)) ⌝ }
+    ensures { λ r. ⌜ SprungUntil (table .rows) (table .n) r (columns (now (largest .exit)) (now (least .exit)) (now (elasticity .exit)) (now (saturation .exit))) ⌝ }
 {
     let n = table.n;
-    let mut springs = Springs {
-        largest: [0; Table::MOST_TASKS],
-        least: [0; Table::MOST_TASKS],
-        elasticity: [0; Table::MOST_TASKS],
-        saturation: [0; Table::MOST_TASKS],
-    };
     for i in 0..n {
-        let spring = spring_of(table.rows[i]);
-        springs.largest[i] = spring.largest;
-        springs.least[i] = spring.least;
-        springs.elasticity[i] = spring.elasticity;
-        springs.saturation[i] = spring.saturation;
+        let task = table.rows[i];
+        if !task.good() {
+            return i;
+        }
+        let spring = spring_of(task);
+        largest[i] = spring.largest;
+        least[i] = spring.least;
+        elasticity[i] = spring.elasticity;
+        saturation[i] = spring.saturation;
     }
-    springs
+    n
+}
+
+// The period at step k of a task whose largest and least share are at hand.
+pub fn period_on(task: Task, largest: u32, least: u32, k: u32) -> u32
+    requires { ⌜ Good task × (largest ≡ largestOf task) × (least ≡ leastOf task) ⌝ }
+    ensures { λ r. ⌜ PeriodIs task k r ⌝ }
+{
+    let share = rule::share_at(ground::wide(largest), ground::wide(least), task.e, k);
+    rule::period(share::cost(task), task.tmin, share) as u32
 }
 
 // The sum and the max of the shares at step k.
@@ -95,19 +109,11 @@ pub fn total_at(
     Total { sum, max }
 }
 
-// Whether the test holds at step k.
-pub fn weighed_at(
-    w: Weights,
-    largest: &[u32; Table::MOST_TASKS],
-    least: &[u32; Table::MOST_TASKS],
-    elasticity: &[u32; Table::MOST_TASKS],
-    n: usize,
-    k: u32,
-) -> bool
-    requires { ⌜ Light w × (n ≤ mostTasks) × AllWithin (springIn (now largest) (now least) (now elasticity)) n ⌝ }
-    ensures { λ r. ⌜ r ≡ weighedAt w (springIn (now (largest .entry)) (now (least .entry)) (now (elasticity .entry))) n k ⌝ }
+// Whether the test holds for a sum and a max.
+pub fn weighs(w: Weights, total: Total) -> bool
+    requires { ⌜ Light w × (total .sum ≤ 32000000) × (total .max ≤ scale) ⌝ }
+    ensures { λ r. ⌜ r ≡ leb (left w (total .sum) (total .max)) (right w (total .max)) ⌝ }
 {
-    let total = total_at(largest, least, elasticity, n, k);
     policy::left_of(w, total.sum, total.max) <= policy::right_of(w, total.max)
 }
 
@@ -160,18 +166,20 @@ fn slope_sum(
     fall
 }
 
-// The steps that are needed if a task with this share and slope has the max.
-fn need_of(w: Weights, sum: u64, fall: u64, share: u64, slope: u64) -> u64
+// By how much the left side of the test is above the right if a task with this share and slope has the max, and by how much that falls
+// at each step.
+fn line_of(w: Weights, sum: u64, fall: u64, share: u64, slope: u64) -> Line
     requires { ⌜ Light w × Fair w × (sum ≤ 32000000) × (share ≤ scale) × (1 ≤ fall) × (fall ≤ 32000000) × (slope ≤ fall) × (slope ≤ greatestElasticity) ⌝ }
-    ensures { λ r. ⌜ r ≡ need w sum fall share slope ⌝ }
+    ensures { λ r. ⌜ LineIs w sum fall share slope r ⌝ }
 {
-    let over = ground::less_or_zero(policy::left_of(w, sum, share), policy::right_of(w, share));
-    let by = ground::less_or_zero(policy::left_of(w, fall, slope), w.c * slope);
-    ground::ceil_div(over, by)
+    Line {
+        over: ground::less_or_zero(policy::left_of(w, sum, share), policy::right_of(w, share)),
+        by: ground::less_or_zero(policy::left_of(w, fall, slope), w.c * slope),
+    }
 }
 
-// The steps that are needed after p if a task with this spring has the max.
-fn need_of_task(
+// The line of a task with this spring after p.
+fn line_of_task(
     w: Weights,
     largest: u32,
     least: u32,
@@ -180,23 +188,36 @@ fn need_of_task(
     p: u32,
     sum: u64,
     fall: u64,
-) -> u64
+) -> Line
     requires { ⌜ Light w × Fair w × (largest ≤ scale) × (least ≤ scale) × (elasticity ≤ greatestElasticity) × (sum ≤ 32000000) × (1 ≤ fall) × (fall ≤ 32000000) × (slopeOf elasticity saturation p ≤ fall) ⌝ }
-    ensures { λ r. ⌜ r ≡ need w sum fall (shareOf largest least elasticity p) (slopeOf elasticity saturation p) ⌝ }
+    ensures { λ r. ⌜ LineIs w sum fall (shareOf largest least elasticity p) (slopeOf elasticity saturation p) r ⌝ }
 {
     let share = rule::share_at(ground::wide(largest), ground::wide(least), elasticity, p);
     let slope = ground::wide(slope_of(elasticity, saturation, p));
-    need_of(w, sum, fall, share, slope)
+    line_of(w, sum, fall, share, slope)
 }
 
-// The greater of two needs, or the smaller where the max counts the other way.
-fn harder_of(w: Weights, x: u64, y: u64) -> u64
-    ensures { λ r. ⌜ r ≡ harder w x y ⌝ }
+// The steps that a line needs to come down.
+fn need_of(line: Line) -> u64
+    requires { ⌜ Falling line ⌝ }
+    ensures { λ r. ⌜ NeedIs (ceilDiv (line .over) (line .by)) r ⌝ }
+{
+    ground::ceil_div(line.over, line.by)
+}
+
+// The greater of the steps needed before and those that a line needs, or the smaller where the max counts the other way. It divides only
+// where it must: a product says that a line needs no more.
+fn harder_of(w: Weights, before: u64, line: Line) -> u64
+    requires { ⌜ Falling line × (before ≤ 1000000000) ⌝ }
+    ensures { λ r. ⌜ NeedIs (harder w before (ceilDiv (line .over) (line .by))) r ⌝ }
 {
     if w.c <= w.b {
-        return ground::larger(x, y);
+        if line.over <= before * line.by {
+            return before;
+        }
+        return need_of(line);
     }
-    ground::smaller(x, y)
+    ground::smaller(before, need_of(line))
 }
 
 // The steps that are needed after p, over all tasks.
@@ -214,9 +235,9 @@ fn need_over(
     requires { ⌜ Light w × Fair w × Falls (springIn (now largest) (now least) (now elasticity)) (now saturation) n p sum fall ⌝ }
     ensures { λ r. ⌜ r ≡ needTo w (springIn (now (largest .entry)) (now (least .entry)) (now (elasticity .entry))) p sum fall n ⌝ }
 {
-    let mut hardest = need_of(w, sum, fall, 0, 0);
+    let mut hardest = need_of(line_of(w, sum, fall, 0, 0));
     for i in 0..n {
-        let need = need_of_task(
+        let line = line_of_task(
             w,
             largest[i],
             least[i],
@@ -226,12 +247,13 @@ fn need_over(
             sum,
             fall,
         );
-        hardest = harder_of(w, hardest, need);
+        hardest = harder_of(w, hardest, line);
     }
     hardest
 }
 
-// The least passing step of the stretch from p, which fails, to the next saturation step q, which passes.
+// The least passing step of the stretch from p, which fails, to the next saturation step q, which passes. The sum of the shares at p
+// is at hand.
 pub fn divide(
     w: Weights,
     largest: &[u32; Table::MOST_TASKS],
@@ -241,23 +263,13 @@ pub fn divide(
     n: usize,
     p: u32,
     q: u32,
+    sum: u64,
 ) -> u32
-    requires { ⌜ Light w × Fair w × Stretches (springIn (now largest) (now least) (now elasticity)) (now saturation) n p q ⌝ }
+    requires { ⌜ Light w × Fair w × Stretches (springIn (now largest) (now least) (now elasticity)) (now saturation) n p q × SumIs (springIn (now largest) (now least) (now elasticity)) n p sum ⌝ }
     ensures { λ r. ⌜ r ≡ divided w (springIn (now (largest .entry)) (now (least .entry)) (now (elasticity .entry))) n p q ⌝ }
 {
-    let total = total_at(largest, least, elasticity, n, p);
     let fall = slope_sum(elasticity, saturation, n, p);
-    let more = need_over(
-        w,
-        largest,
-        least,
-        elasticity,
-        saturation,
-        n,
-        p,
-        total.sum,
-        fall,
-    );
+    let more = need_over(w, largest, least, elasticity, saturation, n, p, sum, fall);
     if more < (q - p) as u64 {
         return p + more as u32;
     }

@@ -2,6 +2,7 @@
 // streams are those of the second program, which has its own answers to compare. A stream that is not of that form ends the run.
 // Contracts cite `specs/Room`.
 mod ask;
+mod clocked;
 mod office_calls;
 mod tell;
 
@@ -261,7 +262,7 @@ fn put_sheet(out: &mut [u8; ROOM], at: usize, x: Sheet) -> usize
     tell::put_results(out, at_results, granted)
 }
 
-// Puts the verdict of a reading.
+// Puts the verdict of a reading or of the checker.
 fn put_verdict(out: &mut [u8; ROOM], at: usize, verdict: Verdict) -> usize
     ensures { λ r. ⌜ r ≤ room ⌝ }
 {
@@ -513,6 +514,16 @@ fn answer_wide(s: &[u8], out: &mut [u8; ROOM]) -> usize
     wide_into(table, m, &mut periods[..a], &mut cores[..b], out)
 }
 
+// Kind 9: the checker of filled sheets, and the line of its program.
+fn answer_check(sheet: &[u8], out: &mut [u8; ROOM]) -> usize
+    ensures { λ r. ⌜ r ≤ room ⌝ }
+{
+    let mut line = [0u8; LONGEST_SHEET];
+    let k = checked::tell(sheet, &mut line);
+    let at_line = put_verdict(out, LENGTH, checked::check(sheet));
+    tell::put_bytes(out, at_line, &line[..k])
+}
+
 // Puts the answer to a payload after the place of its length; returns the place after it, or 0 where the payload is no call.
 fn answer(s: &[u8], out: &mut [u8; ROOM]) -> usize
     ensures { λ r. ⌜ r ≤ room ⌝ }
@@ -529,6 +540,8 @@ fn answer(s: &[u8], out: &mut [u8; ROOM]) -> usize
         6 => answer_change_over(s, out),
         7 => answer_program(&s[KIND..], out),
         8 => answer_wide(s, out),
+        9 => answer_check(&s[KIND..], out),
+        10 => clocked::answer_clock(s, KIND, out),
         11 => office_calls::answer_import(s, out),
         12 => office_calls::answer_export(s, out),
         _ => 0,

@@ -3,7 +3,7 @@
 use Prim.Native.Nat.{ℕ, _≤_, min}
 use mathlib.Core.Bool.{Bool, true, false}
 use mathlib.Core.List.{List}
-use mathlib.Core.Path.{_≡_, refl, sym, ap}
+use mathlib.Core.Path.{_≡_, refl}
 use native.Mathlib.Omega.{arith}
 use lib.Dec.{ltb, lit≤}
 use lib.ListN.{length}
@@ -15,28 +15,21 @@ use Rattle.ground.proofs.Cases.{true-false}
 use Rattle.kinds.specs.declared.Answer.{Answer}
 use Rattle.kinds.specs.declared.Answer.the-variants.{Accepted, Refused}
 use Rattle.kinds.specs.declared.Refusal.{Refusal}
-use Rattle.kinds.specs.declared.Refusal.the-variants.{NoSuchPolicy, NoSuchProcessors, TooManyTasks, PolicyNotServed, OutputTooShort, BadRecord, NoStepPasses}
-use Rattle.kinds.specs.Answer.{Handed, accepted, handed}
+use Rattle.kinds.specs.declared.Refusal.the-variants.{NoSuchPolicy, NoSuchProcessors, TooManyTasks, PolicyNotServed, OutputTooShort, BadRecord}
+use Rattle.kinds.specs.Answer.{accepted, handed}
 use Rattle.kinds.specs.Limits.{mostTasks, mostProcessors}
 use Rattle.kinds.specs.Refusal.{numberOf}
-use Rattle.kinds.proofs.Answers.{not-refused}
 use Rattle.admission.specs.declared.Admission as adm
 use Rattle.admission.specs.Admission.{check, gate, andThen}
-use Rattle.admission.proofs.Chain.{Passed, gate-passed}
+use Rattle.admission.proofs.Chain.{Passed, unchecked, gate-passed, then-admitted}
 use Rattle.plan.specs.Plan.{decided, Meets}
+use Rattle.plan.proofs.Found.{decided-accepted}
 use Rattle.wide.specs.declared.WideTask.{WideTask}
 use Rattle.wide.specs.declared.WideTable.{WideTable}
 use Rattle.wide.specs.Table.{firstBad, leastStep}
 use Rattle.wide.specs.Wide.{admission, found, outcome, MayGrant, Leaves}
 use Rattle.wide.proofs.Tables.{good-table}
 use Rattle.wide.proofs.Passing.{cores-fit, step-at}
-
--- an admission was refused nowhere
-then-admitted : (a : adm.Admission) (test : Bool) (r : Refusal) → andThen a (check test r adm.the-variants.Admitted) ≡ adm.the-variants.Admitted
-    → (a ≡ adm.the-variants.Admitted) × (test ≡ false)
-then-admitted adm.the-variants.Admitted true r e = absurd (let z : _≡_ {A = ℕ} 0 1 = cc in omega arith)
-then-admitted adm.the-variants.Admitted false r e = (refl, refl)
-then-admitted (adm.the-variants.Refused q) test r e = absurd (let z : _≡_ {A = ℕ} 0 1 = cc in omega arith)
 
 -- what an admitted call has passed
 pub record Ready (m : ℕ) (rows : List WideTask) (n room : ℕ) : Type 0 where
@@ -46,14 +39,8 @@ pub record Ready (m : ℕ) (rows : List WideTask) (n room : ℕ) : Type 0 where
 pub admitted : (m : ℕ) (rows : List WideTask) (n room : ℕ) → admission m rows n room ≡ adm.the-variants.Admitted → Ready m rows n room
 unfolding admission
 admitted m rows n room e =
-    let a = then-admitted _ _ _ e in
-    record { passed = gate-passed _ _ _ _ _ (a .0); none-bad = ltb-false _ _ (a .1) }
-
--- an acceptance was admitted, and its step is the least that passes
-decided-accepted : (a : adm.Admission) (step : Step) (k : ℕ) → accepted k ≡ decided a step → (a ≡ adm.the-variants.Admitted) × (step ≡ At k)
-decided-accepted (adm.the-variants.Refused r) step k e = not-refused k 0 r e
-decided-accepted adm.the-variants.Admitted (At j) k e = (refl, ap At (sym (ap (λ (h : Handed ℕ). h .value) e)))
-decided-accepted adm.the-variants.Admitted Nothing k e = not-refused k 0 NoStepPasses e
+    let a = then-admitted _ _ e in
+    record { passed = gate-passed _ _ _ _ _ (a .0); none-bad = ltb-false _ _ (unchecked _ _ _ (a .1) .0) }
 
 -- an admission refuses by 6 at most
 abbrev numbered : adm.Admission → ℕ

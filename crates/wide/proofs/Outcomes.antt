@@ -7,17 +7,15 @@ use mathlib.Core.List.{List}
 use mathlib.Core.Path.{_≡_, refl, ap₂}
 use native.Mathlib.Omega.{arith}
 use lib.ListN.{length}
-use borrow.Author.Tests.{ne-eqb}
 use Rattle.ground.specs.declared.Step.{Step}
 use Rattle.ground.proofs.Cases.{by-le}
 use Rattle.kinds.specs.declared.Answer.{Answer}
-use Rattle.kinds.specs.Answer.{Handed}
 use Rattle.kinds.specs.Limits.{mostTasks}
 use Rattle.kinds.proofs.Refusals.{refusal-numbered}
 use Rattle.admission.specs.declared.Admission as adm
 use Rattle.admission.specs.Admission.{gate, andThen}
 use Rattle.admission.proofs.Chain.{gate-passed}
-use Rattle.plan.specs.Plan.{decided, written, Meets}
+use Rattle.plan.specs.Plan.{decided, Meets}
 use Rattle.plan.proofs.Outcomes as plan
 use Rattle.wide.specs.declared.WideTask.{WideTask}
 use Rattle.wide.specs.WideTask.{at}
@@ -44,9 +42,6 @@ module _ (m : ℕ) (xs ys : List WideTask) (n room : ℕ) where
       shut (gate false m n false room) (leastStep m xs n) (leastStep m ys n) (recordsGood xs n) (recordsGood ys n)
       (λ e. omega (arith, gate-passed _ _ _ _ _ e .few))
 
-keeps : (h : Handed ℕ) (f g : List ℕ) (n : ℕ) (old : List ℕ) → 1 ≤ h .number → written h f n old ≡ written h g n old
-keeps h f g n old d = rw (ne-eqb (h .number) 0 (λ z. omega arith))
-
 module _ (m : ℕ) (xs ys : List WideTask) (n : ℕ) (periods cores : List ℕ) where
   outcome-many : mostTasks < n → outcome m xs n periods cores ≡ outcome m ys n periods cores
   unfolding outcome
@@ -56,8 +51,8 @@ module _ (m : ℕ) (xs ys : List WideTask) (n : ℕ) (periods cores : List ℕ) 
       let k = found m ys n room .value in
       rw (
         f .0,
-        keeps (found m ys n room) (periodsAt xs n k) (periodsAt ys n k) n periods (f .1),
-        keeps (found m ys n room) (coreCountsAt xs n k) (coreCountsAt ys n k) n cores (f .1),
+        plan.keeps (found m ys n room) (periodsAt xs n k) (periodsAt ys n k) n periods (λ z. omega (arith, f .1)),
+        plan.keeps (found m ys n room) (coreCountsAt xs n k) (coreCountsAt ys n k) n cores (λ z. omega (arith, f .1)),
       )
 
   module _ (same : (i : ℕ) → i < n → at xs i ≡ at ys i) where

@@ -4,25 +4,17 @@ use Prim.Native.Nat.{ℕ}
 use mathlib.Core.Bool.{true, false}
 use mathlib.Core.List.{List, _++_}
 use mathlib.Core.Path.{_≡_, refl, sym}
-use native.Mathlib.Omega.{arith}
 use lib.ListN.{drop}
-use borrow.Author.Tests.{ne-eqb}
 use Rattle.ground.proofs.Cases.{true-false}
 use Rattle.kinds.specs.declared.Answer.{Answer}
 use Rattle.kinds.specs.declared.Answer.the-variants.{Accepted, Refused}
 use Rattle.kinds.specs.Answer.{handed, isAccepted, stepOf}
-use Rattle.kinds.specs.Refusal.{numberOf}
-use Rattle.kinds.proofs.Refusals.{refusal-numbered}
-use Rattle.plan.specs.Plan.{written}
+use Rattle.plan.proofs.Writing.{written-kept}
 use Rattle.wide.specs.declared.WideTask.{WideTask}
 use Rattle.wide.specs.Table.{periodsAt, coreCountsAt}
 use Rattle.wide.specs.Wide.{Leaves}
 
 -- a refused call writes nothing
-written-kept : (a : Answer) (front : List ℕ) (n : ℕ) (old : List ℕ) → isAccepted a ≡ false → written (handed a) front n old ≡ old
-written-kept (Accepted k) front n old e = true-false refl e
-written-kept (Refused r) front n old e = rw (ne-eqb (numberOf r) 0 (λ z. omega (arith, refusal-numbered r)))
-
 pub leaves-refused : (a : Answer) (rows : List WideTask) (n : ℕ) (periods cores : List ℕ) → isAccepted a ≡ false
     → Leaves (handed a) rows n periods cores periods cores
 leaves-refused a rows n periods cores e =

@@ -80,7 +80,7 @@ pub fn limits()
 {}
 
 // Document 01: "Largest share: C × S / Tmin rounded up."
-pub fn largest(task: WideTask) -> Share
+fn largest(task: WideTask) -> Share
     requires { ⌜ Good task ⌝ }
     ensures { λ r. ⌜ ShareIs (largestOf task) (r .parts) ⌝ }
 {
@@ -88,7 +88,7 @@ pub fn largest(task: WideTask) -> Share
 }
 
 // Document 01: "Least share: C × S / Tmax rounded up."
-pub fn least(task: WideTask) -> Share
+fn least(task: WideTask) -> Share
     requires { ⌜ Good task ⌝ }
     ensures { λ r. ⌜ ShareIs (leastOf task) (r .parts) ⌝ }
 {
@@ -96,7 +96,7 @@ pub fn least(task: WideTask) -> Share
 }
 
 // The share at any step, which is above one processor's.
-pub fn share_at(task: WideTask, k: u32) -> Share
+fn share_at(task: WideTask, k: u32) -> Share
     requires { ⌜ Good task ⌝ }
     ensures { λ r. ⌜ ShareIs (shareAt task k) (r .parts) ⌝ }
 {
@@ -106,7 +106,7 @@ pub fn share_at(task: WideTask, k: u32) -> Share
 }
 
 // The saturation step; 0 where the elasticity is 0.
-pub fn saturation(task: WideTask) -> u32
+fn saturation(task: WideTask) -> u32
     requires { ⌜ Good task ⌝ }
     ensures { λ r. ⌜ StepIs (saturationAt task) r ⌝ }
 {
@@ -116,7 +116,7 @@ pub fn saturation(task: WideTask) -> u32
 }
 
 // The period at any step.
-pub fn period_at(task: WideTask, k: u32) -> u32
+fn period_at(task: WideTask, k: u32) -> u32
     requires { ⌜ Good task ⌝ }
     ensures { λ r. ⌜ PeriodIs task k r ⌝ }
 {
@@ -125,7 +125,7 @@ pub fn period_at(task: WideTask, k: u32) -> u32
 }
 
 // The cores needed at any step: (C − L) / (T − L) rounded up, T the period at that step.
-pub fn cores_at(task: WideTask, k: u32) -> u64
+fn cores_at(task: WideTask, k: u32) -> u64
     requires { ⌜ Good task ⌝ }
     ensures { λ r. ⌜ CoresIs task k r ⌝ }
 {
@@ -135,7 +135,7 @@ pub fn cores_at(task: WideTask, k: u32) -> u64
 }
 
 // Document 01: "Full compression K: the greatest saturation step, 0 if there is none."
-pub fn full_compression(table: WideTable) -> u32
+fn full_compression(table: WideTable) -> u32
     requires { ⌜ GoodTable table ⌝ }
     ensures { λ r. ⌜ StepIs (fullCompression (table .rows) (table .n)) r ⌝ }
 {
@@ -148,7 +148,7 @@ pub fn full_compression(table: WideTable) -> u32
 }
 
 // The first record that is not good, or how many there are.
-pub fn first_bad(table: WideTable) -> usize
+fn first_bad(table: WideTable) -> usize
     requires { ⌜ table .n ≤ mostTasks ⌝ }
     ensures { λ r. ⌜ r ≡ firstBad (table .rows) (table .n) ⌝ }
 {
@@ -175,7 +175,7 @@ fn cores_sum(table: WideTable, k: u32) -> u64
 }
 
 // Ask 4: "A table of such tasks passes at a step when the cores add up to at most m".
-pub fn passes_at(m: u16, table: WideTable, k: u32) -> bool
+fn passes_at(m: u16, table: WideTable, k: u32) -> bool
     requires { ⌜ GoodTable table ⌝ }
     ensures { λ r. ⌜ r ≡ passesAt m (table .rows) (table .n) k ⌝ }
 {

@@ -2,80 +2,23 @@
 // are lent longer than the table and filled with 7 and 9, so that the entry after the last task shows whether it was written.
 use kinds::Answer;
 use kinds::Table;
-use libc::STDOUT_FILENO;
+use show::LENT;
 use wide::WideTable;
 use wide::WideTask;
 
-fn words(text: &[u8]) {
-    io::write_all(STDOUT_FILENO, text);
-}
-
-fn number(x: u32) {
-    io::write_all(STDOUT_FILENO, b" ");
-    io::print_decimal(STDOUT_FILENO, x as u64);
-}
-
-fn short_number(x: u16) {
-    number(x as u32);
-}
-
-// A step, or the number and the place of a refusal.
-fn print_answer(answer: Answer) {
-    match answer {
-        Answer::Accepted(step) => {
-            words(b" step");
-            number(step);
-        }
-        Answer::Refused(refusal) => {
-            words(b" refused");
-            number(refusal.number() as u32);
-            words(b" at ");
-            io::print_decimal(STDOUT_FILENO, refusal.place() as u64);
-        }
-    }
-}
-
-// The periods up to the entry after the last task.
-fn print_periods(n: usize, periods: &[u32; 33]) {
-    words(b" periods");
-    let mut i: usize = 0;
-    while i < 33 {
-        if n < i {
-            return;
-        }
-        number(periods[i]);
-        i += 1;
-    }
-}
-
-// The core counts up to the entry after the last task.
-fn print_cores(n: usize, cores: &[u16; 33]) {
-    words(b" cores");
-    let mut i: usize = 0;
-    while i < 33 {
-        if n < i {
-            return;
-        }
-        short_number(cores[i]);
-        i += 1;
-    }
-}
-
 // The call by value, and the same over the table's rows, lent as a slice of records.
 fn run(name: &[u8], m: u16, table: WideTable) {
-    let mut periods = [7u32; 33];
-    let mut cores = [9u16; 33];
-    words(name);
-    print_answer(wide::find(table, m, &mut periods, &mut cores));
-    print_periods(table.n, &periods);
-    print_cores(table.n, &cores);
-    words(b"\nrows");
-    periods = [7u32; 33];
-    cores = [9u16; 33];
-    print_answer(wide_rows::find_wide_over(table, m, &mut periods, &mut cores));
-    print_periods(table.n, &periods);
-    print_cores(table.n, &cores);
-    words(b"\n");
+    let mut periods = [7u32; LENT];
+    let mut cores = [9u16; LENT];
+    show::words(name);
+    show::answer(wide::find(table, m, &mut periods, &mut cores));
+    show::outputs(b" cores", table.n, &periods, &cores);
+    show::words(b"\nrows");
+    periods = [7u32; LENT];
+    cores = [9u16; LENT];
+    show::answer(wide_rows::find_wide_over(table, m, &mut periods, &mut cores));
+    show::outputs(b" cores", table.n, &periods, &cores);
+    show::words(b"\n");
 }
 
 // A table of n times the same task.

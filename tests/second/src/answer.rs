@@ -2,6 +2,7 @@
 
 use crate::call::{Call, Exporting, Rooms, Table, WideTable, Writing};
 use crate::definition::change_over::{change_over, Which};
+use crate::definition::checked::{check, told};
 use crate::definition::finder::{plain, quick};
 use crate::definition::kinds::{Record, Refusal, Sheet};
 use crate::definition::margin::margin;
@@ -19,7 +20,7 @@ pub const ROW_SENTINEL: Record =
     Record::new(PERIOD_SENTINEL, PERIOD_SENTINEL, PERIOD_SENTINEL, PERIOD_SENTINEL);
 
 /// The number (0 when accepted) and the place (0 when accepted).
-fn put_verdict<T>(bytes: &mut Vec<u8>, answer: &Result<T, Refusal>) {
+pub fn put_verdict<T>(bytes: &mut Vec<u8>, answer: &Result<T, Refusal>) {
     let refusal = answer.as_ref().err().copied().unwrap_or(Refusal { number: 0, place: 0 });
     bytes.push(refusal.number);
     bytes.extend(refusal.place.to_le_bytes());
@@ -128,6 +129,13 @@ fn wide_answer(table: &WideTable, rooms: Rooms) -> Vec<u8> {
     bytes
 }
 
+fn check_answer(sheet: &[u8]) -> Vec<u8> {
+    let mut bytes = Vec::new();
+    put_verdict(&mut bytes, &check(sheet));
+    bytes.extend(told(sheet));
+    bytes
+}
+
 fn import_answer(entries: u8, text: &[u8]) -> Vec<u8> {
     let mut output = vec![ROW_SENTINEL; usize::from(entries)];
     let answer = import(text, &mut output);
@@ -159,6 +167,8 @@ pub fn answer(call: &Call) -> Vec<u8> {
         Call::ChangeOver { standing, proposed } => change_over_answer(standing, proposed),
         Call::Program(input) => program(input),
         Call::Wide(table, rooms) => wide_answer(table, *rooms),
+        Call::Check(sheet) => check_answer(sheet),
+        Call::Clock(run) => run.answer(),
         Call::Import { entries, text } => import_answer(*entries, text),
         Call::Export(exporting) => export_answer(exporting),
     }

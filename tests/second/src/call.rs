@@ -1,5 +1,6 @@
 //! A call of the stream: what is asked, and its payload in bytes.
 
+use crate::clock_run::Run;
 use crate::definition::admission::Question;
 use crate::definition::kinds::{Granted, Policy, Record, Sheet, MOST_TASKS};
 use crate::definition::wide::{WideQuestion, WideRecord};
@@ -68,6 +69,8 @@ pub enum Call {
     ChangeOver { standing: Vec<u8>, proposed: Vec<u8> },
     Program(Vec<u8>),
     Wide(WideTable, Rooms),
+    Check(Vec<u8>),
+    Clock(Run),
     Import { entries: u8, text: Vec<u8> },
     Export(Exporting),
 }
@@ -82,8 +85,8 @@ pub const KIND_NAMES: [&str; 12] = [
     "change-over",
     "program",
     "several cores",
-    "kind 9",
-    "kind 10",
+    "check",
+    "release clock",
     "import",
     "export",
 ];
@@ -219,6 +222,8 @@ impl Call {
             Call::ChangeOver { .. } => 6,
             Call::Program(..) => 7,
             Call::Wide(..) => 8,
+            Call::Check(..) => 9,
+            Call::Clock(..) => 10,
             Call::Import { .. } => 11,
             Call::Export(..) => 12,
         }
@@ -245,6 +250,8 @@ impl Call {
             }
             Call::Program(input) => bytes.extend(input),
             Call::Wide(table, rooms) => put_wide(&mut bytes, table, *rooms),
+            Call::Check(sheet) => bytes.extend(sheet),
+            Call::Clock(run) => run.put(&mut bytes),
             Call::Import { entries, text } => {
                 bytes.push(*entries);
                 bytes.extend(text);

@@ -3,6 +3,8 @@
 
 pub mod admission;
 pub mod change_over;
+pub mod checked;
+pub mod clock;
 pub mod finder;
 pub mod kinds;
 pub mod margin;

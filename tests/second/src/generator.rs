@@ -2,6 +2,9 @@
 //! then calls that hang on the seed and on their index only.
 
 pub mod bench;
+mod clock_runs;
+mod edges_of_checked;
+pub mod edges_of_clock;
 mod edges_of_finders;
 pub mod edges_of_office;
 mod edges_of_sheets;
@@ -26,6 +29,8 @@ impl Calls {
         fixed.extend(edges_of_finders::calls());
         fixed.extend(edges_of_sheets::calls());
         fixed.extend(edges_of_wide::calls());
+        fixed.extend(edges_of_checked::calls());
+        fixed.extend(edges_of_clock::calls());
         fixed.extend(edges_of_office::calls());
         Calls { seed, fixed }
     }

@@ -2,6 +2,7 @@
 
 mod answer;
 mod call;
+mod clock_run;
 mod command;
 mod definition;
 mod generator;

@@ -2,6 +2,7 @@
 
 use crate::answer::{BUFFER_SENTINEL, PERIOD_SENTINEL, PROCESSOR_SENTINEL, ROW_SENTINEL};
 use crate::call::{Call, Rooms, Settings, Table, WideTable, KIND_NAMES};
+use crate::clock_run::released_text;
 use crate::definition::kinds::{Granted, Record, MOST_TASKS};
 use std::fmt::Write;
 
@@ -65,7 +66,7 @@ pub fn call_text(call: &Call) -> String {
             text.push_str(&table_lines(table));
             let _ = writeln!(text, "  at step {step}");
         }
-        Call::Read(sheet) => text.push_str(&bytes_line("sheet", sheet)),
+        Call::Read(sheet) | Call::Check(sheet) => text.push_str(&bytes_line("sheet", sheet)),
         Call::Write(writing) => {
             text.push_str(&settings_line(writing.settings));
             let _ = writeln!(
@@ -89,6 +90,7 @@ pub fn call_text(call: &Call) -> String {
             text.push_str(&wide_lines(table));
             text.push_str(&rooms_line(*rooms));
         }
+        Call::Clock(run) => text.push_str(&run.text()),
         Call::Import { entries, text: lines } => {
             let _ = writeln!(text, "  room: {entries} rows");
             let _ = writeln!(text, "  text: {:?}", String::from_utf8_lossy(lines));
@@ -238,13 +240,21 @@ fn fields_text(call: &Call, answer: &[u8]) -> Option<String> {
             format!("{verdict}  written {written} bytes\n{}", fields.buffer(exporting.room)?)
         }
         Call::Program(_) => program_text(fields.take(answer.len())?),
+        Call::Check(_) => {
+            format!("{}{}", fields.verdict()?, program_text(fields.take(fields.rest.len())?))
+        }
+        Call::Clock(run) => {
+            format!("{}{}", fields.verdict()?, released_text(run, &mut fields.rest)?)
+        }
     };
     fields.rest.is_empty().then_some(text)
 }
 
 fn program_text(output: &[u8]) -> String {
     match std::str::from_utf8(output) {
-        Ok(line) if line.starts_with("refused") => format!("  writes {line:?}\n"),
+        Ok(line) if line.starts_with("refused") || line.starts_with("accepted") => {
+            format!("  writes {line:?}\n")
+        }
         _ => bytes_line("writes", output),
     }
 }

@@ -1,6 +1,7 @@
 //! The second program's own tests: the bench cases, the small readings, the stream.
 
 mod bench;
+mod clock;
 mod finders;
 mod office;
 mod sheets;

@@ -4,26 +4,30 @@ use mathlib.Core.Bool.{false}
 use mathlib.Core.Path.{_≡_}
 use native.Mathlib.Omega.{arith}
 use lib.ListN.{length}
-use Rattle.plan.proofs.Found.{may-grant, meets}
-use Rattle.quick.specs.Looked.{FoundLooked}
+use Rattle.plan.proofs.Found.{meets}
+use Rattle.stretch.specs.Spring.{columns}
+use Rattle.quick.specs.Sprung.{FoundSprung}
+use Rattle.quick.proofs.Granting.{may-grant-sprung}
 use Rattle.quick.proofs.Served.{looks-few}
 use borrow.Author.Needs.{needs}
 use Rattle.quick.proofs.find.Statement.{statement}
 use Rattle.quick.proofs.find.Tie as tie
 
--- the answer and the looks are those for the room of the shorter output
-answered : (c : tie.After-decide) → let a = c .before .before .before .before .args in
-    FoundLooked (a .settings) (a .table .rows) (a .table .n) (min (length (a .periods .now)) (length (a .processors .now))) (c .decide .result)
-answered c = rw (c .before .shorter .ensures) at (c .decide .ensures)
+-- the answer and the looks are those for the room of the shorter output, and the columns hold the springs
+answered : (c : tie.After-decide-in) → let a = c .before .before .before .before .before .before .before .before .args in
+    let l = c .decide-in .last in
+    FoundSprung (a .settings) (a .table .rows) (a .table .n) (min (length (a .periods .now)) (length (a .processors .now))) (c .decide-in .result)
+    (columns (l .1 .1 .1 .0) (l .1 .1 .1 .1 .0) (l .1 .1 .1 .1 .1 .0) (l .1 .1 .1 .1 .1 .1 .0))
+answered c = rw (c .before .before .before .before .before .shorter .ensures) at (c .decide-in .ensures)
 
 shorter-requires : tie.Need-shorter-requires
 shorter-requires c κs = search needs
 
-decide-requires : tie.Need-decide-requires
-decide-requires c κs = search needs
+decide-in-requires : tie.Need-decide-in-requires
+decide-in-requires c κs = search needs
 
 grant-requires : tie.Need-grant-requires
-grant-requires c κs = may-grant false _ _ _ _ _ (answered (c .before .before) .answers)
+grant-requires c κs = may-grant-sprung _ _ _ _ _ _ (answered (c .before .before .before .before))
 
 same-length : tie.Need-same-length
 same-length c = search needs
@@ -34,8 +38,9 @@ same-length-2 c = search needs
 returns : tie.Need-returns
 returns c =
     let g = c .before .before .before .before in
-    let f = answered (g .before .before .before) in
-    let a = g .before .before .before .before .before .before .before .args in
+    let d = g .before .before .before .before .before in
+    let f = answered d .found in
+    let a = d .before .before .before .before .before .before .before .before .args in
     record {
       meets = meets false _ _ _ _ _ _ _ _ (f .answers) (g .grant .ensures);
       count = f .count;
@@ -45,4 +50,4 @@ returns c =
 pub find-spec : {M : Type 1} → statement M
 find-spec =
     tie.close
-    (tie.spec shorter-requires decide-requires grant-requires same-length same-length-2 returns)
+    (tie.spec shorter-requires decide-in-requires grant-requires same-length same-length-2 returns)

@@ -2,13 +2,14 @@
 use Prim.Native.Nat.{_+_, _-_, _<_}
 use mathlib.Core.Path.{_≡_, refl, sym, _∙_}
 use native.Mathlib.Omega.{arith}
-use Rattle.stretch.specs.Spring.{Spring, springIn}
+use Rattle.stretch.specs.Spring.{Spring, springIn, SumIs}
 use Rattle.quick.proofs.Loop.{Standing, due-first, next-in, first-passes, first-fails, none-due, look-due, divides, next-passes, next-fails}
 use Rattle.quick.proofs.search_columns.Statement.{statement}
 use Rattle.quick.proofs.search_columns.Tie as tie
 
 abbrev Inv-loop : tie.InvT-loop
-Inv-loop w largest least elasticity saturation n search₀ due₀ search due = Standing w (springIn largest least elasticity) n search due
+Inv-loop w largest least elasticity saturation n search₀ due₀ search due =
+    Standing w (springIn largest least elasticity) n search due × SumIs (springIn largest least elasticity) n (search .step) (search .sum)
 
 abbrev μ-loop : tie.MeasureT-loop
 μ-loop w largest least elasticity saturation n search₀ due₀ search due = n + 1 - search .looks
@@ -26,7 +27,7 @@ stands c =
     let s = l .before .before .before .before in
     let a = s .args in
     let springs = springIn (a .largest .now) (a .least .now) (a .elasticity .now) in
-    next-fails (a .w) (s .pre .1) springs (a .n) _ _ (l .loop .inv) (k .before .loop-test .taken) _ (k .look2 .ensures) _ (c .before .if2 .left)
+    next-fails (a .w) (s .pre .1) springs (a .n) _ _ (l .loop .inv .0) (k .before .loop-test .taken) _ (k .look2 .ensures .0) _ (c .before .if2 .left)
     (next-in springs (a .saturation .now) (a .n) _ _ (s .pre .2 .saturates) (c .next-due2 .ensures))
 
 look-requires : tie.Need-look-requires Inv-loop μ-loop
@@ -36,7 +37,7 @@ returns : tie.Need-returns Inv-loop μ-loop
 returns c =
     let l = c .before in
     let a = l .before .args in
-    first-passes (a .w) (l .before .pre .1) (springIn (a .largest .now) (a .least .now) (a .elasticity .now)) (a .n) _ _ refl (l .look .ensures) (c .if1 .taken)
+    first-passes (a .w) (l .before .pre .1) (springIn (a .largest .now) (a .least .now) (a .elasticity .now)) (a .n) _ _ refl (l .look .ensures .0) (c .if1 .taken)
 
 next-due-requires : tie.Need-next-due-requires Inv-loop μ-loop
 next-due-requires c κs = c .before .before .pre .2 .few
@@ -45,16 +46,18 @@ loop-holds : tie.Need-loop-holds Inv-loop μ-loop
 loop-holds c =
     let l = c .before .before in
     let a = l .before .args in
-    let springs = springIn (a .largest .now) (a .least .now) (a .elasticity .now) in
-    first-fails (a .w) (l .before .pre .1) springs (a .n) _ _ refl (l .look .ensures) _ (c .before .if1 .left)
-    (next-in springs (a .saturation .now) (a .n) 0 _ (l .before .pre .2 .saturates) (c .next-due .ensures))
+    let springs = springIn (a .largest .now) (a .least .now) (a .elasticity .now) in (
+      first-fails (a .w) (l .before .pre .1) springs (a .n) _ _ refl (l .look .ensures .0) _ (c .before .if1 .left)
+          (next-in springs (a .saturation .now) (a .n) 0 _ (l .before .pre .2 .saturates) (c .next-due .ensures)),
+      l .look .ensures .1,
+    )
 
 look-requires-2 : tie.Need-look-requires-2 Inv-loop μ-loop
 look-requires-2 c κs =
     let l = c .before in
     let s = l .before .before .before .before in
     let a = s .args in
-    let d = look-due (a .w) (s .pre .1) (springIn (a .largest .now) (a .least .now) (a .elasticity .now)) (a .n) _ _ (l .loop .inv) (c .loop-test .taken) (s .pre .2 .few) in
+    let d = look-due (a .w) (s .pre .1) (springIn (a .largest .now) (a .least .now) (a .elasticity .now)) (a .n) _ _ (l .loop .inv .0) (c .loop-test .taken) (s .pre .2 .few) in
     (s .pre .0, s .pre .2 .few, s .pre .2 .within, d .0, d .1)
 
 divide-requires : tie.Need-divide-requires Inv-loop μ-loop
@@ -63,7 +66,7 @@ divide-requires c κs =
     let l = k .before .before in
     let s = l .before .before .before .before in
     let a = s .args in
-    (s .pre .0, s .pre .1, divides (a .w) (s .pre .1) (springIn (a .largest .now) (a .least .now) (a .elasticity .now)) (a .n) _ _ (l .loop .inv) (k .before .loop-test .taken) _ (k .look2 .ensures) (a .saturation .now) (s .pre .2))
+    (s .pre .0, s .pre .1, divides (a .w) (s .pre .1) (springIn (a .largest .now) (a .least .now) (a .elasticity .now)) (a .n) _ _ (l .loop .inv .0) (k .before .loop-test .taken) _ (k .look2 .ensures .0) (a .saturation .now) (s .pre .2), rw (k .look2 .ensures .0 .from) (l .loop .inv .1))
 
 returns-2 : tie.Need-returns-2 Inv-loop μ-loop
 returns-2 c =
@@ -71,7 +74,7 @@ returns-2 c =
     let l = k .before .before in
     let s = l .before .before .before .before in
     let a = s .args in
-    next-passes (a .w) (s .pre .1) (springIn (a .largest .now) (a .least .now) (a .elasticity .now)) (a .n) _ _ (l .loop .inv) (k .before .loop-test .taken) _ (k .look2 .ensures) _ (c .before .if2 .taken) (c .divide .ensures)
+    next-passes (a .w) (s .pre .1) (springIn (a .largest .now) (a .least .now) (a .elasticity .now)) (a .n) _ _ (l .loop .inv .0) (k .before .loop-test .taken) _ (k .look2 .ensures .0) _ (c .before .if2 .taken) (c .divide .ensures)
 
 next-due-requires-2 : tie.Need-next-due-requires-2 Inv-loop μ-loop
 next-due-requires-2 c κs = c .before .before .before .before .before .before .before .pre .2 .few
@@ -80,14 +83,14 @@ loop-less : tie.Need-loop-less Inv-loop μ-loop
 loop-less c = stands c .1
 
 loop-again : tie.Need-loop-again Inv-loop μ-loop
-loop-again c = stands c .0
+loop-again c = (stands c .0, c .before .before .look2 .ensures .1)
 
 returns-3 : tie.Need-returns-3 Inv-loop μ-loop
 returns-3 c =
     let l = c .before in
     let s = l .before .before .before .before in
     let a = s .args in
-    none-due (a .w) (s .pre .1) (springIn (a .largest .now) (a .least .now) (a .elasticity .now)) (a .n) _ _ (l .loop .inv) (omega (arith, c .loop-test .left))
+    none-due (a .w) (s .pre .1) (springIn (a .largest .now) (a .least .now) (a .elasticity .now)) (a .n) _ _ (l .loop .inv .0) (omega (arith, c .loop-test .left))
 
 pub search-columns-spec : {M : Type 1} → statement M
 search-columns-spec =

@@ -9,21 +9,18 @@ use Rattle.stretch.proofs.divide.Statement.{statement}
 use Rattle.stretch.proofs.divide.Tie as tie
 
 -- the sum of the slopes
-fallen : (c : tie.After-slope-sum) → let a = c .before .before .args in c .slope-sum .result ≡ slopeSum (springIn (a .largest .now) (a .least .now) (a .elasticity .now)) (a .n) (a .p)
+fallen : (c : tie.After-slope-sum) → let a = c .before .args in c .slope-sum .result ≡ slopeSum (springIn (a .largest .now) (a .least .now) (a .elasticity .now)) (a .n) (a .p)
 fallen c =
-    let b = c .before .before in
+    let b = c .before in
     let a = b .args in
     c .slope-sum .ensures .is ∙ slopes-are (springIn (a .largest .now) (a .least .now) (a .elasticity .now)) (a .elasticity .now) (a .saturation .now) (a .n) (a .p) (λ i. refl) (b .pre .2 .saturates)
 
-total-at-requires : tie.Need-total-at-requires
-total-at-requires c κs = search needs
-
 slope-sum-requires : tie.Need-slope-sum-requires
-slope-sum-requires c κs = let s = c .before .pre .2 in (s .few, λ i l. s .within i l .elasticity-most)
+slope-sum-requires c κs = let s = c .pre .2 in (s .few, λ i l. s .within i l .elasticity-most)
 
 need-over-requires : tie.Need-need-over-requires
 need-over-requires c κs =
-    let b = c .before .before in
+    let b = c .before in
     let s = b .pre .2 in
     let a = b .args in
     let springs = springIn (a .largest .now) (a .least .now) (a .elasticity .now) in
@@ -34,7 +31,7 @@ need-over-requires c κs =
         few = s .few;
         within = s .within;
         saturates = s .saturates;
-        sum-most = omega (arith, c .before .total-at .ensures .sum-most, s .few);
+        sum-most = omega (arith, b .pre .3 .most, s .few);
         fall-some = omega (arith, e, something-falls springs _ _ _ (s .next));
         fall-most = omega (arith, c .slope-sum .ensures .most, s .few);
         slopes = λ i l. omega (arith, e, slope-within springs (a .n) (a .p) i l);
@@ -56,20 +53,19 @@ add-result c = search needs
 returns : tie.Need-returns
 returns c =
     let b = c .before .before in
-    let s = b .before .before in
-    divided-worked-out _ (springIn (s .args .largest .now) (s .args .least .now) (s .args .elasticity .now)) _ _ _ _ _ _ (s .pre .2 .next .above) (b .before .total-at .ensures .sum-is) (fallen b) (c .before .need-over .ensures) .0 (c .if1 .taken)
+    let s = b .before in
+    divided-worked-out _ (springIn (s .args .largest .now) (s .args .least .now) (s .args .elasticity .now)) _ _ _ _ _ _ (s .pre .2 .next .above) (s .pre .3 .is) (fallen b) (c .before .need-over .ensures) .0 (c .if1 .taken)
 
 returns-2 : tie.Need-returns-2
 returns-2 c =
     let b = c .before .before in
-    let s = b .before .before in
-    divided-worked-out _ (springIn (s .args .largest .now) (s .args .least .now) (s .args .elasticity .now)) _ _ _ _ _ _ (s .pre .2 .next .above) (b .before .total-at .ensures .sum-is) (fallen b) (c .before .need-over .ensures) .1 (c .if1 .left)
+    let s = b .before in
+    divided-worked-out _ (springIn (s .args .largest .now) (s .args .least .now) (s .args .elasticity .now)) _ _ _ _ _ _ (s .pre .2 .next .above) (s .pre .3 .is) (fallen b) (c .before .need-over .ensures) .1 (c .if1 .left)
 
 pub divide-spec : {M : Type 1} → statement M
 divide-spec =
     tie.close
     (tie.spec
-    total-at-requires
     slope-sum-requires
     need-over-requires
     sub-if1

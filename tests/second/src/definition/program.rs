@@ -7,7 +7,7 @@ use super::writer::write;
 
 /// "more than 714 bytes: refused as 11 at 714 if the first 714 read as a sheet of that length,
 /// else as the reader says of the whole"
-fn read_input(input: &[u8]) -> Result<Sheet, Refusal> {
+pub fn read_input(input: &[u8]) -> Result<Sheet, Refusal> {
     if input.len() > Sheet::MOST_BYTES && read(&input[..Sheet::MOST_BYTES]).is_ok() {
         return refuse(11, Sheet::MOST_BYTES);
     }
@@ -30,7 +30,11 @@ fn filled(input: &[u8]) -> Result<Vec<u8>, Refusal> {
 pub fn program(input: &[u8]) -> Vec<u8> {
     match filled(input) {
         Ok(output) => output,
-        // "On refusal it writes `refused N at P` and a newline."
-        Err(refusal) => format!("refused {} at {}\n", refusal.number, refusal.place).into_bytes(),
+        Err(refusal) => refusal_line(refusal),
     }
+}
+
+/// "On refusal it writes `refused N at P` and a newline."
+pub fn refusal_line(refusal: Refusal) -> Vec<u8> {
+    format!("refused {} at {}\n", refusal.number, refusal.place).into_bytes()
 }

@@ -1,5 +1,6 @@
 //! One random call: its kind, its settings, its table or sheet, its outputs.
 
+use super::clock_runs::random_run;
 use super::office_texts;
 use super::sheets::{damaged, overlong, random_results, random_sheet};
 use super::tables::{
@@ -9,6 +10,7 @@ use super::tables::{
 use super::wide_tables::random_wide;
 use crate::call::{present, Call, Rooms, Settings, Table, Writing};
 use crate::definition::kinds::{Record, Sheet};
+use crate::definition::program::program;
 use crate::definition::share::springs;
 use crate::random::Random;
 
@@ -20,15 +22,17 @@ pub fn random_call(random: &mut Random, index: usize) -> Call {
         return long_scan(random);
     }
     match random.between(0, 99) {
-        0..=24 => plain(random),
-        25..=49 => quick(random),
-        50..=63 => margin(random),
-        64..=70 => Call::Read(sheet(random)),
-        71..=77 => Call::Write(writing(random)),
-        78..=87 => Call::ChangeOver { standing: sheet(random), proposed: sheet(random) },
-        88..=92 => Call::Program(sheet(random)),
-        93..=94 => several_cores(random),
-        95..=97 => office_texts::import(random),
+        0..=20 => plain(random),
+        21..=41 => quick(random),
+        42..=53 => margin(random),
+        54..=59 => Call::Read(sheet(random)),
+        60..=65 => Call::Write(writing(random)),
+        66..=73 => Call::ChangeOver { standing: sheet(random), proposed: sheet(random) },
+        74..=79 => Call::Program(sheet(random)),
+        80..=84 => Call::Check(checked_sheet(random)),
+        85..=89 => Call::Clock(random_run(random)),
+        90..=93 => several_cores(random),
+        94..=97 => office_texts::import(random),
         _ => office_texts::export(random),
     }
 }
@@ -161,6 +165,22 @@ fn sheet(random: &mut Random) -> Vec<u8> {
         5 => overlong(random, &raw),
         _ => raw.bytes(),
     }
+}
+
+/// A sheet for the checker: mostly one that the program filled, as it is or with a byte changed; else any.
+fn checked_sheet(random: &mut Random) -> Vec<u8> {
+    let mut bytes = program(&sheet(random));
+    match random.between(0, 9) {
+        0..=1 => return sheet(random),
+        2..=6 => {
+            let last = bytes.len() - 1;
+            let place = if random.one_in(4) { 0 } else { last.saturating_sub(40) };
+            let at = random.between(place as u64, last as u64) as usize;
+            bytes[at] = bytes[at].wrapping_add(random.small(1, 255) as u8);
+        }
+        _ => {}
+    }
+    bytes
 }
 
 /// A record that nobody judges: a writer and a reader take any numbers.

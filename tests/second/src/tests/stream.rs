@@ -3,6 +3,7 @@
 use super::HALF_SPRING;
 use crate::answer::answer;
 use crate::call::{framed, Call, Rooms, Settings, Table, Writing, MOST_PAYLOAD};
+use crate::clock_run::MOST_CALLS;
 use crate::generator::Calls;
 use std::collections::BTreeSet;
 
@@ -61,11 +62,12 @@ fn the_rows_present_are_those_of_the_count_and_at_most_32() {
                 assert_eq!(writing.rows.len(), usize::from(writing.task_count).min(32));
                 assert_eq!(writing.results.len(), usize::from(writing.result_count).min(32));
             }
-            Call::Program(input) => assert!(input.len() <= 800),
+            Call::Program(input) | Call::Check(input) => assert!(input.len() <= 800),
             Call::Wide(table, rooms) => {
                 assert_eq!(table.rows.len(), usize::from(table.count).min(32));
                 assert!(rooms.periods <= 40 && rooms.processors <= 40);
             }
+            Call::Clock(run) => assert!(run.ticks.len() <= MOST_CALLS),
             Call::Export(exporting) => {
                 assert_eq!(exporting.rows.len(), usize::from(exporting.count).min(32));
                 assert!(exporting.room <= 1_500);
@@ -99,10 +101,10 @@ fn number_of(call: &Call, answer: &[u8]) -> u8 {
 }
 
 #[test]
-fn the_first_3500_calls_reach_every_number_that_a_call_can_give() {
+fn the_first_5000_calls_reach_every_number_that_a_call_can_give() {
     let calls = Calls::of_seed(1);
     let mut reached = vec![BTreeSet::new(); 13];
-    for index in 0..3_500 {
+    for index in 0..5_000 {
         let call = calls.call(index);
         reached[usize::from(call.kind())].insert(number_of(&call, &answer(&call)));
     }
@@ -115,8 +117,8 @@ fn the_first_3500_calls_reach_every_number_that_a_call_can_give() {
         &[0, 1],
         &[0, 1, 2, 3, 6, 7, 8, 9, 10, 11],
         &[0, 2, 3, 5, 6, 7],
-        &[],
-        &[],
+        &[0, 1, 2, 3, 6, 7, 8, 9, 10, 11, 18, 19],
+        &[0, 3, 17],
         &[0, 3, 5, 16],
         &[0, 3, 5],
     ];

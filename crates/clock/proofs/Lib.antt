@@ -1,0 +1,4 @@
+pub mod Wrap
+pub mod Greatest
+pub mod Starts
+pub mod Calls

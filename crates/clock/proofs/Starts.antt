@@ -1,0 +1,128 @@
+-- The start: which periods are taken, the clock that is started, and that no second answer fits.
+-- Assumes nothing.
+use Prim.Native.Nat.{ℕ, _+_, _≤_, _<_}
+use mathlib.Core.Bool.{Bool, true, false, not}
+use mathlib.Core.List.{List, _++_}
+use mathlib.Core.Path.{_≡_, refl, sym, ap, _∙_}
+use native.Mathlib.Omega.{arith}
+use lib.ListN.{length, getD, drop, replicate, length-append, length-drop, length-replicate}
+use borrow.Author.Tests.{leb-true, le-leb, lt-ltb, le-ltb}
+use Rattle.ground.specs.First.{IsFirst}
+use Rattle.ground.specs.Folds.{listTo}
+use Rattle.ground.proofs.Cases.{by-bool, by-le, true-false, both-true}
+use Rattle.ground.proofs.First.{first-is, first-here, first-more, first-none}
+use Rattle.ground.proofs.Buffer.{list-long, list-at}
+use Rattle.kinds.specs.declared.Refusal.the-variants.{TooManyTasks, BadPeriod}
+use Rattle.kinds.specs.Answer.{Handed, accepted, refused}
+use Rattle.kinds.specs.Limits.{longestPeriod, mostTasks}
+use Rattle.kinds.proofs.Answers.{not-refused}
+use Rattle.kinds.proofs.Refusals.{refusal-one}
+use Rattle.clock.specs.declared.Clock.{Clock}
+use Rattle.clock.specs.declared.Begin.{Begin}
+use Rattle.clock.specs.declared.Begin.the-variants as begin
+use Rattle.clock.specs.declared.Started.{Started}
+use Rattle.clock.specs.Start.{every, isPeriod, firstBad, noClock, padded, clockFrom, started, handedBy, handedStart}
+
+-- a period that is taken
+pub record Fair (ticks : ℕ) : Type 0 where
+  pub some : 1 ≤ ticks
+  pub most : ticks ≤ longestPeriod
+
+fair : (ticks : ℕ) → isPeriod ticks ≡ true → Fair ticks
+fair ticks e =
+    let b = both-true _ _ e in
+    record { some = leb-true 1 ticks (b .0); most = leb-true ticks longestPeriod (b .1) }
+
+-- the first bad one in words: those before it are taken, and it is not
+pub first-bad-is : (ps : List ℕ) → IsFirst (λ i. not (isPeriod (every ps i))) (length ps) (firstBad ps)
+unfolding firstBad
+first-bad-is ps = first-is (λ i. not (isPeriod (every ps i))) (length ps)
+
+-- the walk that finds it
+module _ (ps : List ℕ) (i : ℕ) (h : (j : ℕ) → j < i → not (isPeriod (every ps j)) ≡ false) where
+  pub bad-here : i < length ps → (b : Bool) → b ≡ isPeriod (every ps i) → not b ≡ true → i ≡ firstBad ps
+  unfolding firstBad
+  bad-here l b e t = first-here (λ j. not (isPeriod (every ps j))) (length ps) i h l (ap not (sym e) ∙ t)
+
+  pub bad-more : (b : Bool) → b ≡ isPeriod (every ps i) → not b ≡ false → (j : ℕ) → j < i + 1 → not (isPeriod (every ps j)) ≡ false
+  bad-more b e t = first-more (λ j. not (isPeriod (every ps j))) (length ps) i h (ap not (sym e) ∙ t)
+
+  pub bad-none : i ≡ length ps → length ps ≡ firstBad ps
+  unfolding firstBad
+  bad-none e = sym e ∙ first-none (λ j. not (isPeriod (every ps j))) (length ps) i h e
+
+-- periods that a clock starts with
+pub record Whole (ps : List ℕ) : Type 0 where
+  pub few : length ps ≤ mostTasks
+  pub fair : (i : ℕ) → i < length ps → Fair (every ps i)
+
+all-fair : (ps : List ℕ) → length ps ≤ firstBad ps → (i : ℕ) → i < length ps → Fair (every ps i)
+all-fair ps h i l =
+    fair (every ps i)
+    (by-bool (isPeriod (every ps i)) (λ g. g) (λ g. true-false (rw g) (first-bad-is ps .before i (omega arith))))
+
+-- the three answers
+module _ (ps : List ℕ) (tick : ℕ) where
+  pub started-many : mostTasks < length ps → refused noClock (TooManyTasks (length ps)) ≡ started ps tick
+  unfolding started
+  started-many h = rw (lt-ltb mostTasks (length ps) h)
+
+  pub started-bad : length ps ≤ mostTasks → firstBad ps < length ps → refused noClock (BadPeriod (firstBad ps)) ≡ started ps tick
+  unfolding started
+  started-bad h l = rw (le-ltb mostTasks (length ps) h, lt-ltb (firstBad ps) (length ps) l)
+
+  pub started-well : length ps ≤ mostTasks → length ps ≤ firstBad ps → accepted (clockFrom ps tick) ≡ started ps tick
+  unfolding started
+  started-well h l = rw (le-ltb mostTasks (length ps) h, le-ltb (firstBad ps) (length ps) l)
+
+  -- an accepted start is one of periods that are all taken
+  pub begun : started ps tick .number ≡ 0 → Whole ps
+  begun e =
+      by-le (length ps) mostTasks
+      (λ few. by-le (length ps) (firstBad ps)
+      (λ l. record { few = few; fair = all-fair ps l })
+      (λ l. absurd (omega (arith, e, ap (λ (x : Handed Clock). x .number) (started-bad few l)))))
+      (λ many. absurd (omega (arith, e, ap (λ (x : Handed Clock). x .number) (started-many many))))
+
+-- and such periods are never refused
+fair-is : (ticks : ℕ) → Fair ticks → isPeriod ticks ≡ true
+fair-is ticks f = rw (le-leb 1 ticks (f .some), le-leb ticks longestPeriod (f .most))
+
+none-bad : (ps : List ℕ) → Whole ps → length ps ≤ firstBad ps
+none-bad ps w =
+    by-le (length ps) (firstBad ps) (λ l. l)
+    (λ l. true-false (first-bad-is ps .there l) (ap not (fair-is (every ps (firstBad ps)) (w .fair (firstBad ps) l))))
+
+pub whole-started : (ps : List ℕ) (tick : ℕ) → Whole ps → started ps tick ≡ accepted (clockFrom ps tick)
+whole-started ps tick w = sym (started-well ps tick (w .few) (none-bad ps w))
+
+-- a clock's column of n numbers has room for the most tasks, and its numbers stand where they should
+pub padded-long : (f : ℕ → ℕ) (n : ℕ) → n ≤ mostTasks → length (padded f n) ≡ mostTasks
+padded-long f n h =
+    omega (arith, length-append {A = ℕ} (listTo f n) (drop n (replicate mostTasks 0)), list-long f n, length-drop {A = ℕ} n (replicate mostTasks 0), length-replicate {A = ℕ} mostTasks 0)
+
+pub padded-at : (f : ℕ → ℕ) (n i : ℕ) → i < n → getD (padded f n) i 0 ≡ f i
+padded-at f n i l = list-at f n i (drop n (replicate mostTasks 0)) l
+
+-- no second answer, nor a second clock
+begin-one : (v w : Begin) (x y : Clock) → handedBy v x ≡ handedBy w y → v ≡ w
+begin-one begin.Begun begin.Begun x y e = refl
+begin-one begin.Begun (begin.Refused r) x y e = not-refused x y r e
+begin-one (begin.Refused r) begin.Begun x y e = not-refused y x r (sym e)
+begin-one (begin.Refused r) (begin.Refused q) x y e =
+    ap begin.Refused (refusal-one r q (ap (λ (h : Handed Clock). h .number) e) (ap (λ (h : Handed Clock). h .place) e))
+
+value-is : (v : Begin) (x : Clock) → handedBy v x .value ≡ x
+value-is begin.Begun x = refl
+value-is (begin.Refused r) x = refl
+
+-- what is handed back tells the clock
+pub clock-is : (r : Started) → r .clock ≡ handedStart r .value
+clock-is r = sym (value-is (r .answer) (r .clock))
+
+pub start-one : (ps : List ℕ) (tick : ℕ) (r q : Started) → handedStart r ≡ started ps tick → handedStart q ≡ started ps tick → r ≡ q
+start-one ps tick r q e f =
+    let h : handedStart r ≡ handedStart q = e ∙ sym f in
+    let v = begin-one (r .answer) (q .answer) (r .clock) (q .clock) h in
+    let x : r .clock ≡ q .clock = clock-is r ∙ (ap (λ (g : Handed Clock). g .value) h ∙ sym (clock-is q)) in
+    λ i. record { answer = v i; clock = x i }

@@ -1,0 +1,63 @@
+-- `clock::first_bad` meets its contract. Assumes nothing.
+use Prim.Native.Nat.{ℕ, _-_, _≤_, _<_}
+use mathlib.Core.Bool.{false, not}
+use mathlib.Core.Path.{_≡_}
+use native.Mathlib.Omega.{arith}
+use lib.ListN.{length}
+use Rattle.clock.specs.Start.{every, isPeriod}
+use Rattle.clock.proofs.Starts.{bad-here, bad-more, bad-none}
+use Rattle.clock.proofs.first_bad.Statement.{statement}
+use Rattle.clock.proofs.first_bad.Tie as tie
+
+abbrev Inv-loop : tie.InvT-loop
+Inv-loop periods n i₀ i = (i ≤ length periods) × ((j : ℕ) → j < i → not (isPeriod (every periods j)) ≡ false)
+
+abbrev μ-loop : tie.MeasureT-loop
+μ-loop periods n i₀ i = length periods - i
+
+loop-holds : tie.Need-loop-holds Inv-loop μ-loop
+loop-holds c = (omega arith, λ j l. absurd (omega arith))
+
+mul-ticks : tie.Need-mul-ticks Inv-loop μ-loop
+mul-ticks c = omega arith
+
+shared-slice-read-ticks : tie.Need-shared-slice-read-ticks Inv-loop μ-loop
+shared-slice-read-ticks c = omega arith
+
+is-period-requires : tie.Need-is-period-requires Inv-loop μ-loop
+is-period-requires c κs = tt
+
+returns : tie.Need-returns Inv-loop μ-loop
+returns c =
+    let b = c .before .before .before .before in
+    bad-here (b .before .before .args .periods .now) (b .loop .i) (b .loop .inv .1) (omega arith) _ (c .before .is-period .ensures) (c .if1 .taken)
+
+add-i : tie.Need-add-i Inv-loop μ-loop
+add-i c = omega arith
+
+loop-less : tie.Need-loop-less Inv-loop μ-loop
+loop-less c = omega arith
+
+loop-again : tie.Need-loop-again Inv-loop μ-loop
+loop-again c =
+    let b = c .before .before .before .before in
+    (omega arith, bad-more (b .before .before .args .periods .now) (b .loop .i) (b .loop .inv .1) _ (c .before .is-period .ensures) (c .if1 .left))
+
+returns-2 : tie.Need-returns-2 Inv-loop μ-loop
+returns-2 c = bad-none _ _ (c .before .loop .inv .1) (omega arith)
+
+pub first-bad-spec : {M : Type 1} → statement M
+first-bad-spec =
+    tie.close
+    (tie.spec
+    Inv-loop
+    μ-loop
+    loop-holds
+    mul-ticks
+    shared-slice-read-ticks
+    is-period-requires
+    returns
+    add-i
+    loop-less
+    loop-again
+    returns-2)

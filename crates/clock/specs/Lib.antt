@@ -1,0 +1,3 @@
+pub mod Ticks
+pub mod Start
+pub mod Call

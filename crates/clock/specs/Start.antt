@@ -1,0 +1,56 @@
+-- The start of a clock: what it hands back, for every list of periods.
+-- Assumes nothing.
+use Prim.Native.Nat.{ℕ}
+use mathlib.Core.Bool.{Bool, not}
+use mathlib.Core.List.{List, _++_}
+use lib.Dec.{leb, ltb}
+use lib.ListN.{length, getD, drop, replicate}
+use Rattle.ground.specs.Choice.{pick, both}
+use Rattle.ground.specs.First.{firstBelow}
+use Rattle.ground.specs.Folds.{listTo}
+use Rattle.kinds.specs.declared.Refusal.the-variants.{TooManyTasks, BadPeriod}
+use Rattle.kinds.specs.Answer.{Handed, accepted, refused}
+use Rattle.kinds.specs.Limits.{longestPeriod, mostTasks}
+use Rattle.clock.specs.declared.Clock.{Clock}
+use Rattle.clock.specs.declared.Begin.{Begin}
+use Rattle.clock.specs.declared.Begin.the-variants as begin
+use Rattle.clock.specs.declared.Started.{Started}
+
+-- the period of task i
+abbrev pub every : List ℕ → ℕ → ℕ
+every periods i = getD periods i 0
+
+-- a period that a clock takes; the others are "0 or above 1,000,000,000"
+abbrev pub isPeriod : ℕ → Bool
+isPeriod ticks = both (leb 1 ticks) (leb ticks longestPeriod)
+
+-- the first period that it does not take; how many there are where it takes each
+unfoldable pub firstBad : List ℕ → ℕ
+firstBad periods = firstBelow (λ i. not (isPeriod (every periods i))) (length periods)
+
+-- a clock without tasks, all zeros
+abbrev pub noClock : Clock
+noClock = record { periods = replicate mostTasks 0; next = replicate mostTasks 0; n = 0 }
+
+-- n numbers; the unused places are zeros
+abbrev pub padded : (ℕ → ℕ) → ℕ → List ℕ
+padded f n = listTo f n ++ drop n (replicate mostTasks 0)
+
+-- Ask 12: "each task's next release is the starting tick"
+unfoldable pub clockFrom : List ℕ → ℕ → Clock
+clockFrom periods tick = record { periods = padded (every periods) (length periods); next = padded (λ i. tick) (length periods); n = length periods }
+
+-- Ask 12: more than 32 tasks "are refused by 3; at the start then the first period that is 0 or above 1,000,000,000 by 17 at its task"
+unfoldable pub started : List ℕ → ℕ → Handed Clock
+started periods tick =
+    pick (ltb mostTasks (length periods)) (refused noClock (TooManyTasks (length periods)))
+    (pick (ltb (firstBad periods) (length periods)) (refused noClock (BadPeriod (firstBad periods)))
+    (accepted (clockFrom periods tick)))
+
+-- an answer in document 01's numbers, with the clock beside it
+abbrev pub handedBy : Begin → Clock → Handed Clock
+handedBy begin.Begun c = accepted c
+handedBy (begin.Refused r) c = refused c r
+
+abbrev pub handedStart : Started → Handed Clock
+handedStart r = handedBy (r .answer) (r .clock)

@@ -1,0 +1,7 @@
+pub mod Unbroken
+pub mod Releases
+pub mod InStep
+pub mod Back
+pub mod Standing
+pub mod Practice
+pub mod Worked

@@ -1,0 +1,30 @@
+-- The tick stands still: the releases that wait, and the calls within which a task is handed back.
+-- Assumes nothing.
+use Prim.Native.Nat.{ℕ, zero, suc, _-_, _/_, _<_}
+use mathlib.Core.List.{[], _∷_}
+use mathlib.Core.Path.{_≡_}
+use lib.Dec.{leb}
+use Rattle.ground.specs.Choice.{pick}
+use Rattle.ground.specs.Folds.{sumTo}
+use Rattle.kinds.specs.Answer.{accepted}
+use Rattle.clock.specs.declared.Clock.{Clock}
+use Rattle.clock.specs.Call.{released, afterCall}
+
+-- how many of the releases first, first + period, first + 2 × period, … come at or before t
+unfoldable pub releasesBy : ℕ → ℕ → ℕ → ℕ
+releasesBy first period t = pick (leb first t) (suc ((t - first) / period)) 0
+
+-- "releases not yet handed back, over all tasks, that come at or before its own", for task j of n
+unfoldable pub waiting : ℕ → (ℕ → ℕ) → (ℕ → ℕ) → ℕ → ℕ
+waiting n period next j = sumTo (λ i. releasesBy (next i) (period i) (next j)) n
+
+-- the clock after so many calls with the tick standing still
+unfoldable pub afterCalls : ℕ → Clock → ℕ → Clock
+afterCalls zero c present = c
+afterCalls (suc calls) c present = afterCalls calls (afterCall c present) present
+
+-- one of the first `most` calls with the tick standing still hands back task j
+pub record HandedWithin (most : ℕ) (c : Clock) (present j : ℕ) : Type 0 where
+  pub calls : ℕ
+  pub soon : calls < most
+  pub handed : released (afterCalls calls c present) present ≡ accepted (j ∷ [])

@@ -1,0 +1,65 @@
+-- `quick::admit` meets its contract. Assumes nothing.
+use mathlib.Core.Path.{_≡_, refl, sym, _∙_}
+use borrow.Author.Tests.{lt-ltb, le-ltb}
+use Rattle.admission.specs.Admission.{admission}
+use Rattle.admission.proofs.Chain.{gate-passed}
+use Rattle.quick.proofs.Granting.{not-admitted, sprung-front}
+use borrow.Author.Needs.{needs}
+use Rattle.quick.proofs.admit.Statement.{statement}
+use Rattle.quick.proofs.admit.Tie as tie
+
+gate-of-requires : tie.Need-gate-of-requires
+gate-of-requires c κs = search needs
+
+enum-told : tie.Need-enum-told
+enum-told c = search needs
+
+enum-told-2 : tie.Need-enum-told-2
+enum-told-2 c = search needs
+
+returns : tie.Need-returns
+unfolding admission
+returns c =
+    let g = c .before .before in
+    record {
+      is = rw (← g .gate-of .ensures, c .enum-told2 .given .1);
+      sprung = λ e. not-admitted _ (c .enum-told2 .given .1) e;
+    }
+
+springs-of-requires : tie.Need-springs-of-requires
+springs-of-requires c κs =
+    let t = c .before .before .before .before in
+    let g = t .before .before in
+    (gate-passed _ _ _ _ _ (sym (g .gate-of .ensures) ∙ t .enum-told .given .1) .few, g .before .pre)
+
+returns-2 : tie.Need-returns-2
+unfolding admission
+returns-2 c =
+    let b = c .before in
+    let t = b .before .before .before .before .before in
+    record {
+      is = rw (← t .before .before .gate-of .ensures, t .enum-told .given .1, ← b .springs-of .ensures .first, lt-ltb _ _ (c .if1 .taken));
+      sprung = λ e. not-admitted _ refl e;
+    }
+
+returns-3 : tie.Need-returns-3
+unfolding admission
+returns-3 c =
+    let b = c .before in
+    let t = b .before .before .before .before .before in
+    record {
+      is = rw (← t .before .before .gate-of .ensures, t .enum-told .given .1, ← b .springs-of .ensures .first, le-ltb _ _ (c .if1 .left));
+      sprung = λ e. sprung-front _ _ _ _ (c .if1 .left) (b .springs-of .ensures .sprung);
+    }
+
+pub admit-spec : {M : Type 1} → statement M
+admit-spec =
+    tie.close
+    (tie.spec
+    gate-of-requires
+    enum-told
+    enum-told-2
+    returns
+    springs-of-requires
+    returns-2
+    returns-3)

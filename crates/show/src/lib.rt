@@ -1,0 +1,67 @@
+// Printing for the programs that run tables: words, numbers, a finder's answer, and two lent outputs up to the entry after the last task,
+// which shows whether it was written.
+use kinds::Answer;
+use libc::STDOUT_FILENO;
+
+// How many entries the programs lend: one more than a table may have tasks.
+pub const LENT: usize = 33;
+
+pub fn words(text: &[u8]) {
+    io::write_all(STDOUT_FILENO, text);
+}
+
+pub fn number(x: u32) {
+    io::write_all(STDOUT_FILENO, b" ");
+    io::print_decimal(STDOUT_FILENO, x as u64);
+}
+
+fn short_number(x: u16) {
+    number(x as u32);
+}
+
+// A step, or the number and the place of a refusal.
+pub fn answer(answer: Answer) {
+    match answer {
+        Answer::Accepted(step) => {
+            words(b" step");
+            number(step);
+        }
+        Answer::Refused(refusal) => {
+            words(b" refused");
+            number(refusal.number() as u32);
+            words(b" at ");
+            io::print_decimal(STDOUT_FILENO, refusal.place() as u64);
+        }
+    }
+}
+
+fn periods(n: usize, periods: &[u32; LENT]) {
+    words(b" periods");
+    let mut i: usize = 0;
+    while i < LENT {
+        if n < i {
+            return;
+        }
+        number(periods[i]);
+        i += 1;
+    }
+}
+
+// Processors, or core counts, after their name.
+fn counts(name: &[u8], n: usize, counts: &[u16; LENT]) {
+    words(name);
+    let mut i: usize = 0;
+    while i < LENT {
+        if n < i {
+            return;
+        }
+        short_number(counts[i]);
+        i += 1;
+    }
+}
+
+// Both outputs of a finder asked of n tasks.
+pub fn outputs(name: &[u8], n: usize, granted: &[u32; LENT], placed: &[u16; LENT]) {
+    periods(n, granted);
+    counts(name, n, placed);
+}
