@@ -20,7 +20,7 @@ use kinds::Task;
 use quick::Looked;
 
 // How many of n rows a table takes.
-fn capped(n: usize) -> usize
+pub fn capped(n: usize) -> usize
     ensures { λ r. ⌜ r ≡ min n mostTasks ⌝ }
 {
     if n < Table::MOST_TASKS {

@@ -3,6 +3,7 @@
 // Contracts cite `specs/Room`.
 mod ask;
 mod clocked;
+mod office_calls;
 mod tell;
 
 use ask::ByteField;
@@ -541,6 +542,8 @@ fn answer(s: &[u8], out: &mut [u8; ROOM]) -> usize
         8 => answer_wide(s, out),
         9 => answer_check(&s[KIND..], out),
         10 => clocked::answer_clock(s, KIND, out),
+        11 => office_calls::answer_import(s, out),
+        12 => office_calls::answer_export(s, out),
         _ => 0,
     }
 }

@@ -83,7 +83,7 @@ pub fn put_refused(out: &mut [u8; ROOM], at: usize, refusal: Refusal) -> usize
 }
 
 // A task record in 16 bytes.
-fn put_task(out: &mut [u8; ROOM], at: usize, row: Task) -> usize
+pub fn put_task(out: &mut [u8; ROOM], at: usize, row: Task) -> usize
     ensures { λ r. ⌜ r ≤ room ⌝ }
 {
     let at_tmin = put_long(out, at, row.c);

@@ -42,7 +42,7 @@ module _ (R : RattleType) (n : ℕ) where
   lent-at k γ xs b = record { ptr = (b, 0); name = γ; now = take k xs }
 
   module _ {M : Type 1} (𝓤 : URA M) (H : Heap 𝓤) (A : Atoms 𝓤) (W : Given 𝓤 H A) where
-    cut : (k : ℕ) (xs : List (R .Denot)) (b o : ℕ) → ent 𝓤 (sem 𝓤 H A (parts (mem R) (shares R) fullShare xs b o)) (sep 𝓤 (sem 𝓤 H A (parts (mem R) (shares R) fullShare (take k xs) b o)) (sem 𝓤 H A (left k xs b o)))
+    pub cut : (k : ℕ) (xs : List (R .Denot)) (b o : ℕ) → ent 𝓤 (sem 𝓤 H A (parts (mem R) (shares R) fullShare xs b o)) (sep 𝓤 (sem 𝓤 H A (parts (mem R) (shares R) fullShare (take k xs) b o)) (sem 𝓤 H A (left k xs b o)))
     cut zero xs b o = qed W (‵ (parts (mem R) (shares R) fullShare xs b o) ∷ []) ∵ nothing ! $ frame ! $ done !
     cut (suc k) [] b o = qed W (‵ (parts (mem R) (shares R) fullShare [] b o) ∷ []) ∵ nothing ! $ frame ! $ done !
     cut (suc k) (x ∷ xs) b o =

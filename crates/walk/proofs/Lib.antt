@@ -1,5 +1,6 @@
 pub mod Gets
 pub mod Thin
+pub mod ThinM
 pub mod ThinVmm
 pub mod ThinVv
 pub mod Item
@@ -7,4 +8,6 @@ pub mod Padding
 pub mod Tabled
 pub mod GatherRows
 pub mod Lends
+pub mod LendsMut
+pub mod LendM
 pub mod LendVmm

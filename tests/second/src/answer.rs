@@ -1,11 +1,12 @@
 //! The answer that document 01 gives to a call, in the bytes of the answer stream.
 
-use crate::call::{Call, Rooms, Table, WideTable, Writing};
+use crate::call::{Call, Exporting, Rooms, Table, WideTable, Writing};
 use crate::definition::change_over::{change_over, Which};
 use crate::definition::checked::{check, told};
 use crate::definition::finder::{plain, quick};
-use crate::definition::kinds::{Refusal, Sheet};
+use crate::definition::kinds::{Record, Refusal, Sheet};
 use crate::definition::margin::margin;
+use crate::definition::office::{export, import};
 use crate::definition::program::program;
 use crate::definition::reader::read;
 use crate::definition::wide::find_wide;
@@ -15,6 +16,8 @@ use crate::definition::writer::write;
 pub const PERIOD_SENTINEL: u32 = 0xA5A5_A5A5;
 pub const PROCESSOR_SENTINEL: u16 = 0x5A5A;
 pub const BUFFER_SENTINEL: u8 = 0xEE;
+pub const ROW_SENTINEL: Record =
+    Record::new(PERIOD_SENTINEL, PERIOD_SENTINEL, PERIOD_SENTINEL, PERIOD_SENTINEL);
 
 /// The number (0 when accepted) and the place (0 when accepted).
 pub fn put_verdict<T>(bytes: &mut Vec<u8>, answer: &Result<T, Refusal>) {
@@ -66,15 +69,19 @@ fn margin_answer(table: &Table, step: u32) -> Vec<u8> {
     bytes
 }
 
-fn put_sheet(bytes: &mut Vec<u8>, sheet: &Sheet) {
-    for number in [sheet.policy.number(), sheet.m, sheet.task_count, sheet.result_count] {
-        bytes.extend(number.to_le_bytes());
-    }
-    for row in &sheet.rows {
+fn put_rows(bytes: &mut Vec<u8>, rows: &[Record]) {
+    for row in rows {
         for number in [row.c, row.tmin, row.tmax, row.e] {
             bytes.extend(number.to_le_bytes());
         }
     }
+}
+
+fn put_sheet(bytes: &mut Vec<u8>, sheet: &Sheet) {
+    for number in [sheet.policy.number(), sheet.m, sheet.task_count, sheet.result_count] {
+        bytes.extend(number.to_le_bytes());
+    }
+    put_rows(bytes, &sheet.rows);
     for result in &sheet.results {
         bytes.extend(result.period.to_le_bytes());
         bytes.extend(result.processor.to_le_bytes());
@@ -129,6 +136,26 @@ fn check_answer(sheet: &[u8]) -> Vec<u8> {
     bytes
 }
 
+fn import_answer(entries: u8, text: &[u8]) -> Vec<u8> {
+    let mut output = vec![ROW_SENTINEL; usize::from(entries)];
+    let answer = import(text, &mut output);
+    let mut bytes = Vec::new();
+    put_verdict(&mut bytes, &answer);
+    bytes.extend(answer.unwrap_or(0).to_le_bytes());
+    put_rows(&mut bytes, &output);
+    bytes
+}
+
+fn export_answer(exporting: &Exporting) -> Vec<u8> {
+    let mut buffer = vec![BUFFER_SENTINEL; usize::from(exporting.room)];
+    let answer = export(usize::from(exporting.count), &exporting.rows, &mut buffer);
+    let mut bytes = Vec::new();
+    put_verdict(&mut bytes, &answer);
+    bytes.extend(answer.unwrap_or(0).to_le_bytes());
+    bytes.extend(buffer);
+    bytes
+}
+
 /// The answer's bytes, without their length.
 pub fn answer(call: &Call) -> Vec<u8> {
     match call {
@@ -142,5 +169,7 @@ pub fn answer(call: &Call) -> Vec<u8> {
         Call::Wide(table, rooms) => wide_answer(table, *rooms),
         Call::Check(sheet) => check_answer(sheet),
         Call::Clock(run) => run.answer(),
+        Call::Import { entries, text } => import_answer(*entries, text),
+        Call::Export(exporting) => export_answer(exporting),
     }
 }

@@ -51,6 +51,14 @@ pub struct Writing {
     pub results: Vec<Granted>,
 }
 
+/// The table that an export is asked to write, and the bytes of the lent output; of more than 32 tasks the stream has 32 rows.
+#[derive(Clone, Debug, PartialEq, Eq)]
+pub struct Exporting {
+    pub count: u16,
+    pub room: u16,
+    pub rows: Vec<Record>,
+}
+
 #[derive(Clone, Debug, PartialEq, Eq)]
 pub enum Call {
     Plain(Table, Rooms),
@@ -63,10 +71,12 @@ pub enum Call {
     Wide(WideTable, Rooms),
     Check(Vec<u8>),
     Clock(Run),
+    Import { entries: u8, text: Vec<u8> },
+    Export(Exporting),
 }
 
 /// The names of the kinds of call, from kind 1.
-pub const KIND_NAMES: [&str; 10] = [
+pub const KIND_NAMES: [&str; 12] = [
     "plain finder",
     "quick finder",
     "margin",
@@ -77,6 +87,8 @@ pub const KIND_NAMES: [&str; 10] = [
     "several cores",
     "check",
     "release clock",
+    "import",
+    "export",
 ];
 
 /// The rows or results that the stream has of a count.
@@ -212,6 +224,8 @@ impl Call {
             Call::Wide(..) => 8,
             Call::Check(..) => 9,
             Call::Clock(..) => 10,
+            Call::Import { .. } => 11,
+            Call::Export(..) => 12,
         }
     }
 
@@ -238,6 +252,15 @@ impl Call {
             Call::Wide(table, rooms) => put_wide(&mut bytes, table, *rooms),
             Call::Check(sheet) => bytes.extend(sheet),
             Call::Clock(run) => run.put(&mut bytes),
+            Call::Import { entries, text } => {
+                bytes.push(*entries);
+                bytes.extend(text);
+            }
+            Call::Export(exporting) => {
+                bytes.extend(exporting.count.to_le_bytes());
+                bytes.extend(exporting.room.to_le_bytes());
+                put_rows(&mut bytes, &exporting.rows);
+            }
         }
         bytes
     }

@@ -8,6 +8,7 @@ pub mod clock;
 pub mod finder;
 pub mod kinds;
 pub mod margin;
+pub mod office;
 pub mod policy;
 pub mod program;
 pub mod reader;

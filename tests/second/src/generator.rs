@@ -6,9 +6,11 @@ mod clock_runs;
 mod edges_of_checked;
 pub mod edges_of_clock;
 mod edges_of_finders;
+pub mod edges_of_office;
 mod edges_of_sheets;
 pub mod edges_of_wide;
 mod mix;
+mod office_texts;
 pub mod sheets;
 mod tables;
 mod wide_tables;
@@ -29,6 +31,7 @@ impl Calls {
         fixed.extend(edges_of_wide::calls());
         fixed.extend(edges_of_checked::calls());
         fixed.extend(edges_of_clock::calls());
+        fixed.extend(edges_of_office::calls());
         Calls { seed, fixed }
     }
 

@@ -1,6 +1,6 @@
 //! Calls and answers in words, for the reader of a difference.
 
-use crate::answer::{BUFFER_SENTINEL, PERIOD_SENTINEL, PROCESSOR_SENTINEL};
+use crate::answer::{BUFFER_SENTINEL, PERIOD_SENTINEL, PROCESSOR_SENTINEL, ROW_SENTINEL};
 use crate::call::{Call, Rooms, Settings, Table, WideTable, KIND_NAMES};
 use crate::clock_run::released_text;
 use crate::definition::kinds::{Granted, Record, MOST_TASKS};
@@ -91,6 +91,16 @@ pub fn call_text(call: &Call) -> String {
             text.push_str(&rooms_line(*rooms));
         }
         Call::Clock(run) => text.push_str(&run.text()),
+        Call::Import { entries, text: lines } => {
+            let _ = writeln!(text, "  room: {entries} rows");
+            let _ = writeln!(text, "  text: {:?}", String::from_utf8_lossy(lines));
+        }
+        Call::Export(exporting) => {
+            let _ = writeln!(text, "  count {}, room {} bytes", exporting.count, exporting.room);
+            for (index, row) in exporting.rows.iter().enumerate() {
+                text.push_str(&record_line(index, row));
+            }
+        }
     }
     text
 }
@@ -161,6 +171,20 @@ impl<'a> Fields<'a> {
         Some(text)
     }
 
+    /// The rows of a lent output; one that holds its sentinel is left out.
+    fn rows(&mut self, count: u8) -> Option<String> {
+        let mut text = String::new();
+        for index in 0..usize::from(count) {
+            let mut number = || Some(self.number(4)? as u32);
+            let row = Record::new(number()?, number()?, number()?, number()?);
+            if row != ROW_SENTINEL {
+                text.push_str(&record_line(index, &row));
+            }
+        }
+        text.push_str("  all other rows are kept\n");
+        Some(text)
+    }
+
     fn buffer(&mut self, room: u16) -> Option<String> {
         let buffer = self.take(usize::from(room))?;
         let kept = buffer.iter().rev().take_while(|byte| **byte == BUFFER_SENTINEL).count();
@@ -206,6 +230,15 @@ fn fields_text(call: &Call, answer: &[u8]) -> Option<String> {
             )
         }
         Call::ChangeOver { .. } => fields.change_over()?,
+        Call::Import { entries, .. } => {
+            let verdict = fields.verdict()?;
+            format!("{verdict}  imported {} rows\n{}", fields.number(2)?, fields.rows(*entries)?)
+        }
+        Call::Export(exporting) => {
+            let verdict = fields.verdict()?;
+            let written = fields.number(2)?;
+            format!("{verdict}  written {written} bytes\n{}", fields.buffer(exporting.room)?)
+        }
         Call::Program(_) => program_text(fields.take(answer.len())?),
         Call::Check(_) => {
             format!("{}{}", fields.verdict()?, program_text(fields.take(fields.rest.len())?))

@@ -3,6 +3,7 @@
 mod bench;
 mod clock;
 mod finders;
+mod office;
 mod sheets;
 mod stream;
 mod wide;

@@ -1,6 +1,7 @@
 //! One random call: its kind, its settings, its table or sheet, its outputs.
 
 use super::clock_runs::random_run;
+use super::office_texts;
 use super::sheets::{damaged, overlong, random_results, random_sheet};
 use super::tables::{
     crossing, exact, exact_first_fit, general, huge, spoil, telling_step, tied, turning_step,
@@ -21,16 +22,18 @@ pub fn random_call(random: &mut Random, index: usize) -> Call {
         return long_scan(random);
     }
     match random.between(0, 99) {
-        0..=21 => plain(random),
-        22..=43 => quick(random),
-        44..=55 => margin(random),
-        56..=61 => Call::Read(sheet(random)),
-        62..=68 => Call::Write(writing(random)),
-        69..=77 => Call::ChangeOver { standing: sheet(random), proposed: sheet(random) },
-        78..=84 => Call::Program(sheet(random)),
-        85..=89 => Call::Check(checked_sheet(random)),
-        90..=94 => Call::Clock(random_run(random)),
-        _ => several_cores(random),
+        0..=20 => plain(random),
+        21..=41 => quick(random),
+        42..=53 => margin(random),
+        54..=59 => Call::Read(sheet(random)),
+        60..=65 => Call::Write(writing(random)),
+        66..=73 => Call::ChangeOver { standing: sheet(random), proposed: sheet(random) },
+        74..=79 => Call::Program(sheet(random)),
+        80..=84 => Call::Check(checked_sheet(random)),
+        85..=89 => Call::Clock(random_run(random)),
+        90..=93 => several_cores(random),
+        94..=97 => office_texts::import(random),
+        _ => office_texts::export(random),
     }
 }
 

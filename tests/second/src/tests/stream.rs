@@ -68,6 +68,11 @@ fn the_rows_present_are_those_of_the_count_and_at_most_32() {
                 assert!(rooms.periods <= 40 && rooms.processors <= 40);
             }
             Call::Clock(run) => assert!(run.ticks.len() <= MOST_CALLS),
+            Call::Export(exporting) => {
+                assert_eq!(exporting.rows.len(), usize::from(exporting.count).min(32));
+                assert!(exporting.room <= 1_500);
+            }
+            Call::Import { entries, .. } => assert!(entries <= 40),
             Call::Read(_) | Call::ChangeOver { .. } => {}
         }
     }
@@ -98,12 +103,12 @@ fn number_of(call: &Call, answer: &[u8]) -> u8 {
 #[test]
 fn the_first_5000_calls_reach_every_number_that_a_call_can_give() {
     let calls = Calls::of_seed(1);
-    let mut reached = vec![BTreeSet::new(); 11];
+    let mut reached = vec![BTreeSet::new(); 13];
     for index in 0..5_000 {
         let call = calls.call(index);
         reached[usize::from(call.kind())].insert(number_of(&call, &answer(&call)));
     }
-    let expected: [&[u8]; 10] = [
+    let expected: [&[u8]; 12] = [
         &[0, 1, 2, 3, 5, 6, 7],
         &[0, 1, 2, 3, 4, 5, 6, 7],
         &[0, 1, 2, 3, 4, 6],
@@ -114,6 +119,8 @@ fn the_first_5000_calls_reach_every_number_that_a_call_can_give() {
         &[0, 2, 3, 5, 6, 7],
         &[0, 1, 2, 3, 6, 7, 8, 9, 10, 11, 18, 19],
         &[0, 3, 17],
+        &[0, 3, 5, 16],
+        &[0, 3, 5],
     ];
     for (index, numbers) in expected.iter().enumerate() {
         assert_eq!(reached[index + 1], numbers.iter().copied().collect(), "kind {}", index + 1);

@@ -1,0 +1,44 @@
+-- `clerk::put_unfilled` meets its contract: the sheet is never refused. Assumes nothing.
+use Rattle.clerk.proofs.Entering.{unrefused, sheet-fronts}
+use borrow.Author.Needs.{needs}
+use Rattle.clerk.proofs.put_unfilled.Statement.{statement}
+use Rattle.clerk.proofs.put_unfilled.Tie as tie
+
+of-requires : tie.Need-of-requires
+of-requires c κs = search needs
+
+write-requires : tie.Need-write-requires
+write-requires c κs = search needs
+
+enum-known-k : tie.Need-enum-known-k
+enum-known-k c = search needs
+
+enum-told : tie.Need-enum-told
+enum-told c = search needs
+
+same-length : tie.Need-same-length
+same-length c = search needs
+
+returns : tie.Need-returns
+returns c =
+    unrefused (c .before .before .before .before .before .before .before .before .args .policy) (c .before .before .before .before .before .before .before .before .args .m) (c .before .before .before .before .before .before .before .before .args .table) (c .before .before .before .before .before .before .before .before .pre .0) _ _ (c .before .before .before .before .before .before .before .before .pre .1) _ (rw (c .before .before .before .before .before .before .of .ensures, c .enum-told .given .1) at (c .before .before .before .before .write .ensures))
+
+same-length-2 : tie.Need-same-length-2
+same-length-2 c = search needs
+
+returns-2 : tie.Need-returns-2
+returns-2 c =
+    sheet-fronts (c .before .before .before .before .before .before .before .before .before .args .policy) (c .before .before .before .before .before .before .before .before .before .args .m) (c .before .before .before .before .before .before .before .before .before .args .table) (c .before .before .before .before .before .before .before .before .before .pre .0) _ _ (c .before .before .before .before .before .before .before .before .before .pre .1) _ (rw (c .before .before .before .before .before .before .before .of .ensures, c .before .k .given .1) at (c .before .before .before .before .before .write .ensures))
+
+pub put-unfilled-spec : {M : Type 1} → statement M
+put-unfilled-spec =
+    tie.close
+    (tie.spec
+    of-requires
+    write-requires
+    enum-known-k
+    enum-told
+    same-length
+    returns
+    same-length-2
+    returns-2)

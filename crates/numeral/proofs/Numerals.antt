@@ -1,0 +1,158 @@
+-- The scanner takes exactly the texts of numbers: what it reads stands there as the number's text (`numeral-got`), and a number's text is
+-- read as that number (`numeral-back`).
+-- Assumes nothing.
+use Prim.Native.Nat.{ℕ, suc, _+_, _≤_, _<_}
+use mathlib.Core.Bool.{true, false}
+use mathlib.Core.List.{List, [], _∷_, _++_, append-nil}
+use mathlib.Core.Path.{_≡_, refl, sym, ap, _∙_}
+use native.Mathlib.Numerals.{add-one}
+use native.Mathlib.Omega.{arith}
+use lib.Dec.{leb, eqb}
+use lib.ListN.{length, getD, drop, drop-of-length-le}
+use lib.Seq.{drop-cons, drop-drop, getD-drop, getD-append-seam, drop-append-add}
+use borrow.Author.Tests.{leb-true, leb-false, le-leb, eqb-true, eqb-false, eq-eqb}
+use Rattle.ground.proofs.Cases.{by-bool}
+use Rattle.numeral.specs.declared.Numeral.the-variants.{Is, Bad}
+use Rattle.numeral.specs.Decimal.{decimal}
+use Rattle.numeral.specs.Scan.{mostNumber, isDigit, digits, digitsAt, valueFrom, valueAt, pastDigits, plain, numeralAt, numeralIn}
+use Rattle.numeral.proofs.Scan.{within, not-plain, too-large, other-end, whole}
+use Rattle.numeral.proofs.OneText.{AllDigits, own-text, decimal-digits, decimal-plain, decimal-value}
+
+digits-cons : (b : ℕ) (s : List ℕ) → isDigit b ≡ true → digits (b ∷ s) ≡ b ∷ digits s
+unfolding digits
+digits-cons b s e = simp e
+
+digits-stop : (b : ℕ) (s : List ℕ) → isDigit b ≡ false → digits (b ∷ s) ≡ []
+unfolding digits
+digits-stop b s e = simp e
+
+front-by : (b : ℕ) (s : List ℕ) → AllDigits (digits s) → AllDigits (digits (b ∷ s))
+front-by b s f =
+    by-bool (isDigit b) (λ e. rw (digits-cons b s e) (e, f)) (λ e. rw (digits-stop b s e) tt)
+
+front-digits : (s : List ℕ) → AllDigits (digits s)
+unfolding digits
+front-digits [] = tt
+front-digits (b ∷ s) = front-by b s (front-digits s)
+
+split-by : (b : ℕ) (s : List ℕ) → s ≡ digits s ++ drop (length (digits s)) s → b ∷ s ≡ digits (b ∷ s) ++ drop (length (digits (b ∷ s))) (b ∷ s)
+unfolding digits
+split-by b s h = by-bool (isDigit b) (λ e. simp e (ap (λ (x : List ℕ). b ∷ x) h)) (λ e. simp e)
+
+-- a text is its digits and what follows them
+digits-then : (s : List ℕ) → s ≡ digits s ++ drop (length (digits s)) s
+unfolding digits
+digits-then [] = refl
+digits-then (b ∷ s) = split-by b s (digits-then s)
+
+-- digits before another byte are the digits at the front
+digits-of : (ds : List ℕ) (b : ℕ) (r : List ℕ) → AllDigits ds → isDigit b ≡ false → digits (ds ++ (b ∷ r)) ≡ ds
+digits-of [] b r f e = digits-stop b r e
+digits-of (d ∷ ds) b r f e =
+    digits-cons d (ds ++ (b ∷ r)) (f .0) ∙ ap (λ (x : List ℕ). d ∷ x) (digits-of ds b r (f .1) e)
+
+-- a number that was read: its text stands there, then the byte that ends it, then the rest
+pub record Got (s : List ℕ) (at end v next : ℕ) : Type 0 where
+  pub small : v ≤ mostNumber
+  pub text : drop at s ≡ decimal v ++ (end ∷ drop next s)
+  pub on : at < next
+  pub inside : next ≤ length s
+
+module _ (s : List ℕ) (at end : ℕ) (z : 0 < end) where
+  there : plain (digitsAt s at) ≡ true → valueAt s at ≤ mostNumber → getD s (pastDigits s at) 0 ≡ end
+      → Got s at end (valueAt s at) (pastDigits s at + 1)
+  there p q e =
+      let h : pastDigits s at < length s = within s (pastDigits s at) (omega arith) in
+      let f : drop (pastDigits s at) s ≡ end ∷ drop (pastDigits s at + 1) s =
+      drop-cons s (pastDigits s at) 0 h
+      ∙ (ap (λ (x : ℕ). x ∷ drop (suc (pastDigits s at)) s) e
+      ∙ ap (λ (k : ℕ). end ∷ drop k s) (sym (add-one (pastDigits s at)))) in
+      record {
+        small = q;
+        text =
+            digits-then (drop at s)
+            ∙ (ap (λ (x : List ℕ). digitsAt s at ++ x) (drop-drop (length (digitsAt s at)) at s ∙ f)
+            ∙ ap (λ (x : List ℕ). x ++ (end ∷ drop (pastDigits s at + 1) s)) (sym (own-text (digitsAt s at) (front-digits (drop at s)) p)));
+        on = omega arith;
+        inside = omega arith;
+      }
+
+  pub numeral-got : (v next : ℕ) → numeralAt s at end ≡ Is v next → Got s at end v next
+  numeral-got v next k =
+      by-bool (plain (digitsAt s at))
+      (λ p. by-bool (leb (valueAt s at) mostNumber)
+      (λ q. by-bool (eqb (getD s (pastDigits s at) 0) end)
+      (λ e.
+      let w = whole s at end p (leb-true _ _ q) (eqb-true _ _ e) in
+      let x : valueAt s at ≡ v = cc in
+      let y : pastDigits s at + 1 ≡ next = cc in
+      rw (← x, ← y) (there p (leb-true _ _ q) (eqb-true _ _ e)))
+      (λ e. never (other-end s at end p (leb-true _ _ q) (eqb-false _ _ e))))
+      (λ q. never (too-large s at end p (leb-false _ _ q))))
+      (λ p. never (not-plain s at end p))
+    where
+      never : numeralAt s at end ≡ Bad → Got s at end v next
+      never w = absurd (let t : _≡_ {A = ℕ} 0 1 = cc in omega arith)
+
+-- a number's text, and the byte that ends it, are read as that number
+module _ (s : List ℕ) (at end v : ℕ) (rest : List ℕ) (n : isDigit end ≡ false) (h : v ≤ mostNumber) (t : drop at s ≡ decimal v ++ (end ∷ rest)) where
+  its-digits : digitsAt s at ≡ decimal v
+  its-digits = ap digits t ∙ digits-of (decimal v) end rest (decimal-digits v) n
+
+  its-end : getD s (pastDigits s at) 0 ≡ end
+  its-end =
+      sym (getD-drop at s (length (digitsAt s at)) 0)
+      ∙ (ap (λ (x : List ℕ). getD x (length (digitsAt s at)) 0) t
+      ∙ (ap (λ (x : List ℕ). getD (decimal v ++ (end ∷ rest)) (length x) 0) its-digits
+      ∙ getD-append-seam (decimal v) end rest 0))
+
+  its-value : valueAt s at ≡ v
+  its-value = ap (valueFrom 0) its-digits ∙ decimal-value v
+
+  pub numeral-back : numeralAt s at end ≡ Is v (at + length (decimal v) + 1)
+  numeral-back =
+      let w = whole s at end (ap plain its-digits ∙ decimal-plain v) (let x = its-value in omega arith) its-end in
+      let x = its-value in
+      let y : pastDigits s at + 1 ≡ at + length (decimal v) + 1 = ap (λ (l : List ℕ). at + length l + 1) its-digits in
+      cc
+
+  pub rest-back : drop (at + length (decimal v) + 1) s ≡ rest
+  rest-back =
+      let e : at + (length (decimal v) + 1) ≡ at + length (decimal v) + 1 = omega arith in
+      ap (λ (k : ℕ). drop k s) (sym e)
+      ∙ (sym (drop-drop (length (decimal v) + 1) at s)
+      ∙ (ap (drop (length (decimal v) + 1)) t ∙ drop-append-add (decimal v) (end ∷ rest) 1))
+
+-- a whole text that is read is the number's text, and a number's text is read as that number
+pub whole-got : (s : List ℕ) (v next : ℕ) → numeralIn s ≡ Is v next → (v ≤ mostNumber) × (s ≡ decimal v)
+unfolding numeralIn
+whole-got s v next k =
+    by-bool (plain (digitsAt s 0))
+    (λ p. by-bool (leb (valueAt s 0) mostNumber)
+    (λ q. by-bool (eqb (pastDigits s 0) (length s))
+    (λ e.
+    let j : Is (valueAt s 0) (length s) ≡ Is v next = (rw (p, q, e) at k) in
+    let x : valueAt s 0 ≡ v = cc in
+    let l : length (digits s) ≡ length s = (let z : pastDigits s 0 ≡ length s = eqb-true (pastDigits s 0) (length s) e in omega arith) in
+    let none : drop (length (digits s)) s ≡ [] = drop-of-length-le s {i = length (digits s)} (omega arith) in
+    let all : digits s ≡ s = sym (digits-then s ∙ (ap (λ (r : List ℕ). digits s ++ r) none ∙ append-nil (digits s))) in
+    (rw (← x) (leb-true _ _ q), sym all ∙ (sym (own-text (digits s) (front-digits s) p) ∙ ap decimal x)))
+    (λ e. never (rw (p, q, e) at k)))
+    (λ q. never (rw (p, q) at k)))
+    (λ p. never (rw p at k))
+  where
+    never : {B : Type 0} → Bad ≡ Is v next → B
+    never w = absurd (let t : _≡_ {A = ℕ} 0 1 = cc in omega arith)
+
+all-of : (ds : List ℕ) → AllDigits ds → digits ds ≡ ds
+unfolding digits
+all-of [] f = refl
+all-of (d ∷ ds) f = digits-cons d ds (f .0) ∙ ap (λ (x : List ℕ). d ∷ x) (all-of ds (f .1))
+
+pub whole-back : (v : ℕ) → v ≤ mostNumber → numeralIn (decimal v) ≡ Is v (length (decimal v))
+unfolding numeralIn
+whole-back v h =
+    let d = all-of (decimal v) (decimal-digits v) in
+    let p = decimal-plain v in
+    let x = decimal-value v in
+    rw (d, p, x, le-leb v mostNumber h, eq-eqb (0 + length (decimal v)) (length (decimal v)) (omega arith))

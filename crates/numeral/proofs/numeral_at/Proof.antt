@@ -1,0 +1,60 @@
+-- `numeral::numeral_at` meets its contract. Assumes nothing.
+use Prim.Native.Nat.{_<_}
+use lib.ListN.{length}
+use borrow.Author.Tests.{not-true, not-false}
+use native.Mathlib.Omega.{arith}
+use mathlib.Core.Path.{sym, _∙_}
+use lib.ListN.{getD}
+use Rattle.numeral.proofs.Scan.{within, not-plain, read-large, read-other, read-whole}
+use borrow.Author.Needs.{needs}
+use Rattle.numeral.proofs.numeral_at.Statement.{statement}
+use Rattle.numeral.proofs.numeral_at.Tie as tie
+
+run-at-requires : tie.Need-run-at-requires
+run-at-requires c κs = search needs
+
+is-plain-requires : tie.Need-is-plain-requires
+is-plain-requires c κs = search needs
+
+returns : tie.Need-returns
+returns c = sym (not-plain _ _ _ (sym (c .before .is-plain .ensures) ∙ not-true _ (c .if1 .taken)))
+
+returns-2 : tie.Need-returns-2
+returns-2 c =
+    sym (read-large _ _ _ _ (c .before .before .before .run-at .ensures) (sym (c .before .before .is-plain .ensures) ∙ not-false _ (c .before .if1 .left)) (c .if2 .taken))
+
+byte-at-requires : tie.Need-byte-at-requires
+byte-at-requires c κs = search needs
+
+returns-3 : tie.Need-returns-3
+returns-3 c =
+    sym (read-other _ _ _ _ (c .before .before .before .before .before .run-at .ensures) (sym (c .before .before .before .before .is-plain .ensures) ∙ not-false _ (c .before .before .before .if1 .left)) (c .before .before .if2 .left) _ (c .before .byte-at .ensures) (c .if3 .taken))
+
+cast-t10 : tie.Need-cast-t10
+cast-t10 c = search needs
+
+add-t11 : tie.Need-add-t11
+add-t11 c =
+    let s = c .before .before .before .before .before .before .before .args .s .now in
+    let i = c .before .before .before .before .before .run-at .result .next in
+    let h : 0 < getD s i 0 = omega (arith, c .before .byte-at .ensures, c .if3 .left, c .before .before .before .before .before .before .before .pre) in
+    let w : i < length s = within s i h in
+    omega arith
+
+returns-4 : tie.Need-returns-4
+returns-4 c =
+    read-whole _ _ _ _ (c .before .before .before .before .before .run-at .ensures) (sym (c .before .before .before .before .is-plain .ensures) ∙ not-false _ (c .before .before .before .if1 .left)) (c .before .before .if2 .left) _ (c .before .byte-at .ensures) (c .if3 .left)
+
+pub numeral-at-spec : {M : Type 1} → statement M
+numeral-at-spec =
+    tie.close
+    (tie.spec
+    run-at-requires
+    is-plain-requires
+    returns
+    returns-2
+    byte-at-requires
+    returns-3
+    cast-t10
+    add-t11
+    returns-4)

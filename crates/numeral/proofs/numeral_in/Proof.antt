@@ -1,0 +1,36 @@
+-- `numeral::numeral_in` meets its contract. Assumes nothing.
+use borrow.Author.Tests.{not-true, not-false}
+use mathlib.Core.Path.{sym, _∙_}
+use Rattle.numeral.proofs.Scan.{in-not-plain, in-large, in-longer, in-whole}
+use borrow.Author.Needs.{needs}
+use Rattle.numeral.proofs.numeral_in.Statement.{statement}
+use Rattle.numeral.proofs.numeral_in.Tie as tie
+
+run-at-requires : tie.Need-run-at-requires
+run-at-requires c κs = search needs
+
+is-plain-requires : tie.Need-is-plain-requires
+is-plain-requires c κs = search needs
+
+returns : tie.Need-returns
+returns c = sym (in-not-plain _ (sym (c .before .is-plain .ensures) ∙ not-true _ (c .if1 .taken)))
+
+returns-2 : tie.Need-returns-2
+returns-2 c =
+    sym (in-large _ _ (c .before .before .before .run-at .ensures) (sym (c .before .before .is-plain .ensures) ∙ not-false _ (c .before .if1 .left)) (c .if2 .taken))
+
+returns-3 : tie.Need-returns-3
+returns-3 c =
+    sym (in-longer _ _ (c .before .before .before .before .run-at .ensures) (sym (c .before .before .before .is-plain .ensures) ∙ not-false _ (c .before .before .if1 .left)) (c .before .if2 .left) (c .if3 .taken))
+
+cast-t8 : tie.Need-cast-t8
+cast-t8 c = search needs
+
+returns-4 : tie.Need-returns-4
+returns-4 c =
+    in-whole _ _ (c .before .before .before .before .run-at .ensures) (sym (c .before .before .before .is-plain .ensures) ∙ not-false _ (c .before .before .if1 .left)) (c .before .if2 .left) (c .if3 .left)
+
+pub numeral-in-spec : {M : Type 1} → statement M
+numeral-in-spec =
+    tie.close
+    (tie.spec run-at-requires is-plain-requires returns returns-2 returns-3 cast-t8 returns-4)

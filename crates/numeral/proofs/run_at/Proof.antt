@@ -1,0 +1,61 @@
+-- `numeral::run_at` meets its contract: what is left of the run gives the whole. Assumes nothing.
+use borrow.Author.Needs.{needs}
+use borrow.Author.Tests.{not-true, not-false}
+use native.Mathlib.Omega.{arith}
+use mathlib.Core.Path.{sym, _∙_}
+use Prim.Native.Nat.{_-_, _<_}
+use lib.ListN.{length}
+use Rattle.numeral.proofs.Scan.{Going, going-none, going-more, going-end, digit-within}
+use Rattle.numeral.proofs.run_at.Statement.{statement}
+use Rattle.numeral.proofs.run_at.Tie as tie
+
+abbrev Inv-loop : tie.InvT-loop
+Inv-loop s at value₀ next₀ value next = Going s at value next
+
+abbrev μ-loop : tie.MeasureT-loop
+μ-loop s at value₀ next₀ value next = length s - next
+
+loop-holds : tie.Need-loop-holds Inv-loop μ-loop
+loop-holds c = going-none _ _
+
+byte-at-requires : tie.Need-byte-at-requires Inv-loop μ-loop
+byte-at-requires c κs = search needs
+
+is-digit-requires : tie.Need-is-digit-requires Inv-loop μ-loop
+is-digit-requires c κs = search needs
+
+grown-requires : tie.Need-grown-requires Inv-loop μ-loop
+grown-requires c κs = (c .before .before .before .loop .inv .low, sym (c .before .is-digit .ensures) ∙ not-false _ (c .if1 .left))
+
+add-next : tie.Need-add-next Inv-loop μ-loop
+add-next c =
+    let w : c .before .before .before .before .loop .next < length (c .before .before .before .before .before .before .args .s .now) = digit-within (c .before .before .before .before .before .before .args .s .now) (c .before .before .before .before .loop .next) (c .before .before .before .byte-at .result) (c .before .before .before .byte-at .ensures) (sym (c .before .before .is-digit .ensures) ∙ not-false _ (c .before .if1 .left)) in
+    omega arith
+
+loop-less : tie.Need-loop-less Inv-loop μ-loop
+loop-less c =
+    let w : c .before .before .before .before .loop .next < length (c .before .before .before .before .before .before .args .s .now) = digit-within (c .before .before .before .before .before .before .args .s .now) (c .before .before .before .before .loop .next) (c .before .before .before .byte-at .result) (c .before .before .before .byte-at .ensures) (sym (c .before .before .is-digit .ensures) ∙ not-false _ (c .before .if1 .left)) in
+    omega arith
+
+loop-again : tie.Need-loop-again Inv-loop μ-loop
+loop-again c =
+    going-more _ _ _ _ _ (c .before .before .before .before .loop .inv) (c .before .before .before .byte-at .ensures) (sym (c .before .before .is-digit .ensures) ∙ not-false _ (c .before .if1 .left)) _ (c .grown .ensures)
+
+returns : tie.Need-returns Inv-loop μ-loop
+returns c =
+    going-end _ _ _ _ _ (c .before .before .before .loop .inv) (c .before .before .byte-at .ensures) (sym (c .before .is-digit .ensures) ∙ not-true _ (c .if1 .taken))
+
+pub run-at-spec : {M : Type 1} → statement M
+run-at-spec =
+    tie.close
+    (tie.spec
+    Inv-loop
+    μ-loop
+    loop-holds
+    byte-at-requires
+    is-digit-requires
+    grown-requires
+    add-next
+    loop-less
+    loop-again
+    returns)

@@ -1,0 +1,28 @@
+-- `office::put_number` meets its contract. Assumes nothing.
+use native.Mathlib.Omega.{arith}
+use Rattle.office.proofs.Widths.{number-long, puts-number}
+use borrow.Author.Needs.{needs}
+use Rattle.office.proofs.put_number.Statement.{statement}
+use Rattle.office.proofs.put_number.Tie as tie
+
+put-decimal-requires : tie.Need-put-decimal-requires
+put-decimal-requires c κs = let l = number-long (c .before .before .args .v) (c .before .before .args .end) in omega arith
+
+slice-write-out : tie.Need-slice-write-out
+slice-write-out c =
+    let l = number-long (c .before .before .before .before .before .args .v) (c .before .before .before .before .before .args .end) in omega arith
+
+add-result : tie.Need-add-result
+add-result c =
+    let l = number-long (c .before .before .before .before .before .args .v) (c .before .before .before .before .before .args .end) in omega arith
+
+same-length : tie.Need-same-length
+same-length c = search needs
+
+returns : tie.Need-returns
+returns c =
+    puts-number _ _ _ _ _ _ (c .before .before .put-decimal .ensures)
+
+pub put-number-spec : {M : Type 1} → statement M
+put-number-spec =
+    tie.close (tie.spec put-decimal-requires slice-write-out add-result same-length returns)

@@ -1,0 +1,66 @@
+-- `office::put_text` meets its contract: the lines so far are stored, and nothing else. Assumes nothing.
+use borrow.Author.Needs.{needs}
+use native.Mathlib.Omega.{arith}
+use Prim.Native.Nat.{_+_, _-_, _≤_}
+use mathlib.Core.Path.{_≡_, refl, _∙_}
+use lib.ListN.{length}
+use Rattle.field.specs.Stored.{Put}
+use Rattle.field.proofs.Stores.{put-long}
+use Rattle.office.specs.Text.{textTo}
+use Rattle.office.proofs.Widths.{text-long, text-within, puts-none, puts-more}
+use Rattle.office.proofs.put_text.Statement.{statement}
+use Rattle.office.proofs.put_text.Tie as tie
+
+abbrev Inv-loop : tie.InvT-loop
+Inv-loop out₀ n rows at₀ i₀ out at i = (i ≤ n) × ((length out ≡ length out₀) × Put out₀ 0 (length (textTo rows i)) (textTo rows i) at out)
+
+abbrev μ-loop : tie.MeasureT-loop
+μ-loop out₀ n rows at₀ i₀ out at i = n - i
+
+loop-holds : tie.Need-loop-holds Inv-loop μ-loop
+loop-holds c = (search needs, (refl, puts-none _ _))
+
+mul-put-line : tie.Need-mul-put-line Inv-loop μ-loop
+mul-put-line c = search needs
+
+array-copy-out-put-line : tie.Need-array-copy-out-put-line Inv-loop μ-loop
+array-copy-out-put-line c = search needs
+
+put-line-requires : tie.Need-put-line-requires Inv-loop μ-loop
+put-line-requires c κs =
+    let l = text-long (c .before .before .before .before .before .args .t2) (c .before .before .before .loop .i) in
+    let u = text-within (c .before .before .before .before .before .args .t2) (c .before .before .before .loop .i + 1) (c .before .before .before .before .before .args .n) (omega arith) in
+    omega arith
+
+add-i : tie.Need-add-i Inv-loop μ-loop
+add-i c = search needs
+
+loop-less : tie.Need-loop-less Inv-loop μ-loop
+loop-less c = search needs
+
+loop-again : tie.Need-loop-again Inv-loop μ-loop
+loop-again c =
+    (search needs, (put-long (c .before .before .put-line .ensures) ∙ c .before .before .before .before .before .before .loop .inv .1 .0, puts-more _ _ _ _ _ _ _ (c .before .before .before .before .before .before .loop .inv .1 .1) (c .before .before .put-line .ensures)))
+
+same-length : tie.Need-same-length Inv-loop μ-loop
+same-length c = search needs
+
+returns : tie.Need-returns Inv-loop μ-loop
+returns c =
+    let e : c .before .loop .i ≡ c .before .before .before .args .n = omega arith in rw (← e) (c .before .loop .inv .1 .1)
+
+pub put-text-spec : {M : Type 1} → statement M
+put-text-spec =
+    tie.close
+    (tie.spec
+    Inv-loop
+    μ-loop
+    loop-holds
+    mul-put-line
+    array-copy-out-put-line
+    put-line-requires
+    add-i
+    loop-less
+    loop-again
+    same-length
+    returns)

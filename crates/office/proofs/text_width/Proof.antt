@@ -1,0 +1,62 @@
+-- `office::text_width` meets its contract: the lines so far are counted. Assumes nothing.
+use borrow.Author.Needs.{needs}
+use native.Mathlib.Omega.{arith}
+use Prim.Native.Nat.{ℕ, _*_, _-_, _≤_}
+use mathlib.Core.Path.{_≡_, sym, ap, _∙_}
+use lib.ListN.{length}
+use Rattle.office.specs.Text.{textTo}
+use Rattle.office.proofs.Widths.{text-none, text-long}
+use Rattle.office.proofs.text_width.Statement.{statement}
+use Rattle.office.proofs.text_width.Tie as tie
+
+abbrev Inv-loop : tie.InvT-loop
+Inv-loop n rows width₀ i₀ width i = (i ≤ n) × ((width ≡ length (textTo rows i)) × (width ≤ 44 * i))
+
+abbrev μ-loop : tie.MeasureT-loop
+μ-loop n rows width₀ i₀ width i = n - i
+
+loop-holds : tie.Need-loop-holds Inv-loop μ-loop
+loop-holds c = (search needs, (ap length (sym (text-none (c .args .t1))), omega arith))
+
+mul-line-width : tie.Need-mul-line-width Inv-loop μ-loop
+mul-line-width c = search needs
+
+array-copy-out-line-width : tie.Need-array-copy-out-line-width Inv-loop μ-loop
+array-copy-out-line-width c = search needs
+
+line-width-requires : tie.Need-line-width-requires Inv-loop μ-loop
+line-width-requires c κs = search needs
+
+add-width : tie.Need-add-width Inv-loop μ-loop
+add-width c = search needs
+
+add-i : tie.Need-add-i Inv-loop μ-loop
+add-i c = search needs
+
+loop-less : tie.Need-loop-less Inv-loop μ-loop
+loop-less c = search needs
+
+loop-again : tie.Need-loop-again Inv-loop μ-loop
+loop-again c =
+    let l = text-long (c .before .before .before .before .args .t1) (c .before .before .before .loop .i) in (search needs, (omega arith, omega arith))
+
+returns : tie.Need-returns Inv-loop μ-loop
+returns c =
+    let e : c .before .loop .i ≡ c .before .before .args .n = omega arith in
+    record { is = c .before .loop .inv .1 .0 ∙ ap (λ (k : ℕ). length (textTo (c .before .before .args .t1) k)) e; few = omega arith }
+
+pub text-width-spec : {M : Type 1} → statement M
+text-width-spec =
+    tie.close
+    (tie.spec
+    Inv-loop
+    μ-loop
+    loop-holds
+    mul-line-width
+    array-copy-out-line-width
+    line-width-requires
+    add-width
+    add-i
+    loop-less
+    loop-again
+    returns)

@@ -1,0 +1,67 @@
+-- What an import and an export hand back, and the lent output after each.
+-- Assumes nothing.
+use Prim.Native.Nat.{ℕ}
+use mathlib.Core.List.{List, [], _++_}
+use mathlib.Core.Path.{_≡_}
+use lib.Dec.{eqb, ltb}
+use lib.ListN.{length, drop}
+use Rattle.ground.specs.Choice.{pick}
+use Rattle.kinds.specs.declared.Task.{Task}
+use Rattle.kinds.specs.declared.Table.{Table}
+use Rattle.kinds.specs.declared.Refusal.{Refusal}
+use Rattle.kinds.specs.declared.Refusal.the-variants.{TooManyTasks, OutputTooShort}
+use Rattle.kinds.specs.Limits.{mostTasks}
+use Rattle.kinds.specs.Task.{noTask}
+use Rattle.kinds.specs.Answer.{Handed, accepted, refused}
+use Rattle.walk.specs.Padded.{padded}
+use Rattle.office.specs.declared.Carried.{Carried}
+use Rattle.office.specs.declared.Carried.the-variants.{Count, Refused}
+use Rattle.office.specs.declared.Imported.{Imported}
+use Rattle.office.specs.Text.{textTo}
+use Rattle.office.specs.Reading.{Reading, Rows, Not, readText, rowsOf}
+
+-- an answer in document 01's numbers; a refusal's count is 0
+abbrev pub handedCarried : Carried → Handed ℕ
+handedCarried (Count n) = accepted n
+handedCarried (Refused r) = refused 0 r
+
+-- "Short outputs are refused by 5, last."
+abbrev pub carry : ℕ → ℕ → Handed ℕ
+carry needed room = pick (ltb room needed) (refused 0 (OutputTooShort needed)) (accepted needed)
+
+abbrev pub carryRows : Reading → ℕ → Handed ℕ
+carryRows (Rows rows) room = carry (length rows) room
+carryRows (Not refusal) room = refused 0 refusal
+
+-- an import into an output with room for so many rows
+unfoldable pub importHanded : List ℕ → ℕ → Handed ℕ
+importHanded text room = carryRows (readText text) room
+
+-- an export of the first n rows into an output with room for so many bytes: "Export refuses more than 32 tasks by 3."
+unfoldable pub exportHanded : List Task → ℕ → ℕ → Handed ℕ
+exportHanded rows n room =
+    pick (ltb mostTasks n) (refused 0 (TooManyTasks n)) (carry (length (textTo rows n)) room)
+
+-- the output after a call: what was carried over and then what stood there; where the call is refused, as it was
+abbrev pub after : {A : Type 0} → Handed ℕ → List A → List A → List A
+after h new old = pick (eqb (h .number) 0) (new ++ drop (h .value) old) old
+
+pub record Imports (text : List ℕ) (old : List Task) (r : Carried) (new : List Task) : Type 0 where
+  pub answer : handedCarried r ≡ importHanded text (length old)
+  pub output : new ≡ after (importHanded text (length old)) (rowsOf (readText text)) old
+
+pub record Exports (rows : List Task) (n : ℕ) (old : List ℕ) (r : Carried) (new : List ℕ) : Type 0 where
+  pub answer : handedCarried r ≡ exportHanded rows n (length old)
+  pub output : new ≡ after (exportHanded rows n (length old)) (textTo rows n) old
+
+-- the table of some rows: unused places are zeros
+abbrev pub tableOf : List Task → Table
+tableOf rows = record { rows = padded noTask mostTasks rows; n = length rows }
+
+-- an import by value: the table of the rows, or of none where it is refused
+pub record Reads (text : List ℕ) (room : ℕ) (r : Imported) : Type 0 where
+  pub answer : handedCarried (r .answer) ≡ importHanded text room
+  pub table : r .table ≡ tableOf (after (importHanded text room) (rowsOf (readText text)) [])
+
+abbrev pub importedNot : Refusal → Imported
+importedNot refusal = record { answer = Refused refusal; table = tableOf [] }

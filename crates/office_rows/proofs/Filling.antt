@@ -1,0 +1,103 @@
+-- Laws of a filled slice: the turns of the loop that fills it, and what it then holds. The last ties an import by value to the lent rows.
+-- Assumes nothing.
+use Prim.Native.Nat.{ℕ, zero, suc, _+_, _≤_, _<_, min}
+use mathlib.Core.List.{List, [], _∷_, _++_, append-assoc}
+use mathlib.Core.Path.{_≡_, refl, sym, ap, _∙_}
+use native.Mathlib.Numerals.{add-one}
+use native.Mathlib.Omega.{arith}
+use lib.ListN.{length, getD, set, take, drop, length-set}
+use lib.Seq.{set-at, drop-cons, take-suc, length-take-le, take-at, drop-at}
+use Rattle.kinds.specs.declared.Task.{Task}
+use Rattle.kinds.specs.declared.Table.{Table}
+use Rattle.kinds.specs.Limits.{mostTasks}
+use Rattle.kinds.specs.Task.{at, noTask}
+use Rattle.walk.specs.Padded.{padded}
+use Rattle.walk.proofs.Padding.{padded-long, padded-front}
+use Rattle.rows.specs.Gathered.{front}
+use Rattle.office.specs.declared.Carried.{Carried}
+use Rattle.office.specs.declared.Imported.{Imported}
+use Rattle.office.specs.Carrying.{Imports, Reads}
+use Rattle.office.proofs.Landing.{landing, lands}
+use Rattle.office_rows.specs.Filled.{filled}
+use Rattle.office_rows.specs.Over.{importedAs, ImportsOver}
+
+module _ (rows old : List Task) where
+  filled-none : filled rows old 0 ≡ old
+  unfolding filled
+  filled-none = refl
+
+  filled-more : (n : ℕ) → filled rows old (n + 1) ≡ set (filled rows old n) n (at rows n)
+  unfolding filled
+  filled-more n = rw (add-one n)
+
+  pub filled-long : (n : ℕ) → length (filled rows old n) ≡ length old
+  unfolding filled
+  filled-long zero = refl
+  filled-long (suc n) = length-set (filled rows old n) n (at rows n) ∙ filled-long n
+
+  -- after i turns of n
+  abbrev pub turns : ℕ → ℕ → List Task
+  turns n i = filled rows old (min i n)
+
+  pub turns-none : (n : ℕ) → old ≡ turns n 0
+  turns-none n = let e : min 0 n ≡ 0 = omega arith in sym (ap (filled rows old) e ∙ filled-none)
+
+  pub turns-long : (n i : ℕ) → length (turns n i) ≡ length old
+  turns-long n i = filled-long (min i n)
+
+  pub turns-more : (n i : ℕ) → i < n → set (turns n i) i (at rows i) ≡ turns n (i + 1)
+  turns-more n i h =
+      let e : min i n ≡ i = omega arith in
+      let f : min (i + 1) n ≡ i + 1 = omega arith in
+      ap (λ (k : ℕ). set (filled rows old k) i (at rows i)) e ∙ sym (ap (filled rows old) f ∙ filled-more i)
+
+  pub turns-all : (n i : ℕ) → n ≤ i → turns n i ≡ filled rows old n
+  turns-all n i h = let e : min i n ≡ n = omega arith in ap (filled rows old) e
+
+  -- the first n rows, and then what stood there
+  pub filled-is : (n : ℕ) → n ≤ length rows → n ≤ length old → filled rows old n ≡ take n rows ++ drop n old
+  unfolding filled
+  filled-is zero h l = refl
+  filled-is (suc n) h l =
+      ap (λ (x : List Task). set x n (at rows n)) (filled-is n (omega arith) (omega arith) ∙ ap (λ (x : List Task). take n rows ++ x) (drop-cons old n noTask l))
+      ∙ (set-at (take n rows) (getD old n noTask) (drop (suc n) old) (at rows n) n (length-take-le n rows (omega arith))
+      ∙ sym (ap (λ (x : List Task). x ++ drop (suc n) old) (take-suc rows n noTask h) ∙ append-assoc (take n rows) (at rows n ∷ []) (drop (suc n) old)))
+
+-- an import by value, whose rows are then handed over
+module _ (text : List ℕ) (old : List Task) (i : Imported) (reads : Reads text (length old) i) where
+  abbrev these : List Task
+  these = landing text (length old)
+
+  count-is : i .table .n ≡ length these
+  count-is = ap (λ (t : Table). t .n) (reads .table)
+
+  pub room-enough : (i .table .n ≤ mostTasks) × (i .table .n ≤ length old)
+  room-enough =
+      let c = count-is in
+      let l = lands text (length old) in
+      (omega (arith, l .few), omega (arith, l .fits))
+
+  pub imports : (new : List Task) → new ≡ filled (i .table .rows) old (i .table .n) → Imports text old (i .answer) new
+  imports new e =
+      let l = lands text (length old) in
+      let p = padded-long noTask mostTasks these in
+      record {
+        answer = reads .answer;
+        output =
+            e
+            ∙ (ap (λ (t : Table). filled (t .rows) old (t .n)) (reads .table)
+            ∙ (filled-is (padded noTask mostTasks these) old (length these) (omega (arith, l .few)) (l .fits)
+            ∙ (ap (λ (x : List Task). x ++ drop (length these) old) (padded-front noTask mostTasks these (l .few)) ∙ sym (l .output old))));
+      }
+
+-- an import over the front of a table's rows
+pub imports-over : (text : List ℕ) (t : Table) (r : Carried) (new : List Task) → length (t .rows) ≡ mostTasks → length new ≡ length (front t)
+    → Imports text (front t) r new → ImportsOver text t (importedAs r (new ++ drop (min (t .n) mostTasks) (t .rows)) (t .n))
+imports-over text t r new long same x =
+    let k = min (t .n) mostTasks in
+    let e : length new ≡ k = same ∙ (length-take-le k (t .rows) (omega arith)) in
+    record {
+      imports = rw (take-at new (drop k (t .rows)) k e) x;
+      kept = drop-at new (drop k (t .rows)) k e;
+      count = refl;
+    }

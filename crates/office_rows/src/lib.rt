@@ -1,0 +1,84 @@
+// The office's public calls over a lent slice of whole task records: `export` reads lent rows and `import` fills them. Each is a thin call
+// above the covered core of `office`; contracts cite its definitions, and the laws of `proofs/Bridge` tie what is said of the table to
+// the rows.
+use kinds::Table;
+use kinds::Task;
+use office::Carried;
+use office::Imported;
+ghost use mathlib.Core.Path.{_≡_};
+ghost use Prim.Native.Nat.{_≤_};
+ghost use lib.ListN.{length};
+ghost use Rattle.kinds.specs.Limits.{mostTasks};
+ghost use Rattle.rows.specs.Gathered.{front};
+ghost use Rattle.office.specs.Carrying.{Imports, Exports};
+ghost use Rattle.office_rows.specs.Filled.{filled};
+ghost use Rattle.office_rows.specs.Over.{importedAs, ImportsOver};
+
+// The rows of a table that count, into the front of a lent slice, and nothing past them.
+fn scatter(table: Table, out: &mut [Task])
+    requires { ⌜ (table .n ≤ mostTasks) × (table .n ≤ length (now out)) ⌝ }
+    ensures { λ _. ⌜ now (out .exit) ≡ filled (table .rows) (now (out .entry)) (table .n) ⌝ }
+{
+    let n = table.n;
+    let mut i: usize = 0;
+    while i < n {
+        out[i] = table.rows[i];
+        i += 1;
+    }
+}
+
+// The two parts of an import by value.
+fn table_of(imported: Imported) -> Table
+    ensures { λ r. ⌜ r ≡ imported .table ⌝ }
+{
+    imported.table
+}
+
+fn answer_of(imported: Imported) -> Carried
+    ensures { λ r. ⌜ r ≡ imported .answer ⌝ }
+{
+    imported.answer
+}
+
+// The table of a text, into lent rows. A refused call leaves the rows as they were.
+pub fn import(text: &[u8], out: &mut [Task]) -> Carried
+    ensures { λ r. ⌜ Imports (now (text .entry)) (now (out .entry)) r (now (out .exit)) ⌝ }
+{
+    let imported = office::import(text, out.len());
+    scatter(table_of(imported), out);
+    answer_of(imported)
+}
+
+// The text of lent rows, into a lent output. More rows than a table takes are refused by 3 at their number.
+pub fn export(rows: &[Task], out: &mut [u8]) -> Carried
+    ensures { λ r. ⌜ Exports (now (rows .entry)) (length (now (rows .entry))) (now (out .entry)) r (now (out .exit)) ⌝ }
+{
+    office::export(rows::gather(rows), out)
+}
+
+// Lends the rows of a table that count to the export, so that a function that makes no slice of records can run the call.
+pub fn export_over(table: Table, out: &mut [u8]) -> Carried
+    ensures { λ r. ⌜ Exports (front table) (length (front table)) (now (out .entry)) r (now (out .exit)) ⌝ }
+{
+    let rows = table.rows;
+    let n = rows::capped(table.n);
+    export(&rows[..n], out)
+}
+
+// An answer beside a table of these rows.
+fn joined(answer: Carried, rows: [Task; Table::MOST_TASKS], n: usize) -> Imported
+    ensures { λ r. ⌜ r ≡ importedAs answer rows n ⌝ }
+{
+    let table = Table { rows, n };
+    Imported { answer, table }
+}
+
+// Lends the rows of a table that count to the import, and hands back its answer beside the table that it left.
+pub fn import_over(text: &[u8], table: Table) -> Imported
+    ensures { λ r. ⌜ ImportsOver (now (text .entry)) table r ⌝ }
+{
+    let mut rows = table.rows;
+    let n = rows::capped(table.n);
+    let answer = import(text, &mut rows[..n]);
+    joined(answer, rows, table.n)
+}
