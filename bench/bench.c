@@ -8,27 +8,30 @@ typedef struct eelbasket_told finder(const struct eelbasket_task *, size_t, stru
 static uint32_t periods[33], other_periods[33];
 static uint16_t processors[33], other_processors[33];
 
+/* The time that this process has run, not that of the wall: the machine may do other work. */
 static double now(void) {
     struct timespec t;
-    clock_gettime(CLOCK_MONOTONIC, &t);
+    clock_gettime(CLOCK_PROCESS_CPUTIME_ID, &t);
     return (double)t.tv_sec * 1e9 + (double)t.tv_nsec;
 }
 
-/* The best time of one call in nanoseconds: batches of at least some 20 ms, five of them. */
-static double time_of(finder *f, const struct eelbasket_task *rows, size_t n, struct eelbasket_station s) {
-    double best = 1e18;
-    long calls = 1;
-    for (int batch = 0; batch < 6; batch++) {
-        double start = now();
-        for (long i = 0; i < calls; i++) f(rows, n, s, periods, 33, processors, 33);
-        double each = (now() - start) / (double)calls;
-        if (batch == 0) {
-            calls = (long)(2e7 / (each + 1)) + 1;
-        } else if (each < best) {
-            best = each;
-        }
+static double batch(finder *f, const struct eelbasket_task *rows, size_t n, struct eelbasket_station s, long calls) {
+    double start = now();
+    for (long i = 0; i < calls; i++) f(rows, n, s, periods, 33, processors, 33);
+    return (now() - start) / (double)calls;
+}
+
+/* The best time of one call of either in nanoseconds: the two take turns, in batches of some 0.1 ms or of one call, for half a second,
+   so that what else the machine does falls on both. */
+static void time_of(finder *f, finder *g, const struct eelbasket_task *rows, size_t n, struct eelbasket_station s, double *a, double *b) {
+    long calls = (long)(1e5 / (batch(g, rows, n, s, 3) + 1)) + 1;
+    double start = now();
+    *a = *b = 1e18;
+    for (int turn = 0; turn < 5 || now() - start < 5e8; turn++) {
+        double x = batch(f, rows, n, s, calls), y = batch(g, rows, n, s, calls);
+        if (x < *a) *a = x;
+        if (y < *b) *b = y;
     }
-    return best;
 }
 
 static int agree(finder *f, finder *g, const struct eelbasket_task *rows, size_t n, struct eelbasket_station s) {
@@ -44,7 +47,8 @@ static int row(const char *name, const char *what, finder *ours, finder *theirs,
         printf("%s, %s: the two do not agree\n", name, what);
         return 0;
     }
-    double a = time_of(ours, rows, n, s), b = time_of(theirs, rows, n, s);
+    double a, b;
+    time_of(ours, theirs, rows, n, s, &a, &b);
     printf("| %s | %s | %.0f | %.0f | %.2f |\n", name, what, a, b, a / b);
     return 1;
 }
