@@ -1,10 +1,6 @@
--- How much room a payload and an answer have.
+-- How much room the trial has for what it is asked.
 -- Assumes nothing.
 use Prim.Native.Nat.{ℕ}
-
--- the most bytes of an answer with its length before it
-abbrev pub room : ℕ
-room = 2000
 
 -- the most periods that a clock is asked to start with
 abbrev pub mostPeriods : ℕ

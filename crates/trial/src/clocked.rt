@@ -1,9 +1,6 @@
 // Kind 10: a run of the release clock. A clock is started with some periods or given as it stands, and then called with one tick after
 // the other.
-use super::ask;
-use super::ask::ByteField;
-use super::tell;
-use super::tell::ROOM;
+use ask::ByteField;
 use clock::Begin;
 use clock::Clock;
 use clock::Release;
@@ -11,8 +8,10 @@ use clock::Started;
 use field::Field16;
 use field::Field32;
 use kinds::Table;
+use tell::ROOM;
 ghost use Prim.Native.Nat.{_≤_};
-ghost use Rattle.trial.specs.Room.{room, mostPeriods};
+ghost use Rattle.tell.specs.Room.{room};
+ghost use Rattle.trial.specs.Room.{mostPeriods};
 
 // The most periods that a start is asked with: more than a clock takes.
 const MOST_PERIODS: usize = 40;

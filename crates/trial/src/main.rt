@@ -1,10 +1,8 @@
 // The trial: answers a stream of calls on standard input by the proved functions, and writes the answers to standard output. The two
 // streams are those of the second program, which has its own answers to compare. A stream that is not of that form ends the run.
-// Contracts cite `specs/Room`.
-mod ask;
+// Contracts cite `room` of `tell`.
 mod clocked;
 mod office_calls;
-mod tell;
 
 use ask::ByteField;
 use ask::SettingsField;
@@ -24,7 +22,7 @@ use tell::ROOM;
 use wide::WideTable;
 use writer::Written;
 ghost use Prim.Native.Nat.{_≤_};
-ghost use Rattle.trial.specs.Room.{room};
+ghost use Rattle.tell.specs.Room.{room};
 
 // What lent outputs and buffers hold before a call.
 const PERIOD_BEFORE: u32 = 0xA5A5_A5A5;

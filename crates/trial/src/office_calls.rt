@@ -1,15 +1,13 @@
 // The office's calls, kinds 11 and 12: what is asked, the calls over lent outputs that held something before, and the answers.
-use crate::ask;
-use crate::ask::ByteField;
-use crate::tell;
-use crate::tell::ROOM;
+use ask::ByteField;
 use field::Field16;
 use kinds::Table;
 use kinds::Task;
 use office::Carried;
 use office::Imported;
+use tell::ROOM;
 ghost use Prim.Native.Nat.{_≤_};
-ghost use Rattle.trial.specs.Room.{room};
+ghost use Rattle.tell.specs.Room.{room};
 
 // What a lent output holds before a call: each number of a row, and each byte.
 const NUMBER_BEFORE: u32 = 0xA5A5_A5A5;

@@ -1,6 +1,6 @@
 -- `clocked::run` ends, and its place stays within the buffer. Assumes nothing.
 use Prim.Native.Nat.{_-_, _≤_}
-use Rattle.trial.specs.Room.{room}
+use Rattle.tell.specs.Room.{room}
 use borrow.Author.Needs.{needs}
 use Rattle.trial.proofs.clocked.run.Statement.{statement}
 use Rattle.trial.proofs.clocked.run.Tie as tie

@@ -1,6 +1,6 @@
 -- `office_calls::put_output` is safe and ends, and its place stays within the buffer. Assumes nothing.
 use Prim.Native.Nat.{_-_, _≤_}
-use Rattle.trial.specs.Room.{room}
+use Rattle.tell.specs.Room.{room}
 use borrow.Author.Needs.{needs}
 use Rattle.trial.proofs.office_calls.put_output.Statement.{statement}
 use Rattle.trial.proofs.office_calls.put_output.Tie as tie

@@ -1,10 +1,10 @@
 -- `tell::put_periods` is safe and ends, and its place stays within the buffer. Assumes nothing.
 use Prim.Native.Nat.{_-_, _≤_}
 use lib.ListN.{length}
-use Rattle.trial.specs.Room.{room}
+use Rattle.tell.specs.Room.{room}
 use borrow.Author.Needs.{needs}
-use Rattle.trial.proofs.tell.put_periods.Statement.{statement}
-use Rattle.trial.proofs.tell.put_periods.Tie as tie
+use Rattle.tell.proofs.put_periods.Statement.{statement}
+use Rattle.tell.proofs.put_periods.Tie as tie
 
 abbrev Inv-loop : tie.InvT-loop
 Inv-loop out₀ from output at₀ i₀ out at i = (i ≤ length output) × (at ≤ room)

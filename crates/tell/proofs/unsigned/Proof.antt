@@ -1,9 +1,9 @@
 -- `tell::unsigned` is safe: what it casts is not negative, and what it takes from the greatest number is not above it. Assumes nothing.
 use mir.Facts.{sfits-toZ, fits-ofZ}
 use borrow.Author.Needs.{needs}
-use Rattle.trial.proofs.Complement.{below-fits, below-casts, below-most, casts}
-use Rattle.trial.proofs.tell.unsigned.Statement.{statement}
-use Rattle.trial.proofs.tell.unsigned.Tie as tie
+use Rattle.tell.proofs.Complement.{below-fits, below-casts, below-most, casts}
+use Rattle.tell.proofs.unsigned.Statement.{statement}
+use Rattle.tell.proofs.unsigned.Tie as tie
 
 sub-below : tie.Need-sub-below
 sub-below c = below-fits _ (c .if1 .taken) (sfits-toZ (fits-ofZ (c .before .fits .x)))

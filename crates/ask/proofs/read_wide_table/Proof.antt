@@ -4,8 +4,8 @@ use mathlib.Core.Path.{_≡_}
 use lib.ListN.{length}
 use Rattle.kinds.specs.Limits.{mostTasks}
 use borrow.Author.Needs.{needs}
-use Rattle.trial.proofs.ask.read_wide_table.Statement.{statement}
-use Rattle.trial.proofs.ask.read_wide_table.Tie as tie
+use Rattle.ask.proofs.read_wide_table.Statement.{statement}
+use Rattle.ask.proofs.read_wide_table.Tie as tie
 
 abbrev Inv-loop : tie.InvT-loop
 Inv-loop s from n present rows₀ at₀ whole₀ i₀ rows at whole i = (i ≤ present) × ((present ≤ mostTasks) × (length rows ≡ mostTasks))

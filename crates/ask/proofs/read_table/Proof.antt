@@ -1,11 +1,11 @@
--- `ask::read_results` is safe and ends: no more rows are stored than there is room for. Assumes nothing.
+-- `ask::read_table` is safe and ends: no more rows are stored than there is room for. Assumes nothing.
 use Prim.Native.Nat.{_-_, _≤_}
 use mathlib.Core.Path.{_≡_}
 use lib.ListN.{length}
 use Rattle.kinds.specs.Limits.{mostTasks}
 use borrow.Author.Needs.{needs}
-use Rattle.trial.proofs.ask.read_results.Statement.{statement}
-use Rattle.trial.proofs.ask.read_results.Tie as tie
+use Rattle.ask.proofs.read_table.Statement.{statement}
+use Rattle.ask.proofs.read_table.Tie as tie
 
 abbrev Inv-loop : tie.InvT-loop
 Inv-loop s from n present rows₀ at₀ whole₀ i₀ rows at whole i = (i ≤ present) × ((present ≤ mostTasks) × (length rows ≡ mostTasks))
@@ -16,11 +16,14 @@ abbrev μ-loop : tie.MeasureT-loop
 present-requires : tie.Need-present-requires Inv-loop μ-loop
 present-requires c κs = search needs
 
+new-requires : tie.Need-new-requires Inv-loop μ-loop
+new-requires c κs = search needs
+
 loop-holds : tie.Need-loop-holds Inv-loop μ-loop
 loop-holds c = search needs
 
-read-granted-requires : tie.Need-read-granted-requires Inv-loop μ-loop
-read-granted-requires c κs = search needs
+read-task-requires : tie.Need-read-task-requires Inv-loop μ-loop
+read-task-requires c κs = search needs
 
 enum-known-row : tie.Need-enum-known-row Inv-loop μ-loop
 enum-known-row c = search needs
@@ -49,15 +52,16 @@ returns c = search needs
 returns-2 : tie.Need-returns-2 Inv-loop μ-loop
 returns-2 c = search needs
 
-pub read-results-spec : {M : Type 1} → statement M
-read-results-spec =
+pub read-table-spec : {M : Type 1} → statement M
+read-table-spec =
     tie.close
     (tie.spec
     Inv-loop
     μ-loop
     present-requires
+    new-requires
     loop-holds
-    read-granted-requires
+    read-task-requires
     enum-known-row
     enum-told
     mul-rows

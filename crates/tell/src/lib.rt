@@ -5,7 +5,7 @@ use kinds::Refusal;
 use kinds::Table;
 use kinds::Task;
 ghost use Prim.Native.Nat.{_≤_};
-ghost use Rattle.trial.specs.Room.{room};
+ghost use Rattle.tell.specs.Room.{room};
 
 // The most bytes of a payload, and of an answer with its length before it.
 pub const ROOM: usize = 2_000;
