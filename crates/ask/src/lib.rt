@@ -12,6 +12,16 @@ use wide::WideTask;
 ghost use Prim.Native.Nat.{_≤_};
 ghost use Rattle.kinds.specs.Limits.{mostTasks};
 
+// The bytes of a payload's kind.
+pub const KIND: usize = 1;
+
+// What lent outputs and buffers hold before a call.
+pub const NUMBER_BEFORE: u32 = 0xA5A5_A5A5;
+
+pub const SHORT_BEFORE: u16 = 0x5A5A;
+
+pub const BYTE_BEFORE: u8 = 0xEE;
+
 // A number of 1 byte and the place after it.
 pub enum ByteField {
     Value(u8, usize),
@@ -239,4 +249,9 @@ pub fn read_results(s: &[u8], from: usize, n: usize) -> ResultsField {
     }
     let results = Results { rows, n };
     ResultsField { whole, results }
+}
+
+// Whether a table goes to a call through the thin call over lent rows: those with an even count up to 32. The others go by value.
+pub fn is_lent(n: usize) -> bool {
+    n <= Table::MOST_TASKS && n % 2 == 0
 }

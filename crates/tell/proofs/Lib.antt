@@ -1,1 +1,2 @@
 pub mod Complement
+pub mod Parts

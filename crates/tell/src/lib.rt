@@ -10,6 +10,9 @@ ghost use Rattle.tell.specs.Room.{room};
 // The most bytes of a payload, and of an answer with its length before it.
 pub const ROOM: usize = 2_000;
 
+// The bytes of a length before a payload or an answer.
+pub const LENGTH: usize = 2;
+
 // A number in 1 byte.
 pub fn put_byte(out: &mut [u8; ROOM], at: usize, v: u8) -> usize
     ensures { λ r. ⌜ r ≤ room ⌝ }

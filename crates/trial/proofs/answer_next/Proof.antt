@@ -1,5 +1,5 @@
 -- `answer_next` is safe and ends. Assumes nothing.
-use Rattle.trial.proofs.Parts.{front-long}
+use Rattle.tell.proofs.Parts.{front-long}
 use borrow.Author.Needs.{needs}
 use Rattle.trial.proofs.answer_next.Statement.{statement}
 use Rattle.trial.proofs.answer_next.Tie as tie

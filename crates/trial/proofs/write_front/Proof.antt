@@ -1,5 +1,5 @@
 -- `write_front` is safe. Assumes nothing.
-use Rattle.trial.proofs.Parts.{front-long}
+use Rattle.tell.proofs.Parts.{front-long}
 use borrow.Author.Needs.{needs}
 use Rattle.trial.proofs.write_front.Statement.{statement}
 use Rattle.trial.proofs.write_front.Tie as tie
