@@ -10,7 +10,7 @@ use Rattle.ground.proofs.Cases.{by-le}
 use Rattle.kinds.specs.declared.Task.{Task}
 use Rattle.kinds.specs.declared.Settings.{Settings}
 use Rattle.kinds.specs.declared.Margin.{Margin}
-use Rattle.kinds.specs.Answer.{Handed, handedMargin}
+use Rattle.kinds.specs.Answer.{handedMargin}
 use Rattle.kinds.specs.Limits.{mostTasks}
 use Rattle.kinds.specs.Policy.{meant}
 use Rattle.kinds.specs.Task.{at}

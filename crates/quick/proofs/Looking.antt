@@ -2,16 +2,16 @@
 -- Assumes nothing.
 use Prim.Native.Nat.{ℕ, zero, suc, _+_, _≤_, _<_}
 use mathlib.Core.Bool.{true, false}
-use mathlib.Core.Path.{_≡_, refl, _∙_}
+use mathlib.Core.Path.{_≡_, refl}
 use native.Mathlib.Omega.{arith}
 use Rattle.ground.specs.declared.Step.the-variants.{At, Nothing}
 use Rattle.ground.specs.Folds.{maxTo}
-use Rattle.ground.specs.Least.{leastUpTo, LeastAt}
+use Rattle.ground.specs.Least.{LeastAt}
 use Rattle.ground.proofs.Cases.{by-le, true-false}
 use Rattle.ground.proofs.Folds.{le-max-to, max-to-le}
 use Rattle.ground.proofs.Least.{least-is, least-unique}
 use Rattle.policy.specs.declared.Weights.{Weights}
-use Rattle.policy.specs.Looks.{distinct, distinctBelow, looksFor}
+use Rattle.policy.specs.Looks.{distinctBelow, looksFor}
 use Rattle.stretch.specs.Spring.{Spring, weighedAt, saturations}
 use Rattle.stretch.specs.Next.{Next}
 use Rattle.stretch.specs.Division.{Fair, divided}

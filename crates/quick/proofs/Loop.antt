@@ -3,7 +3,7 @@
 use Prim.Native.Nat.{ℕ, _+_, _-_, _≤_, _<_}
 use mathlib.Core.Bool.{true, false}
 use mathlib.Core.List.{List}
-use mathlib.Core.Path.{_≡_, refl, sym, _∙_}
+use mathlib.Core.Path.{_≡_, sym, _∙_}
 use native.Mathlib.Omega.{arith}
 use lib.ListN.{getD}
 use borrow.Author.Tests.{eq-eqb, ne-eqb}
@@ -16,7 +16,7 @@ use Rattle.stretch.specs.Division.{Fair, divided, Stretches}
 use Rattle.stretch.proofs.Nexts.{next-is, next-none, next-cong}
 use Rattle.quick.specs.declared.Search.{Search}
 use Rattle.quick.specs.Search.{dueAfter, OneLook, Searchable, Failed, SearchEnds}
-use Rattle.quick.proofs.Looking.{ends-at-zero, failed-at-zero, ends-nowhere, failed-next, ends-divided, looks-left, looks-most}
+use Rattle.quick.proofs.Looking.{ends-at-zero, failed-at-zero, ends-nowhere, failed-next, ends-divided, looks-left}
 
 pub due-first : (s : ℕ → ℕ) (n : ℕ) (before : Search) → before .looks ≡ 0 → dueAfter s n before ≡ 0
 unfolding dueAfter

@@ -1,36 +1,32 @@
 -- The search on the springs of a table is the search that demand 2 asks for, under each policy that has a formula.
 -- Assumes nothing.
-use Prim.Native.Nat.{ℕ, _+_, _≤_, _<_, min}
-use mathlib.Core.Bool.{Bool, true, false, not}
+use Prim.Native.Nat.{ℕ, _+_, _≤_}
+use mathlib.Core.Bool.{true, false, not}
 use mathlib.Core.List.{List}
 use mathlib.Core.Path.{_≡_, refl, sym, ap, _∙_}
 use native.Mathlib.Omega.{arith}
-use lib.ListN.{length}
 use Rattle.ground.specs.declared.Step.{Step}
 use Rattle.ground.specs.Choice.{both}
 use Rattle.ground.specs.Folds.{maxTo}
 use Rattle.ground.specs.Least.{leastUpTo}
-use Rattle.ground.proofs.Cases.{by-le, true-false}
+use Rattle.ground.proofs.Cases.{true-false}
 use Rattle.ground.proofs.Folds.{max-cong}
 use Rattle.ground.proofs.Least.{least-cong}
 use Rattle.kinds.specs.declared.Task.{Task}
 use Rattle.kinds.specs.declared.Policy.{Policy}
 use Rattle.kinds.specs.declared.Policy.the-variants.{Pooled, GlobalEdf, GlobalRm, FirstFit, Further}
 use Rattle.kinds.specs.declared.Settings.{Settings}
-use Rattle.kinds.specs.Limits.{mostTasks}
 use Rattle.kinds.specs.Policy.{hasFormula, isFirstFit, isFurther, meant}
 use Rattle.kinds.specs.Task.{at}
 use Rattle.share.specs.Share.{saturationAt}
 use Rattle.share.specs.Table.{shares, fullCompression}
 use Rattle.policy.specs.Sides.{weightsOf}
 use Rattle.policy.specs.Looks.{looksFor, looksOf}
-use Rattle.policy.specs.Passing.{passes, passesAt, leastStep}
-use Rattle.policy.proofs.Demand.{step-same}
-use Rattle.policy.proofs.LookCount.{for-same, looks-bound, looks-same}
+use Rattle.policy.specs.Passing.{passesAt, leastStep}
+use Rattle.policy.proofs.LookCount.{for-same, looks-bound}
 use Rattle.policy.proofs.Tests.{passes-weighed, passes-same}
 use Rattle.admission.specs.declared.Admission as adm
 use Rattle.admission.specs.Admission.{admission}
-use Rattle.admission.proofs.Chain.{Ready, admitted, admission-same, admission-many}
 use Rattle.stretch.specs.Spring.{Springs, springsOf, saturations, weighed, weighedAt, sharesOn, Sprung}
 use Rattle.stretch.specs.Division.{Fair}
 use Rattle.stretch.proofs.Columns.{shares-are, saturations-are}

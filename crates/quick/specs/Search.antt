@@ -10,10 +10,10 @@ use Rattle.ground.specs.Folds.{maxTo}
 use Rattle.ground.specs.Least.{leastUpTo}
 use Rattle.kinds.specs.declared.Task.{Task}
 use Rattle.kinds.specs.declared.Policy.{Policy}
-use Rattle.kinds.specs.Limits.{scale, mostTasks}
+use Rattle.kinds.specs.Limits.{mostTasks}
 use Rattle.policy.specs.Looks.{distinctBelow, looksFor, looksOf}
 use Rattle.policy.specs.Passing.{leastStep}
-use Rattle.stretch.specs.Spring.{Spring, saturations, AllWithin, Saturates}
+use Rattle.stretch.specs.Spring.{Spring, AllWithin, Saturates}
 use Rattle.stretch.specs.Next.{nextTo}
 use Rattle.quick.specs.declared.Search.{Search}
 use Rattle.quick.specs.declared.Ended.{Ended}

@@ -2,7 +2,6 @@
 -- Assumes nothing.
 use mathlib.Core.List.{List, [], _∷_}
 use mathlib.Core.Path.{_≡_, refl}
-use Prim.Native.Nat.{ℕ}
 use Rattle.ground.specs.Folds.{listTo}
 use Rattle.kinds.specs.declared.Task.{Task}
 use Rattle.kinds.specs.Task.{task}

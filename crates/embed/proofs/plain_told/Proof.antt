@@ -1,5 +1,5 @@
 -- `embed::plain_told` meets its contract. Assumes nothing.
-use mathlib.Core.Path.{_≡_, _∙_}
+use mathlib.Core.Path.{_∙_}
 use borrow.Author.Needs.{needs}
 use Rattle.embed.proofs.plain_told.Statement.{statement}
 use Rattle.embed.proofs.plain_told.Tie as tie

@@ -1,5 +1,5 @@
 -- `embed::quick_told` meets its contract. Assumes nothing.
-use mathlib.Core.Path.{_≡_, _∙_}
+use mathlib.Core.Path.{_∙_}
 use native.Mathlib.Omega.{arith}
 use borrow.Author.Needs.{needs}
 use Rattle.embed.proofs.quick_told.Statement.{statement}

@@ -1,5 +1,5 @@
 -- `quick::admit` meets its contract. Assumes nothing.
-use mathlib.Core.Path.{_≡_, refl, sym, _∙_}
+use mathlib.Core.Path.{refl, sym, _∙_}
 use borrow.Author.Tests.{lt-ltb, le-ltb}
 use Rattle.admission.specs.Admission.{admission}
 use Rattle.admission.proofs.Chain.{gate-passed}

@@ -7,7 +7,6 @@ use Rattle.admission.proofs.Chain.{Ready, admitted}
 use Rattle.plan.proofs.Found.{refused-found, admitted-found}
 use Rattle.stretch.specs.Spring.{Springs, columns, Sprung}
 use Rattle.stretch.proofs.Columns.{sprung-within, sprung-saturates}
-use Rattle.quick.specs.Search.{LeastFound}
 use Rattle.quick.proofs.Served.{fair, formula, least-found, no-looks, some-looks}
 use Rattle.quick.proofs.Granting.{not-accepted}
 use borrow.Author.Needs.{needs}

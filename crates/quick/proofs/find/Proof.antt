@@ -1,7 +1,6 @@
 -- `quick::find` meets its contract. Assumes nothing.
 use Prim.Native.Nat.{min}
 use mathlib.Core.Bool.{false}
-use mathlib.Core.Path.{_≡_}
 use native.Mathlib.Omega.{arith}
 use lib.ListN.{length}
 use Rattle.plan.proofs.Found.{meets}

@@ -1,6 +1,4 @@
 -- `quick::gate_of` meets its contract. Assumes nothing.
-use mathlib.Core.Path.{_≡_}
-use Rattle.admission.specs.Admission.{gateOf}
 use Rattle.kinds.specs.Policy.{meant, isFirstFit}
 use Rattle.quick.proofs.Granting.{both-true}
 use borrow.Author.Needs.{needs}

@@ -1,5 +1,5 @@
 -- `quick::grant` meets its contract. Assumes nothing.
-use mathlib.Core.Path.{_≡_, refl, sym, _∙_}
+use mathlib.Core.Path.{refl, sym, _∙_}
 use Rattle.kinds.specs.Policy.{meant}
 use Rattle.plan.proofs.Writing.{leaves-refused, leaves-accepted}
 use Rattle.quick.proofs.Granting.{any-places}

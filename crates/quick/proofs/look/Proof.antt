@@ -1,5 +1,5 @@
 -- `quick::look` meets its contract. Assumes nothing.
-use mathlib.Core.Path.{_≡_, refl, _∙_}
+use mathlib.Core.Path.{refl, _∙_}
 use Rattle.stretch.proofs.Columns.{weighed-worked-out}
 use borrow.Author.Needs.{needs}
 use Rattle.quick.proofs.look.Statement.{statement}

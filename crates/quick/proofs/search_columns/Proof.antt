@@ -1,8 +1,8 @@
 -- `quick::search_columns` meets its contract. Assumes nothing.
 use Prim.Native.Nat.{_+_, _-_, _<_}
-use mathlib.Core.Path.{_≡_, refl, sym, _∙_}
+use mathlib.Core.Path.{refl, sym}
 use native.Mathlib.Omega.{arith}
-use Rattle.stretch.specs.Spring.{Spring, springIn, SumIs}
+use Rattle.stretch.specs.Spring.{springIn, SumIs}
 use Rattle.quick.proofs.Loop.{Standing, due-first, next-in, first-passes, first-fails, none-due, look-due, divides, next-passes, next-fails}
 use Rattle.quick.proofs.search_columns.Statement.{statement}
 use Rattle.quick.proofs.search_columns.Tie as tie

@@ -1,5 +1,4 @@
 -- `stretch::harder_of` meets its contract. Assumes nothing.
-use mathlib.Core.Path.{_≡_}
 use native.Mathlib.Nat.{mul-le-mul}
 use native.Mathlib.Omega.{arith}
 use Rattle.stretch.proofs.Lines.{harder-kept, harder-divided, harder-smaller}

@@ -1,5 +1,4 @@
 -- `stretch::weighs` meets its contract. Assumes nothing.
-use mathlib.Core.Path.{_≡_}
 use borrow.Author.Needs.{needs}
 use Rattle.stretch.proofs.weighs.Statement.{statement}
 use Rattle.stretch.proofs.weighs.Tie as tie
