@@ -42,7 +42,7 @@ fn empty(n: usize) -> WideTable
 }
 
 // The table of the lent rows. Its count is theirs, also where there are more than it takes, so that the core can refuse them.
-fn gather(rows: &[WideTask]) -> WideTable
+pub fn gather(rows: &[WideTask]) -> WideTable
     ensures { λ r. ⌜ r ≡ tableOf (now (rows .entry)) ⌝ }
 {
     let n = rows.len();
