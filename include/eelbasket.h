@@ -1,16 +1,36 @@
 /* The pace setter for C: link with libembed.a (`rt staticlib embed` writes target/staticlib/libembed.a).
  *
- * A caller owes what the types say: each pointer has as many entries behind it as the length after it says, and outputs overlap
- * nothing else. Every call is total: any numbers may be passed, and bad ones are refused by number:
- *   1 no such policy          2 processors not 1 to 16   3 more than 32 tasks (place: the count)
- *   4 policy 4, asked of quick finder or margin          5 an output is too short (place: entries needed)
- *   6 a record is not good (place: the first such one)   7 no step passes
- *  17 a clock's period is 0 or above 1,000,000,000 (place: the first such one)
- * Number 0 is acceptance. A refusal writes nothing; an acceptance writes one entry for each task, and nothing past them. */
+ * A caller owes what the types say: each pointer has as many entries behind it as the length after it says (a pointer that is not null, also
+ * where the length is 0), and outputs overlap nothing else. Every call is total: any numbers and bytes may be passed, and bad ones are
+ * refused by number, the first in the order that stands with each call. Number 0 is acceptance, with place 0.
+ *
+ *   No.  Given exactly when                                                Place
+ *    1   the policy is not 1 to 4                                          0
+ *    2   there are no processors, or more than 16                          0
+ *    3   there are more than 32 tasks                                      the count (reading: 6, import: 32)
+ *    4   policy 4, asked of the quick finder or the margin                 0
+ *    5   a lent output holds fewer entries, rows or bytes than needed      how many are needed
+ *    6   a record is not good                                              the first such record, from 0
+ *    7   no step from 0 to full compression passes                         0
+ *    8   the sheet ends before or inside a field that is due               its length
+ *    9   the settings count is not 2                                       0
+ *   10   the result count is neither 0 nor the task count                  where it stands (writing: 0)
+ *   11   there are bytes after the last section                            the first of them
+ *   16   a line of a text is bad                                           the first such line, from 0
+ *   17   a clock's period is 0 or above 1,000,000,000                      the first such task, from 0
+ *   18   checking a filled sheet: tasks stand there without results        0
+ *   19   checking a filled sheet: a result differs                         the first such result, from 0
+ *
+ * A refusal writes nothing to what was lent, and its step, looks, margin, count or sheet is 0 (but for the looks of 7). An acceptance
+ * writes what its answer needs, and nothing past it. */
 #ifndef EELBASKET_H
 #define EELBASKET_H
 #include <stddef.h>
 #include <stdint.h>
+
+/* The most tasks of a table, and the bytes of the longest sheet. */
+#define EELBASKET_MOST_TASKS 32
+#define EELBASKET_LONGEST_SHEET 714
 
 /* A task record: cost, shortest and longest period in ticks, elasticity. */
 struct eelbasket_task { uint32_t c, tmin, tmax, e; };
@@ -18,41 +38,100 @@ struct eelbasket_task { uint32_t c, tmin, tmax, e; };
 /* The policy (1 pooled, 2 global EDF, 3 global RM, 4 first fit) and how many processors there are. */
 struct eelbasket_station { uint16_t policy, m; };
 
+/* ---- The finders and the margin ---- */
+
 /* What a finder tells. The plain finder makes no looks. */
 struct eelbasket_told { uint32_t number, step, looks; size_t place; };
 
 /* What the margin tells: the right side of the policy's test minus the left. */
 struct eelbasket_margin { uint32_t number; size_t place; int64_t margin; };
 
-/* The least passing step, each task's period and its processor (0: any). */
+/* The least passing step, each task's period and its processor (0: any). Refusals 1, 2, 3, 5, 6, 7; 5 where either output is short. */
 struct eelbasket_told eelbasket_plain(const struct eelbasket_task *rows, size_t tasks, struct eelbasket_station station,
                                       uint32_t *periods, size_t periods_len, uint16_t *processors, size_t processors_len);
 
-/* The same for policies 1 to 3 in at most tasks + 1 looks. */
+/* The same for policies 1 to 3 in at most tasks + 1 looks, counted also where 7 is given. Refusals 1, 2, 3, 4, 5, 6, 7. */
 struct eelbasket_told eelbasket_quick(const struct eelbasket_task *rows, size_t tasks, struct eelbasket_station station,
                                       uint32_t *periods, size_t periods_len, uint16_t *processors, size_t processors_len);
 
-/* The margin at any step, for policies 1 to 3. */
+/* The margin at any step, for policies 1 to 3. Refusals 1, 2, 3, 4, 6. */
 struct eelbasket_margin eelbasket_margin(const struct eelbasket_task *rows, size_t tasks, struct eelbasket_station station, uint32_t step);
 
-/* A station sheet filled in, or the line `refused N at P`; returns how many of the 714 bytes of `out` were written. */
-size_t eelbasket_fill(const uint8_t *sheet, size_t sheet_len, uint8_t out[714]);
+/* ---- Jobs that need several cores ---- */
 
-/* The release clock on 32 bits: each task's period and next release, of which the first n count. Start makes one; a call takes it and
- * hands it back moved on. */
-struct eelbasket_clock { uint32_t periods[32], next[32]; size_t n; };
+/* A task record with a span: cost, span, shortest and longest period in ticks, elasticity. */
+struct eelbasket_wide_task { uint64_t c; uint32_t l, tmin, tmax, e; };
 
-/* What a start tells: the clock is all zeros where it is refused, by 3 and then 17. */
+/* The least passing step on m processors, each task's period and how many cores it takes; no looks. Refusals 2, 3, 5, 6, 7. */
+struct eelbasket_told eelbasket_wide(const struct eelbasket_wide_task *rows, size_t tasks, uint16_t m,
+                                     uint32_t *periods, size_t periods_len, uint16_t *cores, size_t cores_len);
+
+/* ---- Station sheets ---- */
+
+/* What is granted a task: its period and its processor (0: any). */
+struct eelbasket_granted { uint32_t period; uint16_t processor; };
+
+/* The task section and the results section of a sheet: the first n rows count, and after a reading the others are zeros. */
+struct eelbasket_table { struct eelbasket_task rows[EELBASKET_MOST_TASKS]; size_t n; };
+struct eelbasket_results { struct eelbasket_granted rows[EELBASKET_MOST_TASKS]; size_t n; };
+
+/* A station sheet in numbers. */
+struct eelbasket_sheet { struct eelbasket_station station; struct eelbasket_table table; struct eelbasket_results results; };
+
+/* What a reading tells: the sheet is all zeros where it is refused. */
+struct eelbasket_reading { uint32_t number; size_t place; struct eelbasket_sheet sheet; };
+
+/* What a call tells that hands over rows or bytes: how many it wrote. */
+struct eelbasket_counted { uint32_t number; size_t place, count; };
+
+/* What a check tells. */
+struct eelbasket_verdict { uint32_t number; size_t place; };
+
+/* A part of one of two sheets: which (0 the standing, 1 the proposed one), from which place on, and how many bytes. */
+struct eelbasket_part { uint32_t which; size_t place, size; };
+
+/* Reads a sheet; it judges neither policy, processors nor records. Refusals 8, 9, 3, 10, 11, whichever comes first from the left. */
+struct eelbasket_reading eelbasket_read(const uint8_t *sheet, size_t sheet_len);
+
+/* Writes a sheet. Refusals 3, 10, 5. */
+struct eelbasket_counted eelbasket_write(struct eelbasket_sheet sheet, uint8_t *out, size_t out_len);
+
+/* Reads a sheet and writes it with the plain finder's results, replacing older ones. Refusals of eelbasket_read, then 1, 2, 6, 7.
+ * Unlike the program `pace` it writes no line where it refuses. */
+struct eelbasket_counted eelbasket_fill(const uint8_t *sheet, size_t sheet_len, uint8_t out[EELBASKET_LONGEST_SHEET]);
+
+/* Whether a filled sheet has the results that the plain finder gives. Refusals of eelbasket_read, then 1, 2, 6, 7, then 18, 19.
+ * Unlike the program `check_sheet` it writes no line. */
+struct eelbasket_verdict eelbasket_check(const uint8_t *sheet, size_t sheet_len);
+
+/* The change-over: the task records of the proposed sheet if it reads and the plain finder accepts it, otherwise those of the standing
+ * one under the same condition, otherwise the empty front of the standing sheet. It refuses nothing. */
+struct eelbasket_part eelbasket_change_over(const uint8_t *standing, size_t standing_len, const uint8_t *proposed, size_t proposed_len);
+
+/* ---- Tables from the office: a line `C,Tmin,Tmax,E` for each task ---- */
+
+/* The table of a text, into lent rows. Refusals 16 and 3, whichever comes first from the left, then 5. */
+struct eelbasket_counted eelbasket_import(const uint8_t *text, size_t text_len, struct eelbasket_task *rows, size_t rows_len);
+
+/* The text of a table. Refusals 3, 5. */
+struct eelbasket_counted eelbasket_export(const struct eelbasket_task *rows, size_t tasks, uint8_t *out, size_t out_len);
+
+/* ---- The release clock on 32 bits ---- */
+
+/* Each task's period and next release, of which the first n count. Start makes a clock; a call takes it and hands it back moved on. */
+struct eelbasket_clock { uint32_t periods[EELBASKET_MOST_TASKS], next[EELBASKET_MOST_TASKS]; size_t n; };
+
+/* What a start tells: the clock is all zeros where it is refused. */
 struct eelbasket_started { uint32_t number; size_t place; struct eelbasket_clock clock; };
 
-/* What a call tells: how many tasks are handed back (1 or 0), which one (0 for none), and the clock after it. It is refused by 3 only. */
+/* What a call tells: how many tasks are handed back (1 or 0), which one (0 for none), and the clock after it. */
 struct eelbasket_called { uint32_t number, due; size_t task, place; struct eelbasket_clock clock; };
 
-/* A clock for these periods: each task's next release is the starting tick. */
+/* A clock for these periods: each task's next release is the starting tick. Refusals 3, 17. */
 struct eelbasket_started eelbasket_clock_start(const uint32_t *periods, size_t tasks, uint32_t tick);
 
 /* The due task that is furthest behind at the present tick, lowest record on a tie. Ticks wrap; each must be at most 1,000,000,000 behind
- * the furthest one given, and no task may fall 2,147,483,648 ticks behind. */
+ * the furthest one given, and no task may fall 2,147,483,648 ticks behind. Refusal 3. */
 struct eelbasket_called eelbasket_clock_call(struct eelbasket_clock clock, uint32_t present);
 
 #endif

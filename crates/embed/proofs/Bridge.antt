@@ -1,18 +1,23 @@
 -- What the calls on a table tell of the table of the lent records, they tell of the records.
 -- Assumes nothing.
-use Prim.Native.Nat.{ℕ, min}
+use Prim.Native.Nat.{ℕ, _≤_, _<_, min}
 use mathlib.Core.Bool.{true, false}
 use mathlib.Core.List.{List}
-use mathlib.Core.Path.{_∙_}
+use mathlib.Core.Path.{_≡_, _∙_}
 use lib.ListN.{length}
 use Rattle.kinds.specs.declared.Settings.{Settings}
 use Rattle.kinds.specs.declared.Task.{Task}
+use Rattle.kinds.specs.Limits.{mostTasks}
+use Rattle.kinds.specs.Task.{at}
 use Rattle.plan.specs.Plan.{outcome}
 use Rattle.quick.proofs.Promises.{looks-agree}
 use Rattle.rows.specs.Gathered.{tableOf}
 use Rattle.rows.proofs.Bridge.{table-at, outcome-over}
+use Rattle.office.proofs.Answers.{handed-same, after-same}
 use Rattle.embed.specs.declared.Told.{Told}
+use Rattle.embed.specs.declared.sheets.ToldCount.{ToldCount}
 use Rattle.embed.specs.Told.{ToldMeets, ToldLooked}
+use Rattle.embed.specs.Texts.{ToldExports}
 
 module _ (s : Settings) (rows : List Task) (periods processors : List ℕ) (r : Told) (ps qs : List ℕ) where
   pub told-meets-over : ToldMeets (outcome true s (tableOf rows .rows) (length rows) periods processors) r ps qs
@@ -29,3 +34,13 @@ module _ (s : Settings) (rows : List Task) (periods processors : List ℕ) (r : 
         count = x .count ∙ looks-agree s (tableOf rows .rows) rows (length rows) (λ few i _. table-at rows few i) (min (length periods) (length processors));
         few = x .few;
       }
+
+pub told-exports-over : (rows : List Task) (old : List ℕ) (r : ToldCount) (new : List ℕ)
+    → ToldExports (tableOf rows .rows) (length rows) old r new → ToldExports rows (length rows) old r new
+told-exports-over rows old r new x =
+    let t = tableOf rows .rows in
+    let agree : length rows ≤ mostTasks → (i : ℕ) → i < length rows → at t i ≡ at rows i = λ few i _. table-at rows few i in
+    record {
+      answers = x .answers ∙ handed-same t rows (length rows) agree (length old);
+      leaves = x .leaves ∙ after-same t rows (length rows) agree old;
+    }

@@ -1,3 +1,5 @@
 pub mod Values
 pub mod Bridge
 pub mod ClockTold
+pub mod Once
+pub mod Readings

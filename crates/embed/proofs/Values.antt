@@ -8,6 +8,8 @@ use Rattle.embed.proofs.Told as T
 use Rattle.embed.proofs.Told.Laws as T′
 use Rattle.embed.proofs.ToldMargin as M
 use Rattle.embed.proofs.ToldMargin.Laws as M′
+use Rattle.embed.proofs.sheets.ToldCount as N
+use Rattle.embed.proofs.sheets.ToldCount.Laws as N′
 
 abbrev pub station : Valued S.the-row
 station = of-struct S.the-type S′.the-laws S′.lowers S′.the-plain (λ x f. refl)
@@ -17,3 +19,6 @@ told = of-struct T.the-type T′.the-laws T′.lowers T′.the-plain (λ x f. re
 
 abbrev pub told-margin : Valued M.the-row
 told-margin = of-struct M.the-type M′.the-laws M′.lowers M′.the-plain (λ x f. refl)
+
+abbrev pub told-count : Valued N.the-row
+told-count = of-struct N.the-type N′.the-laws N′.lowers N′.the-plain (λ x f. refl)

@@ -1,2 +1,4 @@
 pub mod Told
 pub mod Clocked
+pub mod Sheets
+pub mod Texts

@@ -1,8 +1,9 @@
 // The library for C and Rust. An enum does not cross, so a policy comes as its number, and an answer goes as document 01's numbers: 0 for
 // an acceptance. A slice is a pointer and then a length. Contracts cite `specs/Told`, which reads the numbers as the calls' own promises.
 mod clocked;
+mod sheets;
+mod texts;
 
-use fill::LONGEST_SHEET;
 use kinds::Answer;
 use kinds::Margin;
 use kinds::Policy;
@@ -10,13 +11,15 @@ use kinds::Settings;
 use kinds::Table;
 use kinds::Task;
 use quick::Looked;
+use wide::WideTable;
+use wide::WideTask;
 ghost use mathlib.Core.Bool.{true};
 ghost use mathlib.Core.Path.{_≡_};
 ghost use lib.ListN.{length};
 ghost use Rattle.kinds.specs.Answer.{handed, handedMargin};
 ghost use Rattle.plan.specs.Plan.{outcome};
 ghost use Rattle.margin.specs.Margin.{marginHanded};
-ghost use Rattle.fill.specs.Fill.{filled, Fronts};
+ghost use Rattle.wide.specs.Wide as wide;
 ghost use Rattle.embed.specs.Told.{settingsOf, toldHanded, toldMargin, ToldMeets, ToldLooked};
 
 // The settings as two numbers.
@@ -154,10 +157,22 @@ pub extern "C" fn eelbasket_margin(rows: &[Task], station: Station, step: u32) -
     margin_told(rows::gather(rows), station, step)
 }
 
-// The program's whole work: a sheet filled in, or the line of a refusal; returns how many bytes.
-#[no_mangle]
-pub extern "C" fn eelbasket_fill(input: &[u8], out: &mut [u8; LONGEST_SHEET]) -> usize
-    ensures { λ r. ⌜ Fronts (filled (now (input .entry))) (now (out .entry)) r (now (out .exit)) ⌝ }
+// The finder for tasks that need several cores, on a table by value.
+pub fn wide_told(table: WideTable, m: u16, periods: &mut [u32], cores: &mut [u16]) -> Told
+    ensures { λ r. ⌜ ToldMeets (wide.outcome m (table .rows) (table .n) (now (periods .entry)) (now (cores .entry))) r (now (periods .exit)) (now (cores .exit)) ⌝ }
 {
-    fill::fill(input, out)
+    tell(wide::find(table, m, periods, cores), 0)
+}
+
+// The same over lent records.
+#[no_mangle]
+pub extern "C" fn eelbasket_wide(
+    rows: &[WideTask],
+    m: u16,
+    periods: &mut [u32],
+    cores: &mut [u16],
+) -> Told
+    ensures { λ r. ⌜ ToldMeets (wide.outcome m (now (rows .entry)) (length (now (rows .entry))) (now (periods .entry)) (now (cores .entry))) r (now (periods .exit)) (now (cores .exit)) ⌝ }
+{
+    wide_told(wide_rows::gather(rows), m, periods, cores)
 }

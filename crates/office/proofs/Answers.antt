@@ -151,7 +151,7 @@ read-one text room r q a b =
 
 -- ---- rows that agree as far as they count are exported alike
 module _ (rows other : List Task) (n : ℕ) (agree : n ≤ mostTasks → (i : ℕ) → i < n → at rows i ≡ at other i) where
-  handed-same : (room : ℕ) → exportHanded rows n room ≡ exportHanded other n room
+  pub handed-same : (room : ℕ) → exportHanded rows n room ≡ exportHanded other n room
   handed-same room =
       by-le n mostTasks
       (λ h.
@@ -159,7 +159,7 @@ module _ (rows other : List Task) (n : ℕ) (agree : n ≤ mostTasks → (i : �
       few-of rows n room h (length (textTo rows n)) refl ∙ sym (few-of other n room h (length (textTo rows n)) (sym e)))
       (λ h. many-of rows n room h ∙ sym (many-of other n room h))
 
-  after-same : (old : List ℕ) → after (exportHanded rows n (length old)) (textTo rows n) old ≡ after (exportHanded other n (length old)) (textTo other n) old
+  pub after-same : (old : List ℕ) → after (exportHanded rows n (length old)) (textTo rows n) old ≡ after (exportHanded other n (length old)) (textTo other n) old
   after-same old =
       by-le n mostTasks
       (λ h. rw (handed-same (length old), text-same rows other n (agree h)))

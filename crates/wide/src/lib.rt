@@ -22,6 +22,7 @@ ghost use Rattle.wide.specs.Table.{fullCompression, firstBad, coresSum, 
 ghost use Rattle.wide.specs.Wide.{admission, found, outcome, MayGrant, Leaves};
 
 // A task that needs several cores: cost C, span L, shortest and longest period, elasticity E. Any numbers may stand in it.
+#[repr(C)]
 pub struct WideTask {
     pub c: u64,
     pub l: u32,

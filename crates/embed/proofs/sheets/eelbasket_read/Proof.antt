@@ -1,0 +1,24 @@
+-- `embed::sheets::eelbasket_read` meets its contract. Assumes nothing.
+use borrow.Author.Needs.{needs}
+use Rattle.embed.proofs.Readings.{reading-told}
+use Rattle.embed.proofs.sheets.eelbasket_read.Statement.{statement}
+use Rattle.embed.proofs.sheets.eelbasket_read.Tie as tie
+
+read-requires : tie.Need-read-requires
+read-requires c κs = search needs
+
+tell-verdict-requires : tie.Need-tell-verdict-requires
+tell-verdict-requires c κs = search needs
+
+numbers-of-requires : tie.Need-numbers-of-requires
+numbers-of-requires c κs = search needs
+
+returns : tie.Need-returns
+returns c =
+    let read = c .before .before .before .read in
+    let told = c .before .tell-verdict in
+    rw (c .numbers-of .ensures) (reading-told _ (read .result) (told .result) (read .ensures) (told .ensures))
+
+pub eelbasket-read-spec : {M : Type 1} → statement M
+eelbasket-read-spec =
+    tie.close (tie.spec read-requires tell-verdict-requires numbers-of-requires returns)
