@@ -1,5 +1,5 @@
-// Runs bench cases B to L on the finders and the margin, by value and over lent rows; `stdout` has what they must give. Both outputs are
-// lent longer than the table and filled with 7 and 9, so that the entry after the last task shows whether it was written.
+// Runs bench cases A to L on the finders and the margin; `stdout` has what they must give. Both outputs are lent longer than the table
+// and filled with 7 and 9, so that the entry after the last task shows whether it was written.
 use kinds::Answer;
 use kinds::Margin;
 use kinds::Policy;
@@ -30,31 +30,11 @@ fn run_quick(table: Table, settings: Settings) {
     show::words(b"\n");
 }
 
-// The same calls over the table's rows, lent as a slice of records.
-fn run_rows(table: Table, settings: Settings) {
-    let mut periods = [7u32; LENT];
-    let mut processors = [9u16; LENT];
-    show::words(b"rows plain");
-    show::answer(rows::find_plain_over(table, settings, &mut periods, &mut processors));
-    show::outputs(b" processors", table.n, &periods, &processors);
-    show::words(b"\nrows quick");
-    periods = [7u32; LENT];
-    processors = [9u16; LENT];
-    let looked = rows::find_quick_over(table, settings, &mut periods, &mut processors);
-    let answer = looked.answer;
-    show::answer(answer);
-    show::words(b" looks");
-    show::number(looked.looks);
-    show::outputs(b" processors", table.n, &periods, &processors);
-    show::words(b"\n");
-}
-
 fn run(name: &[u8], policy: Policy, m: u16, table: Table) {
     show::words(name);
     let settings = Settings { policy, m };
     run_plain(table, settings);
     run_quick(table, settings);
-    run_rows(table, settings);
 }
 
 // Whether the margin at a step is negative, zero or positive.

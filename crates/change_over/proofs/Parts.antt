@@ -1,36 +1,64 @@
--- The three answers of the change-over, each a part of one of the two lent sheets, and that no second answer meets the promise.
+-- The part that a change-over names stands in the sheet that it is a part of, `part-fits`, and no second answer meets the promise.
 -- Assumes nothing.
-use Prim.Native.Nat.{ℕ, _+_, _-_, _*_}
-use mathlib.Core.List.{List, []}
-use mathlib.Core.Path.{_≡_, refl, sym, ap, _∙_}
+use Prim.Native.Nat.{ℕ, _+_, _-_, _*_, _≤_}
+use mathlib.Core.List.{List}
+use mathlib.Core.Path.{_≡_, refl, sym, _∙_}
 use native.Mathlib.Omega.{arith}
-use lib.ListN.{take, drop}
+use lib.ListN.{length, take, drop}
+use Rattle.kinds.specs.Limits.{mostTasks}
 use Rattle.sheet.specs.Sections.{taskSize, recordsPlace, resultsPlace}
+use Rattle.change_over.specs.declared.Which.{Which}
+use Rattle.change_over.specs.declared.Which.the-variants.{Standing, Proposed}
+use Rattle.change_over.specs.declared.Part.{Part}
+use Rattle.change_over.specs.declared.Section.{Section}
 use Rattle.change_over.specs.declared.Section.the-variants.{Tasks, Nothing}
-use Rattle.change_over.specs.ChangeOver.{Part, sectionOf, changeOver, IsPart}
+use Rattle.change_over.specs.ChangeOver.{sectionOf, tasksPart, tasksOr, emptyFront, changeOver, oneOf, IsPart}
+use Rattle.change_over.proofs.Sections.{section-fits}
 
-module _ (standing proposed : List ℕ) (standingAt proposedAt : ℕ × ℕ) (from : ℕ) (starts : from ≡ recordsPlace) where
-  pub takes-proposed : (n end : ℕ) → end ≡ resultsPlace n → sectionOf proposed ≡ Tasks n
-      → IsPart (changeOver standing proposed) standing proposed standingAt proposedAt (take (end - from) (drop from proposed)) (proposedAt .0, from + proposedAt .1)
+-- the three answers
+module _ (standing proposed : List ℕ) where
+  pub takes-proposed : (n : ℕ) → sectionOf proposed ≡ Tasks n → tasksPart Proposed n ≡ changeOver standing proposed
   unfolding changeOver
-  takes-proposed n end e p =
-      let size : end - from ≡ taskSize * n = omega arith in
-      rw (p, size, starts) (record { bytes = refl; place = refl })
+  takes-proposed n p = rw p
 
-  module _ (p : sectionOf proposed ≡ Nothing) where
-    pub takes-standing : (n end : ℕ) → end ≡ resultsPlace n → sectionOf standing ≡ Tasks n
-        → IsPart (changeOver standing proposed) standing proposed standingAt proposedAt (take (end - from) (drop from standing)) (standingAt .0, from + standingAt .1)
-    unfolding changeOver
-    takes-standing n end e q =
-        let size : end - from ≡ taskSize * n = omega arith in
-        rw (p, q, size, starts) (record { bytes = refl; place = refl })
+  pub takes-standing : sectionOf proposed ≡ Nothing → (n : ℕ) → sectionOf standing ≡ Tasks n → tasksPart Standing n ≡ changeOver standing proposed
+  unfolding changeOver
+  takes-standing p n q = rw (p, q)
 
-pub takes-nothing : (standing proposed : List ℕ) (standingAt proposedAt : ℕ × ℕ) → sectionOf proposed ≡ Nothing → sectionOf standing ≡ Nothing
-    → IsPart (changeOver standing proposed) standing proposed standingAt proposedAt [] standingAt
-unfolding changeOver
-takes-nothing standing proposed standingAt proposedAt p q =
-    let front : standingAt .1 ≡ 0 + standingAt .1 = omega arith in
-    rw (p, q) (record { bytes = refl; place = ap (λ (k : ℕ). (standingAt .0, k)) front })
+  pub takes-nothing : sectionOf proposed ≡ Nothing → sectionOf standing ≡ Nothing → emptyFront ≡ changeOver standing proposed
+  unfolding changeOver
+  takes-nothing p q = rw (p, q)
+
+  -- it ends where a full task section ends, or before, and not past the sheet
+  abbrev Fits : Part → Type 0
+  Fits part = (part .from + part .size ≤ resultsPlace mostTasks) × (part .from + part .size ≤ length (oneOf (part .which) standing proposed))
+
+  tasks-fit : (which : Which) (section : Section) (other : Part) → sectionOf (oneOf which standing proposed) ≡ section → Fits other → Fits (tasksOr which section other)
+  tasks-fit which (Tasks n) other e fits =
+      let few = section-fits (oneOf which standing proposed) n e in
+      (omega (arith, few), omega (arith, few))
+  tasks-fit which Nothing other e fits = fits
+
+  pub part-fits : (part : Part) → part ≡ changeOver standing proposed → Fits part
+  unfolding changeOver
+  part-fits part e =
+      rw e
+      (tasks-fit Proposed (sectionOf proposed) (tasksOr Standing (sectionOf standing) emptyFront) refl
+      (tasks-fit Standing (sectionOf standing) emptyFront refl (omega arith, omega arith)))
+
+-- the part that is lent, of the sheet that it names
+module _ (standing proposed : List ℕ) (standingAt proposedAt : ℕ × ℕ) (part : Part) (is : part ≡ changeOver standing proposed)
+    (which : Which) (named : part .which ≡ which) where
+  pub lent-fits : part .from + part .size ≤ length (oneOf which standing proposed)
+  lent-fits = rw named at (part-fits standing proposed part is .1)
+
+  pub lent : (end : ℕ) → end ≡ part .from + part .size
+      → IsPart (changeOver standing proposed) standing proposed standingAt proposedAt
+      (take (end - part .from) (drop (part .from) (oneOf which standing proposed)))
+      (oneOf which standingAt proposedAt .0, part .from + oneOf which standingAt proposedAt .1)
+  lent end e =
+      let size : end - part .from ≡ part .size = omega (arith, e) in
+      rw (← is, named, size) (record { bytes = refl; place = refl })
 
 -- two answers that are the same part have the same bytes and stand in the same place
 pub change-over-one : (part : Part) (standing proposed : List ℕ) (standingAt proposedAt : ℕ × ℕ) (a b : List ℕ) (aAt bAt : ℕ × ℕ)

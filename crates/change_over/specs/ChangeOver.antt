@@ -10,6 +10,9 @@ use Rattle.ground.specs.Choice.{pick, both}
 use Rattle.plain.specs.Asked.{asked}
 use Rattle.sheet.specs.Sections.{taskSize, recordsPlace}
 use Rattle.sheet.specs.Reading.{readSheet}
+use Rattle.change_over.specs.declared.Which.{Which}
+use Rattle.change_over.specs.declared.Which.the-variants.{Standing, Proposed}
+use Rattle.change_over.specs.declared.Part.{Part}
 use Rattle.change_over.specs.declared.Section.{Section}
 use Rattle.change_over.specs.declared.Section.the-variants.{Tasks, Nothing}
 
@@ -21,20 +24,12 @@ acceptable s = both (eqb (readSheet s .number) 0) (eqb (asked (readSheet s .valu
 unfoldable pub sectionOf : List ℕ → Section
 sectionOf s = pick (acceptable s) (Tasks (readSheet s .value .table .n)) Nothing
 
--- the two lent sheets
-pub data Which : Type 0 where
-  Standing : Which
-  Proposed : Which
-
--- a part of one of them: from which place on, and how many bytes
-pub record Part : Type 0 where
-  pub which : Which
-  pub from : ℕ
-  pub size : ℕ
-
 -- "the task section (records only)" of an acceptable sheet, else another part
+abbrev pub tasksPart : Which → ℕ → Part
+tasksPart which n = record { which = which; from = recordsPlace; size = taskSize * n }
+
 abbrev pub tasksOr : Which → Section → Part → Part
-tasksOr which (Tasks n) other = record { which = which; from = recordsPlace; size = taskSize * n }
+tasksOr which (Tasks n) other = tasksPart which n
 tasksOr which Nothing other = other
 
 -- "the empty front of the standing sheet"

@@ -1,7 +1,22 @@
 // The change-over between the standing and the proposed sheet. Contracts cite `specs/ChangeOver`.
 use sheet::Verdict;
 ghost use mathlib.Core.Path.{_≡_};
-ghost use Rattle.change_over.specs.ChangeOver.{sectionOf, changeOver, IsPart};
+ghost use Prim.Native.Nat.{_≤_};
+ghost use Rattle.kinds.specs.Limits.{mostTasks};
+ghost use Rattle.change_over.specs.ChangeOver.{sectionOf, tasksPart, changeOver, IsPart};
+
+// The two lent sheets.
+pub enum Which {
+    Standing,
+    Proposed,
+}
+
+// A part of one of them: from which place on, and how many bytes.
+pub struct Part {
+    pub which: Which,
+    pub from: usize,
+    pub size: usize,
+}
 
 // How many tasks a sheet has that reads and that the plain finder accepts.
 enum Section {
@@ -29,18 +44,44 @@ fn section_of(bytes: &[u8]) -> Section
     Section::Nothing
 }
 
+// The task section of a sheet with n tasks.
+fn tasks_of(which: Which, n: usize) -> Part
+    requires { ⌜ n ≤ mostTasks ⌝ }
+    ensures { λ r. ⌜ r ≡ tasksPart which n ⌝ }
+{
+    let from = sheet::records_place();
+    let size = sheet::results_place(n) - from;
+    Part { which, from, size }
+}
+
 // The task section of the proposed sheet, else that of the standing one, else the empty front of the standing one.
+pub fn part_of(standing: &[u8], proposed: &[u8]) -> Part
+    ensures { λ r. ⌜ r ≡ changeOver (now (standing .entry)) (now (proposed .entry)) ⌝ }
+{
+    if let Section::Tasks(n) = section_of(proposed) {
+        return tasks_of(Which::Proposed, n);
+    }
+    if let Section::Tasks(n) = section_of(standing) {
+        return tasks_of(Which::Standing, n);
+    }
+    let which = Which::Standing;
+    Part {
+        which,
+        from: 0,
+        size: 0,
+    }
+}
+
+// That part itself, of the sheet that was lent and not a copy.
 pub fn change_over<'a>(standing: &'a [u8], proposed: &'a [u8]) -> &'a [u8]
     ensures { λ r. ⌜ IsPart (changeOver (now (standing .entry)) (now (proposed .entry))) (now (standing .entry)) (now (proposed .entry)) (standing .entry .ptr) (proposed .entry .ptr) (now r) (r .ptr) ⌝ }
 {
-    let from = sheet::records_place();
-    if let Section::Tasks(n) = section_of(proposed) {
-        let end = sheet::results_place(n);
-        return &proposed[from..end];
+    let part = part_of(standing, proposed);
+    let from = part.from;
+    let end = from + part.size;
+    let which = part.which;
+    match which {
+        Which::Standing => &standing[from..end],
+        Which::Proposed => &proposed[from..end],
     }
-    if let Section::Tasks(n) = section_of(standing) {
-        let end = sheet::results_place(n);
-        return &standing[from..end];
-    }
-    &standing[..0]
 }

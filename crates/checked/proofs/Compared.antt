@@ -15,6 +15,7 @@ use Rattle.kinds.specs.declared.Answer.{Answer}
 use Rattle.kinds.specs.declared.Answer.the-variants as answer
 use Rattle.kinds.specs.Limits.{mostTasks}
 use Rattle.kinds.specs.Answer.{accepted, refused, handed}
+use Rattle.kinds.proofs.Chain.{comes-first, goes-on}
 use Rattle.plan.specs.Plan.{outcome, Meets}
 use Rattle.plain.specs.Asked.{asked}
 use Rattle.sheet.specs.Rows.{noGranted}
@@ -23,7 +24,6 @@ use Rattle.writer.specs.Canonical.{grantedIn}
 use Rattle.fill.specs.Results.{entryAt, resultsOf, planPeriods, planProcessors, withPlan}
 use Rattle.fill.proofs.Plans.{answers, entry-is}
 use Rattle.checked.specs.Checked.{differ, unlike, differsAt, firstDiffering, compared, checkedSheet}
-use Rattle.checked.proofs.Chain.{comes-first, goes-on}
 
 -- result i of a sheet with a plan is entry i of the plan
 pub planned-at : (x : Sheet) (k i : ℕ) → x .table .n ≤ mostTasks → i < x .table .n → grantedIn (withPlan x k) i ≡ entryAt (planPeriods x k) (planProcessors x k) i
@@ -37,12 +37,12 @@ module _ (x : Sheet) (few : x .table .n ≤ mostTasks) (ps qs ps′ qs′ : List
 
   pub finder-refuses : (q : Refusal) → a ≡ answer.Refused q → refused tt q ≡ checkedSheet x
   unfolding checkedSheet
-  finder-refuses q e = comes-first (asked x) (compared x) 0 q (asked-is ∙ ap handed e)
+  finder-refuses q e = comes-first tt (asked x) (compared x) 0 q (asked-is ∙ ap handed e)
 
   module _ (k : ℕ) (e : a ≡ answer.Accepted k) where
     then-compared : compared x k ≡ checkedSheet x
     unfolding checkedSheet
-    then-compared = goes-on (asked x) (compared x) k (asked-is ∙ ap handed e)
+    then-compared = goes-on tt (asked x) (compared x) k (asked-is ∙ ap handed e)
 
     pub without-results : x .results .n < x .table .n → refused tt NoResults ≡ checkedSheet x
     unfolding compared

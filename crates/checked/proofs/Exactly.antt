@@ -22,6 +22,7 @@ use Rattle.kinds.specs.Task.{at}
 use Rattle.kinds.specs.Policy.{meant}
 use Rattle.kinds.specs.Answer.{accepted}
 use Rattle.kinds.proofs.Refusals.{refusal-numbered}
+use Rattle.kinds.proofs.Chain.{goes-on, both-accept}
 use Rattle.share.specs.Share.{periodAt}
 use Rattle.share.specs.Table.{periodsAt}
 use Rattle.admission.specs.declared.Admission.{Admission}
@@ -41,7 +42,6 @@ use Rattle.fill.specs.Results.{withPlan}
 use Rattle.fill.proofs.Held.{list-in}
 use Rattle.checked.specs.Checked.{differ, differsAt, firstDiffering, compared, checkedSheet, checked}
 use Rattle.checked.specs.Agrees.{grantedAt, Agrees}
-use Rattle.checked.proofs.Chain.{goes-on, both-accept}
 use Rattle.checked.proofs.Compared.{planned-at}
 
 -- number 0 from the plain finder is an acceptance
@@ -113,9 +113,9 @@ module _ (s : List ℕ) where
   pub accepted-agrees : checked s ≡ accepted tt → (x : Sheet) × (k : ℕ) × Agrees s x k
   unfolding checked checkedSheet
   accepted-agrees e =
-      let a = both-accept (readSheet s) checkedSheet e in
+      let a = both-accept tt (readSheet s) checkedSheet tt e in
       let x = readSheet s .value in
-      let b = both-accept (asked x) (compared x) (a .1) in
+      let b = both-accept tt (asked x) (compared x) tt (a .1) in
       (x, asked x .value, compared-agrees x (asked x .value) (accepted-by-number s (a .0)) (asked-by-number x (b .0)) (b .1))
 
   pub agrees-accepted : (x : Sheet) (k : ℕ) → Agrees s x k → checked s ≡ accepted tt
@@ -126,6 +126,6 @@ module _ (s : List ℕ) where
       let alike : (i : ℕ) → i < n → differsAt x k i ≡ false =
       λ i l. same (grantedIn x i) (grantedIn (withPlan x k) i) (g .each i l ∙ sym (plan-at x k i few l)) in
       let none : n ≡ firstBelow (differsAt x k) n = first-none (differsAt x k) n n alike refl in
-      sym (goes-on (readSheet s) checkedSheet x (g .reads))
-      ∙ (sym (goes-on (asked x) (compared x) k (g .plans))
+      sym (goes-on tt (readSheet s) checkedSheet x (g .reads))
+      ∙ (sym (goes-on tt (asked x) (compared x) k (g .plans))
       ∙ rw (le-leb n (x .results .n) (omega (arith, g .counted)), ← none, le-leb n n (omega arith)))

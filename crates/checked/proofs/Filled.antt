@@ -22,8 +22,7 @@ use Rattle.writer.specs.Encode.{encode}
 use Rattle.writer.specs.Canonical.{grantedIn}
 use Rattle.fill.specs.Results.{resultsOf, withPlan}
 use Rattle.fill.specs.Fill.{filled}
-use Rattle.fill.proofs.Plans.{filled-planned}
-use Rattle.fill.proofs.Readings as readings
+use Rattle.fill.proofs.Readings.{filled-planned}
 use Rattle.fill.proofs.Again.{reads-again}
 use Rattle.fill.proofs.Held.{plan-room, plan-unused}
 use Rattle.checked.specs.Checked.{checked}
@@ -40,7 +39,7 @@ filled-accepted s bytes x read k e =
     let w = whole s x read in
     let p : asked (sheetIn s) ≡ accepted k = rw (w .1) at e in
     let there = whole-accepted s (w .0) in
-    let is : filled s ≡ encode (withPlan (sheetIn s) k) = readings.filled-accepted s (sheetIn s) there ∙ filled-planned (sheetIn s) k p in
+    let is : filled s ≡ encode (withPlan (sheetIn s) k) = filled-planned s (sheetIn s) k there p in
     rw is
     (agrees-accepted (encode (withPlan (sheetIn s) k)) (withPlan (sheetIn s) k) k
     (plan-agrees (sheetIn s) k (read-few s (sheetIn s) there) p (encode (withPlan (sheetIn s) k)) (reads-again s bytes (w .0) k p)))

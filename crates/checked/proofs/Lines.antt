@@ -7,13 +7,13 @@ use lib.ListN.{take}
 use Rattle.kinds.specs.declared.Sheet.{Sheet}
 use Rattle.kinds.specs.declared.Refusal.{Refusal}
 use Rattle.kinds.specs.Refusal.{numberOf, placeOf}
-use Rattle.kinds.specs.Answer.{Handed}
+use Rattle.kinds.specs.Answer.{Handed, unrefused}
 use Rattle.sheet.specs.declared.Verdict.{Verdict}
 use Rattle.sheet.specs.declared.Verdict.the-variants as verdict
 use Rattle.fill.specs.Fill.{longestSheet, refusalLine, orLine}
 use Rattle.fill.proofs.Lines.{line-of}
 use Rattle.fill.proofs.Beyond.{front-reads}
-use Rattle.checked.specs.Checked.{NumberAndPlace, unrefused, checkedSheet, checked, handedVerdict}
+use Rattle.checked.specs.Checked.{NumberAndPlace, checkedSheet, checked, handedVerdict}
 use Rattle.checked.specs.Told.{acceptedLine, told}
 
 module _ (s : List ℕ) (v : Verdict) (is : handedVerdict v ≡ checked s) where
@@ -30,7 +30,7 @@ module _ (s : List ℕ) (v : Verdict) (is : handedVerdict v ≡ checked s) where
 -- what is said of any input is said of its first 715 bytes
 pub front-checks : (s : List ℕ) → checked (take (longestSheet + 1) s) ≡ checked s
 unfolding checked
-front-checks s = ap (λ (r : Handed Sheet). unrefused r checkedSheet) (front-reads s)
+front-checks s = ap (λ (r : Handed Sheet). unrefused tt r checkedSheet) (front-reads s)
 
 pub front-tells : (s : List ℕ) → told (take (longestSheet + 1) s) ≡ told s
 unfolding told

@@ -5,12 +5,12 @@ use mathlib.Core.Bool.{Bool, not}
 use mathlib.Core.List.{List}
 use lib.Dec.{eqb, leb}
 use lib.ListN.{getD}
-use Rattle.ground.specs.Choice.{pick, either}
+use Rattle.ground.specs.Choice.{either}
 use Rattle.ground.specs.First.{firstBelow}
 use Rattle.kinds.specs.declared.Granted.{Granted}
 use Rattle.kinds.specs.declared.Sheet.{Sheet}
 use Rattle.kinds.specs.declared.Refusal.the-variants.{NoResults, WrongResult}
-use Rattle.kinds.specs.Answer.{Handed, accepted, refused}
+use Rattle.kinds.specs.Answer.{Handed, accepted, refused, unrefused}
 use Rattle.plain.specs.Asked.{asked}
 use Rattle.sheet.specs.declared.Verdict.{Verdict}
 use Rattle.sheet.specs.declared.Verdict.the-variants as verdict
@@ -46,16 +46,12 @@ compared x k =
     judged tt (leb (x .table .n) (x .results .n)) NoResults
     (judged tt (leb (x .table .n) (firstDiffering x k)) (WrongResult (firstDiffering x k)) (accepted tt))
 
--- a refusal that comes first, else what comes of the value
-abbrev pub unrefused : {A : Type 0} → Handed A → (A → NumberAndPlace) → NumberAndPlace
-unrefused h rest = pick (eqb (h .number) 0) (rest (h .value)) (record { number = h .number; place = h .place; value = tt })
-
 -- "Reader and finder refusals come first"
 unfoldable pub checkedSheet : Sheet → NumberAndPlace
-checkedSheet x = unrefused (asked x) (compared x)
+checkedSheet x = unrefused tt (asked x) (compared x)
 
 unfoldable pub checked : List ℕ → NumberAndPlace
-checked s = unrefused (readSheet s) checkedSheet
+checked s = unrefused tt (readSheet s) checkedSheet
 
 -- a verdict in document 01's numbers
 abbrev pub handedVerdict : Verdict → NumberAndPlace

@@ -2,7 +2,7 @@
 -- Assumes nothing.
 use Prim.Native.Nat.{ℕ, _≤_}
 use mathlib.Core.List.{List}
-use mathlib.Core.Path.{_≡_, sym, ap, _∙_}
+use mathlib.Core.Path.{_≡_, refl, sym, ap, _∙_}
 use native.Mathlib.Omega.{arith}
 use Rattle.kinds.specs.declared.Sheet.{Sheet}
 use Rattle.kinds.specs.declared.Refusal.the-variants.{NotTwoSettings}
@@ -18,16 +18,20 @@ use Rattle.writer.specs.Canonical.{canonical}
 use Rattle.writer.proofs.Forth.{forth}
 use Rattle.writer.proofs.RoundTrip.{canonical-same, same-canonical, read-canonical}
 use Rattle.fill.specs.Results.{resultsOf, withPlan}
-use Rattle.fill.specs.Fill.{refusalLine, filledSheet, filled}
+use Rattle.fill.specs.Fill.{refusalLine, filled}
 use Rattle.fill.proofs.Lines.{line-long}
-use Rattle.fill.proofs.Plans.{filled-planned, plan-fits}
-use Rattle.fill.proofs.Readings.{filled-refused, filled-accepted}
+use Rattle.fill.proofs.Plans.{plan-fits}
+use Rattle.fill.proofs.Readings.{filled-unread, filled-planned}
 use Rattle.fill.proofs.Held.{plan-room, plan-unused, planned-held}
 
 -- planning a sheet again changes nothing
-planned-again : (x : Sheet) (k : ℕ) → asked x ≡ accepted k → filledSheet (withPlan x k) ≡ encode (withPlan x k)
+asked-again : (x : Sheet) (k : ℕ) → asked x ≡ accepted k → asked (withPlan x k) ≡ accepted k
 unfolding withPlan asked
-planned-again x k e = filled-planned (withPlan x k) k e
+asked-again x k e = e
+
+planned-again : (x : Sheet) (k : ℕ) → withPlan (withPlan x k) k ≡ withPlan x k
+unfolding withPlan
+planned-again x k = refl
 
 sheet-few : (s : List ℕ) → Whole s → sheetIn s .table .n ≤ mostTasks
 unfolding sheetIn
@@ -50,8 +54,11 @@ module _ (s : List ℕ) (bytes : Bytes s) (w : Whole s) (k : ℕ) (e : asked (sh
 
   fills-again : filled (filled s) ≡ filled s
   fills-again =
-      let is : filled s ≡ encode (withPlan (sheetIn s) k) = filled-accepted s (sheetIn s) (whole-accepted s w) ∙ filled-planned (sheetIn s) k e in
-      rw is (filled-accepted (encode (withPlan (sheetIn s) k)) (withPlan (sheetIn s) k) reads-again ∙ planned-again (sheetIn s) k e)
+      let x = sheetIn s in
+      let is : filled s ≡ encode (withPlan x k) = filled-planned s x k (whole-accepted s w) e in
+      rw is
+      (filled-planned (encode (withPlan x k)) (withPlan x k) k reads-again (asked-again x k e)
+      ∙ ap encode (planned-again x k))
 
 -- whatever bytes were read, planned and written
 pub sheet-again : (s : List ℕ) → Bytes s → (x : Sheet) → readSheet s ≡ accepted x → (k : ℕ) → asked x ≡ accepted k → filled (filled s) ≡ filled s
@@ -66,5 +73,5 @@ other-count number place z = omega arith
 
 pub line-again : (number place : ℕ) → filled (refusalLine number place) ≡ refusalLine 9 0
 line-again number place =
-    filled-refused (refusalLine number place) noSheet NotTwoSettings
+    filled-unread (refusalLine number place) noSheet NotTwoSettings
     (sym (settings-wrong (refusalLine number place) (omega (arith, line-long number place)) (other-count number place)))

@@ -2,7 +2,7 @@
 -- as the reader says of the whole". 715 bytes tell all.
 -- Assumes nothing.
 use Prim.Native.Nat.{ℕ, _+_, _<_}
-use mathlib.Core.List.{List}
+use mathlib.Core.List.{List, []}
 use mathlib.Core.Path.{_≡_, ap}
 use native.Mathlib.Omega.{arith}
 use lib.ListN.{length, take}
@@ -11,15 +11,15 @@ use borrow.Author.Tests.{ne-eqb}
 use Rattle.ground.proofs.Cases.{by-le}
 use Rattle.kinds.specs.declared.Sheet.{Sheet}
 use Rattle.kinds.specs.declared.Refusal.the-variants.{BytesAfterLast}
-use Rattle.kinds.specs.Answer.{Handed, accepted}
+use Rattle.kinds.specs.Answer.{Handed, accepted, unrefused}
 use Rattle.sheet.specs.Reading.{noSheet, readSheet}
 use Rattle.sheet.proofs.Lengths.{end-most}
 use Rattle.sheet.proofs.Whole.{whole, few-results}
 use Rattle.sheet.proofs.Numbered.{accepted-by-number}
 use Rattle.sheet.proofs.Beyond.{front-reading}
 use Rattle.sheet.proofs.After.{front-refused}
-use Rattle.fill.specs.Fill.{longestSheet, refusalLine, orLine, filledSheet, filled}
-use Rattle.fill.proofs.Readings.{filled-refused}
+use Rattle.fill.specs.Fill.{longestSheet, refusalLine, orLine, plannedSheet, planned, filled}
+use Rattle.fill.proofs.Readings.{filled-unread}
 
 -- any input reads as its first 715 bytes do
 pub front-reads : (s : List ℕ) → readSheet (take (longestSheet + 1) s) ≡ readSheet s
@@ -28,14 +28,18 @@ front-reads s =
     (λ h. ap readSheet (take-all (longestSheet + 1) s h))
     (λ h. front-reading s (longestSheet + 1) (omega arith) (omega arith))
 
+front-planned : (s : List ℕ) → planned (take (longestSheet + 1) s) ≡ planned s
+unfolding planned
+front-planned s = ap (λ (r : Handed Sheet). unrefused [] r plannedSheet) (front-reads s)
+
 pub front-fills : (s : List ℕ) → filled (take (longestSheet + 1) s) ≡ filled s
 unfolding filled
-front-fills s = ap (λ (r : Handed Sheet). orLine r filledSheet) (front-reads s)
+front-fills s = ap (λ (h : Handed (List ℕ)). orLine h (λ b. b)) (front-planned s)
 
 module _ (s : List ℕ) (long : longestSheet < length s) where
   -- "refused as 11 at 714 if the first 714 read as a sheet of that length"
   pub longest-then-more : (x : Sheet) → readSheet (take longestSheet s) ≡ accepted x → filled s ≡ refusalLine 11 714
-  longest-then-more x e = filled-refused s noSheet (BytesAfterLast longestSheet) (front-refused s longestSheet x long e)
+  longest-then-more x e = filled-unread s noSheet (BytesAfterLast longestSheet) (front-refused s longestSheet x long e)
 
   -- "else as the reader says of the whole": it always refuses
   refused-number : readSheet s .number ≡ 0 → ⊥
@@ -43,6 +47,10 @@ module _ (s : List ℕ) (long : longestSheet < length s) where
       let w = whole s (readSheet s .value) (accepted-by-number s e) .0 in
       omega (arith, w .end, end-most _ _ (w .few) (few-results w))
 
+  not-planned : planned s ≡ record { number = readSheet s .number; place = readSheet s .place; value = [] }
+  unfolding planned
+  not-planned = rw (ne-eqb (readSheet s .number) 0 refused-number)
+
   pub too-long : filled s ≡ refusalLine (readSheet s .number) (readSheet s .place)
   unfolding filled
-  too-long = rw (ne-eqb (readSheet s .number) 0 refused-number)
+  too-long = rw (not-planned, ne-eqb (readSheet s .number) 0 refused-number)

@@ -19,16 +19,16 @@ use Rattle.sheet.specs.Reading.{settingsIn, sheetIn, readRows, readSheet}
 use Rattle.writer.specs.Encode.{taskBytes, grantedBytes, rowsBytes, settingsBytes, encode}
 use Rattle.numeral.specs.Decimal.{digitsIn, decimal}
 use Rattle.fill.specs.Results.{resultsOf, withPlan}
-use Rattle.fill.specs.Fill.{refusalLine, filledSheet, filled}
+use Rattle.fill.specs.Fill.{refusalLine, plannedSheet, planned, filled}
 
 -- "Output: the same without its last two bytes, then `01 00 0A 00 00 00 00 00`."
 whole-case : filled
     (2 ∷ 0 ∷ 1 ∷ 0 ∷ 1 ∷ 0 ∷ 1 ∷ 0 ∷ 6 ∷ 0 ∷ 0 ∷ 0 ∷ 10 ∷ 0 ∷ 0 ∷ 0 ∷ 20 ∷ 0 ∷ 0 ∷ 0 ∷ 232 ∷ 3 ∷ 0 ∷ 0 ∷ 0 ∷ 0 ∷ [])
     ≡ 2 ∷ 0 ∷ 1 ∷ 0 ∷ 1 ∷ 0 ∷ 1 ∷ 0 ∷ 6 ∷ 0 ∷ 0 ∷ 0 ∷ 10 ∷ 0 ∷ 0 ∷ 0 ∷ 20 ∷ 0 ∷ 0 ∷ 0 ∷ 232 ∷ 3 ∷ 0 ∷ 0 ∷ 1 ∷ 0 ∷ 10 ∷ 0 ∷ 0 ∷ 0 ∷ 0 ∷ 0 ∷ []
-unfolding filled filledSheet withPlan resultsOf firstFrom firstBelow leastUpTo sumTo maxTo listTo isGood shareAt saturationAt periodAt fullCompression firstBad periodsAt passes leastStep gate admission processorsAt found asked numberAt bytesOf resultsFit padded settingsIn sheetIn readRows readSheet taskBytes grantedBytes rowsBytes settingsBytes encode
+unfolding filled planned plannedSheet withPlan resultsOf firstFrom firstBelow leastUpTo sumTo maxTo listTo isGood shareAt saturationAt periodAt fullCompression firstBad periodsAt passes leastStep gate admission processorsAt found asked numberAt bytesOf resultsFit padded settingsIn sheetIn readRows readSheet taskBytes grantedBytes rowsBytes settingsBytes encode
 whole-case = refl
 
 -- `refused 8 at 1` and a newline
 one-byte : filled (2 ∷ []) ≡ 114 ∷ 101 ∷ 102 ∷ 117 ∷ 115 ∷ 101 ∷ 100 ∷ 32 ∷ 56 ∷ 32 ∷ 97 ∷ 116 ∷ 32 ∷ 49 ∷ 10 ∷ []
-unfolding filled refusalLine decimal digitsIn readSheet
+unfolding filled planned refusalLine decimal digitsIn readSheet
 one-byte = refl

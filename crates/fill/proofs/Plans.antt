@@ -2,7 +2,7 @@
 -- Assumes nothing.
 use Prim.Native.Nat.{ℕ, _+_, _≤_, _<_, min}
 use mathlib.Core.Bool.{true}
-use mathlib.Core.List.{List, _++_}
+use mathlib.Core.List.{List, [], _++_}
 use mathlib.Core.Path.{_≡_, refl, sym, ap, ap₂, _∙_}
 use native.Mathlib.Omega.{arith}
 use lib.ListN.{length, getD, set, drop, List·getD-append}
@@ -17,9 +17,8 @@ use Rattle.kinds.specs.declared.Refusal.{Refusal}
 use Rattle.kinds.specs.declared.Answer.{Answer}
 use Rattle.kinds.specs.declared.Answer.the-variants as answer
 use Rattle.kinds.specs.Limits.{mostTasks}
-use Rattle.kinds.specs.Refusal.{numberOf, placeOf}
-use Rattle.kinds.specs.Answer.{Handed, accepted, handed}
-use Rattle.kinds.proofs.Answers.{not-refused}
+use Rattle.kinds.specs.Answer.{Handed, accepted, refused, handed}
+use Rattle.kinds.proofs.Chain.{comes-first, goes-on}
 use Rattle.share.specs.Table.{periodsAt}
 use Rattle.plan.specs.Plan.{processorsAt, periodsAfter, processorsAfter, outcome, Meets}
 use Rattle.plain.specs.Asked.{asked}
@@ -27,15 +26,13 @@ use Rattle.plain.proofs.Asked.{asked-roomy}
 use Rattle.sheet.specs.Sections.{resultsFit}
 use Rattle.sheet.specs.Rows.{granted, noGranted, padded}
 use Rattle.sheet.proofs.Padding.{padded-more, padded-cong}
-use Rattle.writer.specs.declared.Written.the-variants as written
+use Rattle.writer.specs.declared.Written.{Written}
 use Rattle.writer.specs.Encode.{encode, lengthOf}
 use Rattle.writer.specs.Writing.{writeSheet, Writes}
 use Rattle.writer.proofs.Rows.{encode-long}
 use Rattle.writer.proofs.Answers.{accepts, write-accepts, accepted-after}
 use Rattle.fill.specs.Results.{entryAt, resultsOf, planPeriods, planProcessors, withPlan}
-use Rattle.fill.specs.Fill.{longestSheet, refusalLine, orLine, filledSheet, Fronts}
-use Rattle.fill.proofs.Fronts.{fronts}
-use Rattle.fill.proofs.Lines.{line-of}
+use Rattle.fill.specs.Fill.{longestSheet, plannedSheet, Fills}
 
 -- the rows of a results section, one by one
 module _ (periods processors : List ℕ) (rows : List Granted) (i : ℕ) (is : rows ≡ padded noGranted (entryAt periods processors) i) where
@@ -51,9 +48,9 @@ abbrev pub withResults : Sheet → Results → Sheet
 withResults x r = record { settings = x .settings; table = x .table; results = r }
 
 -- a sheet that the plain finder accepts is written with its plan
-pub filled-planned : (x : Sheet) (k : ℕ) → asked x ≡ accepted k → filledSheet x ≡ encode (withPlan x k)
-unfolding filledSheet
-filled-planned x k e = ap (λ (h : Handed ℕ). orLine h (λ j. encode (withPlan x j))) e
+pub sheet-planned : (x : Sheet) (k : ℕ) → asked x ≡ accepted k → plannedSheet x ≡ accepted (encode (withPlan x k))
+unfolding plannedSheet
+sheet-planned x k e = sym (goes-on [] (asked x) (λ j. accepted (encode (withPlan x j))) k e)
 
 -- a sheet with a plan counts its tasks twice
 pub plan-fits : (n : ℕ) → resultsFit n n ≡ true
@@ -67,9 +64,9 @@ module _ (x : Sheet) (few : x .table .n ≤ mostTasks) (ps qs ps′ qs′ : List
   answers = m .answers ∙ asked-roomy x (min (length ps) (length qs)) (omega arith)
 
   -- a refusal of the plain finder
-  pub plan-refused : (q : Refusal) → a ≡ answer.Refused q → filledSheet x ≡ refusalLine (numberOf q) (placeOf q)
-  unfolding filledSheet
-  plan-refused q e = ap (λ (h : Handed ℕ). orLine h (λ k. encode (withPlan x k))) (sym answers ∙ ap handed e) ∙ line-of 0 q (λ k. encode (withPlan x k))
+  pub plan-refused : (q : Refusal) → a ≡ answer.Refused q → plannedSheet x ≡ refused [] q
+  unfolding plannedSheet
+  plan-refused q e = sym (comes-first [] (asked x) (λ k. accepted (encode (withPlan x k))) 0 q (sym answers ∙ ap handed e))
 
   module _ (k : ℕ) (e : a ≡ answer.Accepted k) where
     -- what stands in the outputs
@@ -110,18 +107,15 @@ module _ (x : Sheet) (few : x .table .n ≤ mostTasks) (ps qs ps′ qs′ : List
       unfolding withPlan resultsOf
       planned-accepted room h = write-accepts (withPlan x k) room few (plan-fits (x .table .n)) (omega arith)
 
-      module _ (old new : List ℕ) (room : longestSheet ≤ length old) where
-        -- it is never refused
-        pub plan-unrefused : (q : Refusal) {B : Type 0} → Writes (withResults x r) old (written.Refused q) new → B
-        plan-unrefused q p =
-            not-refused (lengthOf (withPlan x k)) 0 q
-            (sym (planned-accepted (length old) room) ∙ (ap (λ (y : Sheet). writeSheet y (length old)) (sym planned-is) ∙ sym (p .answer)))
-
-        pub plan-written : (b : ℕ) → Writes (withResults x r) old (written.Bytes b) new → Fronts (filledSheet x) old b new
-        plan-written b p =
-            let a : writeSheet (withResults x r) (length old) ≡ accepted b = sym (p .answer) in
-            let w = accepts (withResults x r) (length old) b a in
-            let fill : filledSheet x ≡ encode (withResults x r) = filled-planned x k (sym answers ∙ ap handed e) ∙ ap encode (sym planned-is) in
-            rw fill
-            (fronts (encode (withResults x r)) old new b (w .is ∙ sym (encode-long (withResults x r))) (omega (arith, w .fits, w .is))
-            (p .buffer ∙ (accepted-after (withResults x r) old b a ∙ ap (λ (n : ℕ). encode (withResults x r) ++ drop n old) (sym (w .is)))))
+      pub plan-written : (old new : List ℕ) → longestSheet ≤ length old → (w : Written) → Writes (withResults x r) old w new → Fills (plannedSheet x) old w new
+      plan-written old new room w p =
+          let y = withPlan x k in
+          let p′ : Writes y old w new = rw planned-is at p in
+          let all = planned-accepted (length old) room in
+          let long = encode-long y in
+          rw (sheet-planned x k (sym answers ∙ ap handed e))
+          (record {
+            answer = p′ .answer ∙ (all ∙ ap accepted (sym long));
+            output = p′ .buffer ∙ (accepted-after y old (lengthOf y) all ∙ ap (λ (n : ℕ). encode y ++ drop n old) (sym long));
+            fits = omega (arith, long, accepts y (length old) (lengthOf y) all .fits);
+          })

@@ -1,7 +1,7 @@
--- What the program writes for a reading: the line of its refusal, or the filled sheet.
+-- What comes of a reading: its refusal, or the filled sheet; and the line that the program writes for a refusal.
 -- Assumes nothing.
 use Prim.Native.Nat.{ℕ, _≤_}
-use mathlib.Core.List.{List}
+use mathlib.Core.List.{List, []}
 use mathlib.Core.Path.{_≡_, sym, ap, _∙_}
 use native.Mathlib.Omega.{arith}
 use Rattle.kinds.specs.declared.Sheet.{Sheet}
@@ -9,34 +9,50 @@ use Rattle.kinds.specs.declared.Refusal.{Refusal}
 use Rattle.kinds.specs.Limits.{mostTasks}
 use Rattle.kinds.specs.Refusal.{numberOf, placeOf}
 use Rattle.kinds.specs.Answer.{Handed, accepted, refused}
+use Rattle.kinds.proofs.Chain.{comes-first, goes-on}
+use Rattle.plain.specs.Asked.{asked}
 use Rattle.sheet.specs.declared.Verdict.{Verdict}
 use Rattle.sheet.specs.declared.Verdict.the-variants as verdict
 use Rattle.sheet.specs.declared.Reading.{Reading}
 use Rattle.sheet.specs.Reading.{sheetIn, readSheet, handedBy, handedReading}
 use Rattle.sheet.proofs.Whole.{accepted-whole}
-use Rattle.fill.specs.Fill.{refusalLine, orLine, filledSheet, filled}
+use Rattle.writer.specs.Encode.{encode}
+use Rattle.fill.specs.Results.{withPlan}
+use Rattle.fill.specs.Fill.{refusalLine, orLine, plannedSheet, planned, filled}
 use Rattle.fill.proofs.Lines.{line-of}
+use Rattle.fill.proofs.Plans.{sheet-planned}
 
--- as the definition says it
-pub filled-refused : (s : List ℕ) (x : Sheet) (q : Refusal) → readSheet s ≡ refused x q → filled s ≡ refusalLine (numberOf q) (placeOf q)
-unfolding filled
-filled-refused s x q e = ap (λ (h : Handed Sheet). orLine h filledSheet) e ∙ line-of x q filledSheet
+-- as the definitions say it
+pub planned-refused : (s : List ℕ) (x : Sheet) (q : Refusal) → readSheet s ≡ refused x q → planned s ≡ refused [] q
+unfolding planned
+planned-refused s x q e = sym (comes-first [] (readSheet s) plannedSheet x q e)
 
-pub filled-accepted : (s : List ℕ) (x : Sheet) → readSheet s ≡ accepted x → filled s ≡ filledSheet x
+pub planned-accepted : (s : List ℕ) (x : Sheet) → readSheet s ≡ accepted x → planned s ≡ plannedSheet x
+unfolding planned
+planned-accepted s x e = sym (goes-on [] (readSheet s) plannedSheet x e)
+
+pub filled-refused : (s : List ℕ) (q : Refusal) → planned s ≡ refused [] q → filled s ≡ refusalLine (numberOf q) (placeOf q)
 unfolding filled
-filled-accepted s x e = ap (λ (h : Handed Sheet). orLine h filledSheet) e
+filled-refused s q e = ap (λ (h : Handed (List ℕ)). orLine h (λ b. b)) e ∙ line-of [] q (λ b. b)
+
+pub filled-unread : (s : List ℕ) (x : Sheet) (q : Refusal) → readSheet s ≡ refused x q → filled s ≡ refusalLine (numberOf q) (placeOf q)
+filled-unread s x q e = filled-refused s q (planned-refused s x q e)
+
+pub filled-planned : (s : List ℕ) (x : Sheet) (k : ℕ) → readSheet s ≡ accepted x → asked x ≡ accepted k → filled s ≡ encode (withPlan x k)
+unfolding filled
+filled-planned s x k read e = ap (λ (h : Handed (List ℕ)). orLine h (λ b. b)) (planned-accepted s x read ∙ sheet-planned x k e)
 
 -- as the reader hands it back
 module _ (s : List ℕ) (r : Reading) (read : handedReading r ≡ readSheet s) where
   pub handed-as : (v : Verdict) → r .verdict ≡ v → readSheet s ≡ handedBy v (r .sheet)
   handed-as v e = sym read ∙ ap (λ (w : Verdict). handedBy w (r .sheet)) e
 
-  pub reading-refused : (q : Refusal) → r .verdict ≡ verdict.Refused q → filled s ≡ refusalLine (numberOf q) (placeOf q)
-  reading-refused q v = filled-refused s (r .sheet) q (handed-as (verdict.Refused q) v)
+  pub reading-refused : (q : Refusal) → r .verdict ≡ verdict.Refused q → planned s ≡ refused [] q
+  reading-refused q v = planned-refused s (r .sheet) q (handed-as (verdict.Refused q) v)
 
   module _ (v : r .verdict ≡ verdict.Accepted) where
-    pub reading-accepted : filled s ≡ filledSheet (r .sheet)
-    reading-accepted = filled-accepted s (r .sheet) (handed-as verdict.Accepted v)
+    pub reading-accepted : planned s ≡ plannedSheet (r .sheet)
+    reading-accepted = planned-accepted s (r .sheet) (handed-as verdict.Accepted v)
 
     pub reading-few : r .sheet .table .n ≤ mostTasks
     unfolding sheetIn

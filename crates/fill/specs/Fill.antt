@@ -7,10 +7,12 @@ use lib.Dec.{eqb}
 use lib.ListN.{length, take, drop}
 use Rattle.ground.specs.Choice.{pick}
 use Rattle.kinds.specs.declared.Sheet.{Sheet}
-use Rattle.kinds.specs.Answer.{Handed}
+use Rattle.kinds.specs.Answer.{Handed, accepted, unrefused}
 use Rattle.plain.specs.Asked.{asked}
 use Rattle.sheet.specs.Reading.{readSheet}
+use Rattle.writer.specs.declared.Written.{Written}
 use Rattle.writer.specs.Encode.{encode}
+use Rattle.writer.specs.Writing.{handedWritten}
 use Rattle.numeral.specs.Decimal.{decimal}
 use Rattle.fill.specs.Results.{withPlan}
 
@@ -36,12 +38,29 @@ refusalLine number place = refusedWord ++ (decimal number ++ (atWord ++ (decimal
 abbrev pub orLine : {A : Type 0} → Handed A → (A → List ℕ) → List ℕ
 orLine h accepts = pick (eqb (h .number) 0) (accepts (h .value)) (refusalLine (h .number) (h .place))
 
--- "writes the sheet with results filled in from the plain finder, replacing older ones"
-unfoldable pub filledSheet : Sheet → List ℕ
-filledSheet x = orLine (asked x) (λ k. encode (withPlan x k))
+-- "writes the sheet with results filled in from the plain finder, replacing older ones": its bytes, none where it is refused
+unfoldable pub plannedSheet : Sheet → Handed (List ℕ)
+plannedSheet x = unrefused [] (asked x) (λ k. accepted (encode (withPlan x k)))
 
+unfoldable pub planned : List ℕ → Handed (List ℕ)
+planned input = unrefused [] (readSheet input) plannedSheet
+
+-- what the program writes: those bytes, or the line
 unfoldable pub filled : List ℕ → List ℕ
-filled input = orLine (readSheet input) filledSheet
+filled input = orLine (planned input) (λ bytes. bytes)
+
+-- what a call that writes such bytes hands back: number, place and written length
+abbrev pub counted : Handed (List ℕ) → Handed ℕ
+counted h = record { number = h .number; place = h .place; value = length (h .value) }
+
+-- and its output: the bytes, and then what stood there; a refusal has none
+abbrev pub afterFill : Handed (List ℕ) → List ℕ → List ℕ
+afterFill h old = h .value ++ drop (length (h .value)) old
+
+pub record Fills (h : Handed (List ℕ)) (old : List ℕ) (r : Written) (new : List ℕ) : Type 0 where
+  pub answer : handedWritten r ≡ counted h
+  pub output : new ≡ afterFill h old
+  pub fits : length (h .value) ≤ length old
 
 -- some bytes stand at the front of a buffer, k of them, and nothing past them was written
 pub record Fronts (bytes old : List ℕ) (k : ℕ) (new : List ℕ) : Type 0 where

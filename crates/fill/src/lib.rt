@@ -15,7 +15,7 @@ ghost use Rattle.kinds.specs.Limits.{mostTasks};
 ghost use Rattle.kinds.specs.Refusal.{numberOf, placeOf};
 ghost use Rattle.field.specs.Stored.{Put};
 ghost use Rattle.fill.specs.Results.{resultsOf};
-ghost use Rattle.fill.specs.Fill.{longestSheet, refusalLine, filledSheet, filled, Fronts};
+ghost use Rattle.fill.specs.Fill.{longestSheet, refusalLine, plannedSheet, planned, filled, Fills, Fronts};
 
 // How many bytes the longest sheet has.
 pub const LONGEST_SHEET: usize = 714;
@@ -69,10 +69,10 @@ fn results_of(
     Results { rows, n }
 }
 
-// Writes a sheet with its results filled in from the plain finder, or the line of its refusal; returns how many bytes.
-fn fill_sheet(x: Sheet, out: &mut [u8]) -> usize
+// Writes a sheet with its results filled in from the plain finder, or refuses it.
+fn fill_sheet(x: Sheet, out: &mut [u8]) -> Written
     requires { ⌜ (x .table .n ≤ mostTasks) × (longestSheet ≤ length (now out)) ⌝ }
-    ensures { λ r. ⌜ Fronts (filledSheet x) (now (out .entry)) r (now (out .exit)) ⌝ }
+    ensures { λ r. ⌜ Fills (plannedSheet x) (now (out .entry)) r (now (out .exit)) ⌝ }
 {
     let table = x.table;
     let settings = x.settings;
@@ -80,7 +80,7 @@ fn fill_sheet(x: Sheet, out: &mut [u8]) -> usize
     let mut processors = [0u16; Table::MOST_TASKS];
     let answer = plain::find(table, settings, &mut periods, &mut processors);
     if let Answer::Refused(refusal) = answer {
-        return put_refusal(out, refusal);
+        return Written::Refused(refusal);
     }
     let results = results_of(periods, processors, table.n);
     let planned = Sheet {
@@ -88,23 +88,31 @@ fn fill_sheet(x: Sheet, out: &mut [u8]) -> usize
         table,
         results,
     };
-    let Written::Bytes(k) = writer::write(planned, out) else {
-        return 0;
-    };
-    k
+    writer::write(planned, out)
 }
 
-// What the program writes for what it read; returns how many bytes.
-pub fn fill(input: &[u8], out: &mut [u8; LONGEST_SHEET]) -> usize
-    ensures { λ r. ⌜ Fronts (filled (now (input .entry))) (now (out .entry)) r (now (out .exit)) ⌝ }
+// Fills in the sheet that was read, or refuses it; a refusal writes nothing.
+pub fn fill_in(input: &[u8], out: &mut [u8; LONGEST_SHEET]) -> Written
+    ensures { λ r. ⌜ Fills (planned (now (input .entry))) (now (out .entry)) r (now (out .exit)) ⌝ }
 {
     let reading = sheet::read(input);
     let verdict = reading.verdict;
     match verdict {
-        Verdict::Refused(refusal) => put_refusal(out, refusal),
+        Verdict::Refused(refusal) => Written::Refused(refusal),
         Verdict::Accepted => {
             let x = reading.sheet;
             fill_sheet(x, out)
         }
+    }
+}
+
+// What the program writes for what it read, the filled sheet or the line of its refusal; returns how many bytes.
+pub fn fill(input: &[u8], out: &mut [u8; LONGEST_SHEET]) -> usize
+    ensures { λ r. ⌜ Fronts (filled (now (input .entry))) (now (out .entry)) r (now (out .exit)) ⌝ }
+{
+    let written = fill_in(input, out);
+    match written {
+        Written::Refused(refusal) => put_refusal(out, refusal),
+        Written::Bytes(k) => k,
     }
 }

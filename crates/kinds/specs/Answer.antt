@@ -2,7 +2,9 @@
 -- Assumes nothing.
 use Prim.Native.Nat.{ℕ}
 use mathlib.Core.Bool.{Bool, true, false}
+use lib.Dec.{eqb}
 use lib.IntN.{ℤ, pos}
+use Rattle.ground.specs.Choice.{pick}
 use Rattle.kinds.specs.declared.Refusal.{Refusal}
 use Rattle.kinds.specs.declared.Answer.{Answer}
 use Rattle.kinds.specs.declared.Answer.the-variants.{Accepted, Refused}
@@ -21,6 +23,10 @@ accepted v = record { number = 0; place = 0; value = v }
 -- document 01: "A refusal's step, margin or written length is 0."
 abbrev pub refused : {A : Type 0} → A → Refusal → Handed A
 refused nothing r = record { number = numberOf r; place = placeOf r; value = nothing }
+
+-- a refusal that comes first, with nothing for its value, else what comes of the value
+abbrev pub unrefused : {A B : Type 0} → B → Handed A → (A → Handed B) → Handed B
+unrefused nothing h rest = pick (eqb (h .number) 0) (rest (h .value)) (record { number = h .number; place = h .place; value = nothing })
 
 abbrev pub handed : Answer → Handed ℕ
 handed (Accepted step) = accepted step

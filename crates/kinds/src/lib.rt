@@ -23,7 +23,7 @@ impl Share {
     }
 }
 
-// A task record: cost C, shortest and longest period, elasticity E. Any numbers may stand in it. It is laid out as C lays it out.
+// A task record: cost C, shortest and longest period, elasticity E. Any numbers may stand in it. What crosses to C is laid out as C lays it out.
 #[repr(C)]
 pub struct Task {
     pub c: u32,
@@ -56,6 +56,7 @@ impl Task {
 }
 
 // The task table by value: room for the most tasks, of which the first n count. A lent count may be greater than the room.
+#[repr(C)]
 pub struct Table {
     pub rows: [Task; Table::MOST_TASKS],
     pub n: usize,
@@ -159,12 +160,14 @@ impl Settings {
 }
 
 // What an accepted plan grants a task: its period, and its processor, 0 for any.
+#[repr(C)]
 pub struct Granted {
     pub period: u32,
     pub processor: u16,
 }
 
 // The results section of a sheet: room for the most tasks, of which the first n count.
+#[repr(C)]
 pub struct Results {
     pub rows: [Granted; Table::MOST_TASKS],
     pub n: usize,

@@ -6,20 +6,17 @@ use mathlib.Core.Path.{_≡_, refl, sym, ap, _∙_}
 use native.Mathlib.Numerals.{add-one}
 use native.Mathlib.Omega.{arith}
 use lib.ListN.{length, getD, set, take, drop, length-set}
-use lib.Seq.{set-at, drop-cons, take-suc, length-take-le, take-at, drop-at}
+use lib.Seq.{set-at, drop-cons, take-suc, length-take-le}
 use Rattle.kinds.specs.declared.Task.{Task}
 use Rattle.kinds.specs.declared.Table.{Table}
 use Rattle.kinds.specs.Limits.{mostTasks}
 use Rattle.kinds.specs.Task.{at, noTask}
 use Rattle.walk.specs.Padded.{padded}
 use Rattle.walk.proofs.Padding.{padded-long, padded-front}
-use Rattle.rows.specs.Gathered.{front}
-use Rattle.office.specs.declared.Carried.{Carried}
 use Rattle.office.specs.declared.Imported.{Imported}
 use Rattle.office.specs.Carrying.{Imports, Reads}
 use Rattle.office.proofs.Landing.{landing, lands}
 use Rattle.office_rows.specs.Filled.{filled}
-use Rattle.office_rows.specs.Over.{importedAs, ImportsOver}
 
 module _ (rows old : List Task) where
   filled-none : filled rows old 0 ≡ old
@@ -89,15 +86,3 @@ module _ (text : List ℕ) (old : List Task) (i : Imported) (reads : Reads text 
             ∙ (filled-is (padded noTask mostTasks these) old (length these) (omega (arith, l .few)) (l .fits)
             ∙ (ap (λ (x : List Task). x ++ drop (length these) old) (padded-front noTask mostTasks these (l .few)) ∙ sym (l .output old))));
       }
-
--- an import over the front of a table's rows
-pub imports-over : (text : List ℕ) (t : Table) (r : Carried) (new : List Task) → length (t .rows) ≡ mostTasks → length new ≡ length (front t)
-    → Imports text (front t) r new → ImportsOver text t (importedAs r (new ++ drop (min (t .n) mostTasks) (t .rows)) (t .n))
-imports-over text t r new long same x =
-    let k = min (t .n) mostTasks in
-    let e : length new ≡ k = same ∙ (length-take-le k (t .rows) (omega arith)) in
-    record {
-      imports = rw (take-at new (drop k (t .rows)) k e) x;
-      kept = drop-at new (drop k (t .rows)) k e;
-      count = refl;
-    }

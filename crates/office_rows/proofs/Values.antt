@@ -1,14 +1,9 @@
 -- The types that a walk passes by value or returns.
 -- Assumes nothing.
 use mathlib.Core.Path.{refl}
-use Rattle.walk.proofs.Thin.{Valued, of-struct, of-enum}
+use Rattle.walk.proofs.Thin.{Valued, of-enum}
 use Rattle.office.proofs.Carried as C
 use Rattle.office.proofs.Carried.Laws as C′
-use Rattle.office.proofs.Imported as I
-use Rattle.office.proofs.Imported.Laws as I′
 
 abbrev pub carried : Valued C.the-row
 carried = of-enum C.the-type C′.the-laws tt C′.lowers C′.the-plain (λ x f. refl)
-
-abbrev pub imported : Valued I.the-row
-imported = of-struct I.the-type I′.the-laws I′.lowers I′.the-plain (λ x f. refl)

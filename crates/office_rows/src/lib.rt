@@ -9,10 +9,8 @@ ghost use mathlib.Core.Path.{_≡_};
 ghost use Prim.Native.Nat.{_≤_};
 ghost use lib.ListN.{length};
 ghost use Rattle.kinds.specs.Limits.{mostTasks};
-ghost use Rattle.rows.specs.Gathered.{front};
 ghost use Rattle.office.specs.Carrying.{Imports, Exports};
 ghost use Rattle.office_rows.specs.Filled.{filled};
-ghost use Rattle.office_rows.specs.Over.{importedAs, ImportsOver};
 
 // The rows of a table that count, into the front of a lent slice, and nothing past them.
 fn scatter(table: Table, out: &mut [Task])
@@ -54,31 +52,4 @@ pub fn export(rows: &[Task], out: &mut [u8]) -> Carried
     ensures { λ r. ⌜ Exports (now (rows .entry)) (length (now (rows .entry))) (now (out .entry)) r (now (out .exit)) ⌝ }
 {
     office::export(rows::gather(rows), out)
-}
-
-// Lends the rows of a table that count to the export, so that a function that makes no slice of records can run the call.
-pub fn export_over(table: Table, out: &mut [u8]) -> Carried
-    ensures { λ r. ⌜ Exports (front table) (length (front table)) (now (out .entry)) r (now (out .exit)) ⌝ }
-{
-    let rows = table.rows;
-    let n = rows::capped(table.n);
-    export(&rows[..n], out)
-}
-
-// An answer beside a table of these rows.
-fn joined(answer: Carried, rows: [Task; Table::MOST_TASKS], n: usize) -> Imported
-    ensures { λ r. ⌜ r ≡ importedAs answer rows n ⌝ }
-{
-    let table = Table { rows, n };
-    Imported { answer, table }
-}
-
-// Lends the rows of a table that count to the import, and hands back its answer beside the table that it left.
-pub fn import_over(text: &[u8], table: Table) -> Imported
-    ensures { λ r. ⌜ ImportsOver (now (text .entry)) table r ⌝ }
-{
-    let mut rows = table.rows;
-    let n = rows::capped(table.n);
-    let answer = import(text, &mut rows[..n]);
-    joined(answer, rows, table.n)
 }

@@ -1,17 +1,13 @@
--- A table of tasks, as the laws of `gather` and of lending take it: how it lies in memory, that a value of its type is one, and that its rows are an array's.
+-- A table of tasks, as the law of `gather` takes it: how it lies in memory, and that a value of its type is one.
 -- Assumes nothing.
-use mathlib.Core.Path.{_≡_, refl, sym, subst, _∙_}
-use mathlib.Core.List.{List, [], _∷_, map}
-use lib.Dec.{lit<}
+use mathlib.Core.Path.{_≡_, refl, _∙_}
+use mathlib.Core.List.{[], _∷_, map}
 use lib.ListN.{length, length-map}
 use mir.Syntax.{w32, w64}
-use mir.Val.{Val, vint, vstruct, vcons, vnil, ofList, WT}
-use denote.Array.{Array, each}
+use mir.Val.{vint, vstruct, vcons, vnil, ofList, WT}
 use denote.Laws.{Is}
-use denote.Shadow.{shadow}
-use denote.Struct.Field.{array-field}
 use denote.Struct.Laws as LL
-use Rattle.walk.proofs.Tabled.{Tabled, Lendable, rows-are}
+use Rattle.walk.proofs.Tabled.{Tabled, rows-are}
 use Rattle.kinds.specs.Limits.{mostTasks}
 use Rattle.kinds.specs.Task.{noTask}
 use Rattle.kinds.specs.declared.Task.{Task}
@@ -53,34 +49,4 @@ tasks = record {
   others = λ n. vcons (vint w64 n) vnil;
   lies = λ rows n. refl;
   is-table = λ rows n. is-table (record { rows = rows; n = n });
-}
-
--- what a task owns as an element of a field is what it owns as a record
-unmap : (xs : List Task) (us : List Val) → shadow (each (P.the-field .row .Denot) (P.the-field .row .own) (map (P.the-field .into) xs) us) → shadow (each Task (P.the-row .own) xs us)
-unmap [] [] a = a
-unmap [] (u ∷ us) a = absurd a
-unmap (x ∷ xs) [] a = absurd a
-unmap (x ∷ xs) (u ∷ us) a = (a .0, unmap xs us (a .1))
-
--- the rows of a table are an array's
-pub has-rows : (t : Table) → Is T.the-row t (T′.lowered t ∷ []) → Is (Array P.the-row mostTasks) (t .rows) (vstruct (ofList (map P′.lowered (t .rows))) ∷ [])
-has-rows t is =
-    let f = LL.owed T.the-type T′.the-laws t _ is .0 in
-    let a = subst (λ (vs : List Val). Is (array-field P.the-field mostTasks .row) (map (P.the-field .into) (t .rows)) vs) (T′.the-laws .0 .low-is (t .rows) _ f) f in
-    (a .0, ((a .1 .0 .0, sym (length-map (t .rows) (P.the-field .into)) ∙ a .1 .0 .1), unmap (t .rows) (a .0) (a .1 .1)))
-
--- the same table, for the law of lending
-abbrev pub lendable : Lendable tasks
-lendable = record {
-  rows = λ t. t .rows;
-  count = λ t. t .n;
-  is-made = λ t. refl;
-  place = _;
-  behind = refl;
-  counted = λ n. refl;
-  single = tt;
-  spare = lit< tt;
-  has-rows = has-rows;
-  count-fits = λ t is. LL.owed T.the-type T′.the-laws t _ is .1 .0 .1;
-  at-end = λ t. tt;
 }

@@ -1,8 +1,8 @@
 -- The table of a lent list of tasks.
 -- Assumes nothing.
-use Prim.Native.Nat.{ℕ, min}
+use Prim.Native.Nat.{ℕ}
 use mathlib.Core.List.{List}
-use lib.ListN.{length, take}
+use lib.ListN.{length}
 use Rattle.kinds.specs.Limits.{mostTasks}
 use Rattle.kinds.specs.Task.{noTask}
 use Rattle.kinds.specs.declared.Task.{Task}
@@ -16,7 +16,3 @@ tableWith rows n = record { rows = padded noTask mostTasks rows; n = n }
 -- the count is the list's length, also above the most tasks
 abbrev pub tableOf : List Task → Table
 tableOf rows = tableWith rows (length rows)
-
--- the way back: the rows of a table that count
-abbrev pub front : Table → List Task
-front t = take (min (t .n) mostTasks) (t .rows)

@@ -11,7 +11,7 @@ ghost use Rattle.kinds.specs.Limits.{mostTasks};
 ghost use Rattle.plan.specs.Plan.{outcome, Meets};
 ghost use Rattle.quick.specs.Looked.{MeetsLooked};
 ghost use Rattle.margin.specs.Margin.{marginHanded};
-ghost use Rattle.rows.specs.Gathered.{tableOf, tableWith, front};
+ghost use Rattle.rows.specs.Gathered.{tableOf, tableWith};
 use kinds::Answer;
 use kinds::Margin;
 use kinds::Settings;
@@ -20,7 +20,7 @@ use kinds::Task;
 use quick::Looked;
 
 // How many of n rows a table takes.
-pub fn capped(n: usize) -> usize
+fn capped(n: usize) -> usize
     ensures { λ r. ⌜ r ≡ min n mostTasks ⌝ }
 {
     if n < Table::MOST_TASKS {
@@ -90,32 +90,4 @@ pub fn margin_at(rows: &[Task], settings: Settings, step: u32) -> Margin
     ensures { λ r. ⌜ handedMargin r ≡ marginHanded settings (now (rows .entry)) (length (now (rows .entry))) step ⌝ }
 {
     margin::margin_at(gather(rows), settings, step)
-}
-
-// Lends the rows of a table that count to the plain finder, so that a function that makes no slice of records can run the call.
-pub fn find_plain_over(
-    table: Table,
-    settings: Settings,
-    periods: &mut [u32],
-    processors: &mut [u16],
-) -> Answer
-    ensures { λ r. ⌜ Meets (outcome true settings (front table) (length (front table)) (now (periods .entry)) (now (processors .entry))) r (now (periods .exit)) (now (processors .exit)) ⌝ }
-{
-    let rows = table.rows;
-    let n = capped(table.n);
-    find_plain(&rows[..n], settings, periods, processors)
-}
-
-// The same for the quick finder.
-pub fn find_quick_over(
-    table: Table,
-    settings: Settings,
-    periods: &mut [u32],
-    processors: &mut [u16],
-) -> Looked
-    ensures { λ r. ⌜ MeetsLooked settings (front table) (length (front table)) (now (periods .entry)) (now (processors .entry)) r (now (periods .exit)) (now (processors .exit)) ⌝ }
-{
-    let rows = table.rows;
-    let n = capped(table.n);
-    find_quick(&rows[..n], settings, periods, processors)
 }

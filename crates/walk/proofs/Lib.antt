@@ -7,7 +7,3 @@ pub mod Item
 pub mod Padding
 pub mod Tabled
 pub mod GatherRows
-pub mod Lends
-pub mod LendsMut
-pub mod LendM
-pub mod LendVmm

@@ -1,22 +1,16 @@
-// Runs tables of tasks that need several cores on their finder, by value and over lent rows; `stdout` has what they must give. Both outputs
-// are lent longer than the table and filled with 7 and 9, so that the entry after the last task shows whether it was written.
-use kinds::Answer;
+// Runs tables of tasks that need several cores on their finder; `stdout` has what they must give. Both outputs are lent longer than the
+// table and filled with 7 and 9, so that the entry after the last task shows whether it was written.
 use kinds::Table;
 use show::LENT;
 use wide::WideTable;
 use wide::WideTask;
 
-// The call by value, and the same over the table's rows, lent as a slice of records.
+// One call, with what it answers and leaves in both outputs.
 fn run(name: &[u8], m: u16, table: WideTable) {
     let mut periods = [7u32; LENT];
     let mut cores = [9u16; LENT];
     show::words(name);
     show::answer(wide::find(table, m, &mut periods, &mut cores));
-    show::outputs(b" cores", table.n, &periods, &cores);
-    show::words(b"\nrows");
-    periods = [7u32; LENT];
-    cores = [9u16; LENT];
-    show::answer(wide_rows::find_wide_over(table, m, &mut periods, &mut cores));
     show::outputs(b" cores", table.n, &periods, &cores);
     show::words(b"\n");
 }

@@ -1,8 +1,8 @@
 -- The table of a lent list of tasks that need several cores.
 -- Assumes nothing.
-use Prim.Native.Nat.{ℕ, min}
+use Prim.Native.Nat.{ℕ}
 use mathlib.Core.List.{List}
-use lib.ListN.{length, take}
+use lib.ListN.{length}
 use Rattle.kinds.specs.Limits.{mostTasks}
 use Rattle.wide.specs.WideTask.{noWideTask}
 use Rattle.wide.specs.declared.WideTask.{WideTask}
@@ -16,7 +16,3 @@ tableWith rows n = record { rows = padded noWideTask mostTasks rows; n = n }
 -- the count is the list's length, also above the most tasks
 abbrev pub tableOf : List WideTask → WideTable
 tableOf rows = tableWith rows (length rows)
-
--- the way back: the rows of a table that count
-abbrev pub front : WideTable → List WideTask
-front t = take (min (t .n) mostTasks) (t .rows)

@@ -7,7 +7,7 @@ ghost use lib.ListN.{length};
 ghost use Rattle.kinds.specs.Limits.{mostTasks};
 ghost use Rattle.plan.specs.Plan.{Meets};
 ghost use Rattle.wide.specs.Wide.{outcome};
-ghost use Rattle.wide_rows.specs.Gathered.{tableOf, tableWith, front};
+ghost use Rattle.wide_rows.specs.Gathered.{tableOf, tableWith};
 use kinds::Answer;
 use kinds::Table;
 use wide::WideTable;
@@ -42,7 +42,7 @@ fn empty(n: usize) -> WideTable
 }
 
 // The table of the lent rows. Its count is theirs, also where there are more than it takes, so that the core can refuse them.
-fn gather(rows: &[WideTask]) -> WideTable
+pub fn gather(rows: &[WideTask]) -> WideTable
     ensures { λ r. ⌜ r ≡ tableOf (now (rows .entry)) ⌝ }
 {
     let n = rows.len();
@@ -61,13 +61,4 @@ pub fn find_wide(rows: &[WideTask], m: u16, periods: &mut [u32], cores: &mut [u1
     ensures { λ r. ⌜ Meets (outcome m (now (rows .entry)) (length (now (rows .entry))) (now (periods .entry)) (now (cores .entry))) r (now (periods .exit)) (now (cores .exit)) ⌝ }
 {
     wide::find(gather(rows), m, periods, cores)
-}
-
-// Lends the rows of a table that count to the finder, so that a function that makes no slice of records can run the call.
-pub fn find_wide_over(table: WideTable, m: u16, periods: &mut [u32], cores: &mut [u16]) -> Answer
-    ensures { λ r. ⌜ Meets (outcome m (front table) (length (front table)) (now (periods .entry)) (now (cores .entry))) r (now (periods .exit)) (now (cores .exit)) ⌝ }
-{
-    let rows = table.rows;
-    let n = capped(table.n);
-    find_wide(&rows[..n], m, periods, cores)
 }

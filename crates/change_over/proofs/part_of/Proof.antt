@@ -1,0 +1,63 @@
+-- `change_over::part_of` meets its contract: each `return` is one law of `Parts`. Assumes nothing.
+use mathlib.Core.Path.{sym, _∙_}
+use Rattle.change_over.proofs.Sections.{section-fits}
+use Rattle.change_over.proofs.Parts.{takes-proposed, takes-standing, takes-nothing}
+use borrow.Author.Needs.{needs}
+use Rattle.change_over.proofs.part_of.Statement.{statement}
+use Rattle.change_over.proofs.part_of.Tie as tie
+
+section-of-requires : tie.Need-section-of-requires
+section-of-requires c κs = search needs
+
+enum-known-n : tie.Need-enum-known-n
+enum-known-n c = search needs
+
+tasks-of-requires : tie.Need-tasks-of-requires
+tasks-of-requires c κs = section-fits _ _ (sym (c .before .before .before .section-of .ensures) ∙ c .before .n .given .1) .0
+
+returns : tie.Need-returns
+returns c = c .tasks-of .ensures ∙ takes-proposed _ _ _ (sym (c .before .before .before .before .section-of .ensures) ∙ c .before .before .n .given .1)
+
+enum-told : tie.Need-enum-told
+enum-told c = search needs
+
+section-of-requires-2 : tie.Need-section-of-requires-2
+section-of-requires-2 c κs = search needs
+
+enum-known-n-2 : tie.Need-enum-known-n-2
+enum-known-n-2 c = search needs
+
+tasks-of-requires-2 : tie.Need-tasks-of-requires-2
+tasks-of-requires-2 c κs = section-fits _ _ (sym (c .before .before .before .section-of2 .ensures) ∙ c .before .n2 .given .1) .0
+
+returns-2 : tie.Need-returns-2
+returns-2 c =
+    let other = c .before .before .before .before .before in
+    c .tasks-of2 .ensures
+    ∙ takes-standing _ _ (sym (other .before .before .section-of .ensures) ∙ other .enum-told .given .1) _
+    (sym (c .before .before .before .before .section-of2 .ensures) ∙ c .before .before .n2 .given .1)
+
+enum-told-2 : tie.Need-enum-told-2
+enum-told-2 c = search needs
+
+returns-3 : tie.Need-returns-3
+returns-3 c =
+    let other = c .before .before .before in
+    takes-nothing _ _ (sym (other .before .before .section-of .ensures) ∙ other .enum-told .given .1)
+    (sym (c .before .before .section-of2 .ensures) ∙ c .enum-told2 .given .1)
+
+pub part-of-spec : {M : Type 1} → statement M
+part-of-spec =
+    tie.close
+    (tie.spec
+    section-of-requires
+    enum-known-n
+    tasks-of-requires
+    returns
+    enum-told
+    section-of-requires-2
+    enum-known-n-2
+    tasks-of-requires-2
+    returns-2
+    enum-told-2
+    returns-3)

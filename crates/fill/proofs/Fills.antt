@@ -1,0 +1,53 @@
+-- A sheet filled in, or its refusal, with the buffer after it: that no second answer meets the promise of `fill_in`, and what the program
+-- makes of it.
+-- Assumes nothing.
+use Prim.Native.Nat.{ℕ}
+use mathlib.Core.List.{List, [], _∷_, _++_}
+use mathlib.Core.Path.{_≡_, refl, sym, ap, _∙_}
+use native.Mathlib.Omega.{arith}
+use lib.ListN.{length, drop}
+use borrow.Author.Tests.{ne-eqb}
+use Rattle.kinds.specs.declared.Refusal.{Refusal}
+use Rattle.kinds.specs.Refusal.{numberOf, placeOf}
+use Rattle.kinds.specs.Answer.{Handed, refused}
+use Rattle.kinds.proofs.Refusals.{refusal-numbered}
+use Rattle.writer.specs.declared.Written.{Written}
+use Rattle.writer.specs.declared.Written.the-variants.{Bytes, Refused}
+use Rattle.writer.proofs.Answers.{written-one}
+use Rattle.fill.specs.Fill.{refusalLine, planned, filled, Fills, Fronts}
+use Rattle.fill.proofs.Fronts.{fronts}
+
+-- a refusal leaves the buffer as it was
+pub refuses : (h : Handed (List ℕ)) (q : Refusal) → h ≡ refused [] q → (old : List ℕ) → Fills h old (Refused q) old
+refuses h q e old = rw e (record { answer = refl; output = refl; fits = omega arith })
+
+pub fills-one : (h : Handed (List ℕ)) (old : List ℕ) (r q : Written) (new other : List ℕ) → Fills h old r new → Fills h old q other → (r ≡ q) × (new ≡ other)
+fills-one h old r q new other a b = (written-one r q (a .answer ∙ sym (b .answer)), a .output ∙ sym (b .output))
+
+none-long : (bytes old : List ℕ) → length bytes ≡ 0 → bytes ++ drop (length bytes) old ≡ old
+none-long [] old e = refl
+none-long (b ∷ bytes) old e = absurd (omega (arith, e))
+
+module _ (s old new : List ℕ) where
+  -- the filled sheet is what the program writes
+  pub tells-sheet : (k : ℕ) → Fills (planned s) old (Bytes k) new → Fronts (filled s) old k new
+  unfolding filled
+  tells-sheet k p =
+      let bytes = planned s .value in
+      let zero : planned s .number ≡ 0 = sym (ap (λ (h : Handed ℕ). h .number) (p .answer)) in
+      let long : k ≡ length bytes = ap (λ (h : Handed ℕ). h .value) (p .answer) in
+      rw zero
+      (fronts bytes old new k long (omega (arith, p .fits, long))
+      (p .output ∙ ap (λ (n : ℕ). bytes ++ drop n old) (sym long)))
+
+  module _ (q : Refusal) (p : Fills (planned s) old (Refused q) new) where
+    -- of a refusal it writes the line
+    pub tells-line : filled s ≡ refusalLine (numberOf q) (placeOf q)
+    unfolding filled
+    tells-line =
+        let number : planned s .number ≡ numberOf q = sym (ap (λ (h : Handed ℕ). h .number) (p .answer)) in
+        let place : planned s .place ≡ placeOf q = sym (ap (λ (h : Handed ℕ). h .place) (p .answer)) in
+        rw (number, place, ne-eqb (numberOf q) 0 (λ z. omega (arith, refusal-numbered q)))
+
+    pub kept : new ≡ old
+    kept = p .output ∙ none-long (planned s .value) old (sym (ap (λ (h : Handed ℕ). h .value) (p .answer)))

@@ -1,0 +1,31 @@
+-- `fill::fill_in` meets its contract. Assumes nothing.
+use Rattle.fill.proofs.Fills.{refuses}
+use Rattle.fill.proofs.Readings.{reading-refused, reading-accepted, reading-few}
+use borrow.Author.Needs.{needs}
+use Rattle.fill.proofs.fill_in.Statement.{statement}
+use Rattle.fill.proofs.fill_in.Tie as tie
+
+read-requires : tie.Need-read-requires
+read-requires c κs = search needs
+
+enum-known-verdict : tie.Need-enum-known-verdict
+enum-known-verdict c = search needs
+
+enum-told : tie.Need-enum-told
+enum-told c = search needs
+
+fill-sheet-requires : tie.Need-fill-sheet-requires
+fill-sheet-requires c κs = (reading-few _ _ (c .before .before .before .before .read .ensures) (c .before .before .enum-told .given .1), search needs)
+
+returns : tie.Need-returns
+returns c = refuses _ _ (reading-refused _ _ (c .before .before .before .read .ensures) _ (c .before .verdict .given .1)) _
+
+returns-2 : tie.Need-returns-2
+returns-2 c =
+    let told = c .before .before .before in
+    rw (reading-accepted _ _ (told .before .before .read .ensures) (told .enum-told .given .1)) (c .fill-sheet .ensures)
+
+pub fill-in-spec : {M : Type 1} → statement M
+fill-in-spec =
+    tie.close
+    (tie.spec read-requires enum-known-verdict enum-told fill-sheet-requires returns returns-2)

@@ -1,2 +1,0 @@
-pub mod Complement
-pub mod Parts
