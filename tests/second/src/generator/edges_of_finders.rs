@@ -9,6 +9,7 @@ const PLAIN_TASK: Record = Record::new(6, 10, 20, 1000);
 
 pub fn calls() -> Vec<Call> {
     let mut calls = settings();
+    calls.extend(counts_above());
     calls.extend(order_of_checks());
     calls.extend(records());
     calls.extend(outputs());
@@ -43,6 +44,20 @@ fn settings() -> Vec<Call> {
                 let table =
                     counted(Settings { number, further, m }, *counts.next().expect("a cycle"));
                 calls.extend(ask(&table, Rooms::just(&table), 7));
+            }
+        }
+    }
+    calls
+}
+
+/// Counts above 32, up to the greatest one of the stream: 3 at the count, after 1 and 2 and before all else.
+fn counts_above() -> Vec<Call> {
+    let mut calls = Vec::new();
+    for count in [33, 40, 65535] {
+        for (number, m) in [(1, 1), (4, 16), (9, 1), (2, 17)] {
+            let table = counted(Settings::new(number, m), count);
+            for entries in [0, 40] {
+                calls.extend(ask(&table, Rooms { periods: entries, processors: entries }, 7));
             }
         }
     }

@@ -132,7 +132,7 @@ fn exports() -> Vec<Call> {
             }
         }
     }
-    for count in [33, 34, 64, 65535] {
+    for count in [33, 34, 40, 64, 65535] {
         for room in [0, 5, 1_500] {
             calls.push(Call::Export(Exporting { count, room, rows: vec![record; 32] }));
         }

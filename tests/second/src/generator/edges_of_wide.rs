@@ -30,7 +30,7 @@ fn settings() -> Vec<Call> {
             calls.push(just(m, &vec![VISION; jobs]));
         }
     }
-    for count in [33, 34, 65535] {
+    for count in [33, 34, 40, 65535] {
         for m in [0, 1, 16, 17] {
             let table = WideTable { m, count, rows: vec![VISION; 32] };
             calls.push(Call::Wide(table, Rooms { periods: 40, processors: 40 }));
