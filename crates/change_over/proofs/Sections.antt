@@ -15,14 +15,14 @@ use Rattle.kinds.specs.declared.Answer.{Answer}
 use Rattle.kinds.specs.declared.Answer.the-variants as answer
 use Rattle.kinds.specs.Limits.{mostTasks}
 use Rattle.kinds.specs.Refusal.{numberOf}
-use Rattle.kinds.specs.Answer.{accepted, refused, handed, isAccepted}
+use Rattle.kinds.specs.Answer.{accepted, refused, handed, isAccepted, handedWith}
 use Rattle.kinds.proofs.Refusals.{refusal-numbered}
 use Rattle.plain.specs.Asked.{asked}
-use Rattle.sheet.specs.declared.Verdict.{Verdict}
-use Rattle.sheet.specs.declared.Verdict.the-variants as verdict
+use Rattle.kinds.specs.declared.Verdict.{Verdict}
+use Rattle.kinds.specs.declared.Verdict.the-variants as verdict
 use Rattle.sheet.specs.declared.Reading.{Reading}
 use Rattle.sheet.specs.Sections.{resultsPlace}
-use Rattle.sheet.specs.Reading.{sheetIn, readSheet, handedBy, handedReading}
+use Rattle.sheet.specs.Reading.{sheetIn, readSheet, handedReading}
 use Rattle.sheet.proofs.Whole.{whole}
 use Rattle.sheet.proofs.Numbered.{accepted-by-number}
 use Rattle.change_over.specs.declared.Section.the-variants.{Tasks, Nothing}
@@ -33,12 +33,12 @@ module _ (s : List ℕ) (r : Reading) (read : handedReading r ≡ readSheet s) w
   pub unread : (q : Refusal) → r .verdict ≡ verdict.Refused q → Nothing ≡ sectionOf s
   unfolding sectionOf acceptable
   unread q v =
-      let e : refused (r .sheet) q ≡ readSheet s = ap (λ (w : Verdict). handedBy w (r .sheet)) (sym v) ∙ read in
+      let e : refused (r .sheet) q ≡ readSheet s = ap (λ (w : Verdict). handedWith w (r .sheet)) (sym v) ∙ read in
       rw (← e, ne-eqb (numberOf q) 0 (λ z. omega (arith, refusal-numbered q)))
 
   module _ (v : r .verdict ≡ verdict.Accepted) where
     reads : accepted (r .sheet) ≡ readSheet s
-    reads = ap (λ (w : Verdict). handedBy w (r .sheet)) (sym v) ∙ read
+    reads = ap (λ (w : Verdict). handedWith w (r .sheet)) (sym v) ∙ read
 
     -- one that reads, by what the plain finder answers
     answered : (a : Answer) → handed a ≡ asked (r .sheet) → pick (isAccepted a) (Tasks (r .sheet .table .n)) Nothing ≡ sectionOf s

@@ -1,5 +1,5 @@
 // The change-over between the standing and the proposed sheet. Contracts cite `specs/ChangeOver`.
-use sheet::Verdict;
+use kinds::Verdict;
 ghost use mathlib.Core.Path.{_≡_};
 ghost use Prim.Native.Nat.{_≤_};
 ghost use Rattle.kinds.specs.Limits.{mostTasks};

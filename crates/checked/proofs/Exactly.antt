@@ -22,7 +22,7 @@ use Rattle.kinds.specs.Task.{at}
 use Rattle.kinds.specs.Policy.{meant}
 use Rattle.kinds.specs.Answer.{accepted}
 use Rattle.kinds.proofs.Refusals.{refusal-numbered}
-use Rattle.kinds.proofs.Chain.{goes-on, both-accept}
+use Rattle.kinds.proofs.Chain.{goes-on, both-accept, judged-passed}
 use Rattle.share.specs.Share.{periodAt}
 use Rattle.share.specs.Table.{periodsAt}
 use Rattle.admission.specs.declared.Admission.{Admission}
@@ -33,7 +33,6 @@ use Rattle.plan.specs.Plan.{processorAt, processorsAt, decided, found}
 use Rattle.plain.specs.Asked.{asked}
 use Rattle.sheet.specs.Rows.{granted}
 use Rattle.sheet.specs.Reading.{sheetIn, readSheet}
-use Rattle.sheet.proofs.Judging.{judged-passed}
 use Rattle.sheet.proofs.Stages.{fits-few}
 use Rattle.sheet.proofs.Whole.{whole}
 use Rattle.sheet.proofs.Numbered.{accepted-by-number}

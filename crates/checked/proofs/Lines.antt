@@ -7,13 +7,13 @@ use lib.ListN.{take}
 use Rattle.kinds.specs.declared.Sheet.{Sheet}
 use Rattle.kinds.specs.declared.Refusal.{Refusal}
 use Rattle.kinds.specs.Refusal.{numberOf, placeOf}
-use Rattle.kinds.specs.Answer.{Handed, unrefused}
-use Rattle.sheet.specs.declared.Verdict.{Verdict}
-use Rattle.sheet.specs.declared.Verdict.the-variants as verdict
+use Rattle.kinds.specs.Answer.{Handed, unrefused, handedVerdict, NumberAndPlace}
+use Rattle.kinds.specs.declared.Verdict.{Verdict}
+use Rattle.kinds.specs.declared.Verdict.the-variants as verdict
 use Rattle.fill.specs.Fill.{longestSheet, refusalLine, orLine}
 use Rattle.fill.proofs.Lines.{line-of}
 use Rattle.fill.proofs.Beyond.{front-reads}
-use Rattle.checked.specs.Checked.{NumberAndPlace, checkedSheet, checked, handedVerdict}
+use Rattle.checked.specs.Checked.{checkedSheet, checked}
 use Rattle.checked.specs.Told.{acceptedLine, told}
 
 module _ (s : List ℕ) (v : Verdict) (is : handedVerdict v ≡ checked s) where

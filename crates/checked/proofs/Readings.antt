@@ -6,7 +6,7 @@ use mathlib.Core.Path.{_≡_}
 use Rattle.kinds.specs.declared.Refusal.{Refusal}
 use Rattle.kinds.specs.Answer.{refused}
 use Rattle.kinds.proofs.Chain.{comes-first, goes-on}
-use Rattle.sheet.specs.declared.Verdict.the-variants as verdict
+use Rattle.kinds.specs.declared.Verdict.the-variants as verdict
 use Rattle.sheet.specs.declared.Reading.{Reading}
 use Rattle.sheet.specs.Reading.{readSheet, handedReading}
 use Rattle.fill.proofs.Readings.{handed-as}

@@ -10,12 +10,9 @@ use Rattle.ground.specs.First.{firstBelow}
 use Rattle.kinds.specs.declared.Granted.{Granted}
 use Rattle.kinds.specs.declared.Sheet.{Sheet}
 use Rattle.kinds.specs.declared.Refusal.the-variants.{NoResults, WrongResult}
-use Rattle.kinds.specs.Answer.{Handed, accepted, refused, unrefused}
+use Rattle.kinds.specs.Answer.{accepted, unrefused, judged, NumberAndPlace}
 use Rattle.plain.specs.Asked.{asked}
-use Rattle.sheet.specs.declared.Verdict.{Verdict}
-use Rattle.sheet.specs.declared.Verdict.the-variants as verdict
 use Rattle.sheet.specs.Rows.{noGranted}
-use Rattle.sheet.specs.Judged.{judged}
 use Rattle.sheet.specs.Reading.{readSheet}
 use Rattle.writer.specs.Canonical.{grantedIn}
 use Rattle.fill.specs.Results.{entryAt, withPlan}
@@ -36,10 +33,6 @@ differsAt x k i = differ (grantedIn x i) (grantedIn (withPlan x k) i)
 unfoldable pub firstDiffering : Sheet → ℕ → ℕ
 firstDiffering x k = firstBelow (differsAt x k) (x .table .n)
 
--- what the checker hands back has no value beside its number and place
-abbrev pub NumberAndPlace : Type 0
-NumberAndPlace = Handed (Unit {0})
-
 -- "then 18 at 0 when tasks stand there without results, then 19 naming the first result that differs"
 unfoldable pub compared : Sheet → ℕ → NumberAndPlace
 compared x k =
@@ -52,8 +45,3 @@ checkedSheet x = unrefused tt (asked x) (compared x)
 
 unfoldable pub checked : List ℕ → NumberAndPlace
 checked s = unrefused tt (readSheet s) checkedSheet
-
--- a verdict in document 01's numbers
-abbrev pub handedVerdict : Verdict → NumberAndPlace
-handedVerdict verdict.Accepted = accepted tt
-handedVerdict (verdict.Refused r) = refused tt r

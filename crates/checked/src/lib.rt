@@ -7,13 +7,14 @@ use kinds::Refusal;
 use kinds::Results;
 use kinds::Sheet;
 use kinds::Table;
-use sheet::Verdict;
+use kinds::Verdict;
 ghost use mathlib.Core.Path.{_≡_};
 ghost use Prim.Native.Nat.{_≤_};
 ghost use Rattle.ground.specs.First.{firstBelow};
 ghost use Rattle.kinds.specs.Limits.{mostTasks};
+ghost use Rattle.kinds.specs.Answer.{handedVerdict};
 ghost use Rattle.fill.specs.Fill.{Fronts};
-ghost use Rattle.checked.specs.Checked.{differ, unlike, checkedSheet, checked, handedVerdict};
+ghost use Rattle.checked.specs.Checked.{differ, unlike, checkedSheet, checked};
 ghost use Rattle.checked.specs.Told.{told};
 
 // Whether two results differ, in the period or in the processor.

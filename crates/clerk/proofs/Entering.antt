@@ -12,21 +12,21 @@ use Rattle.kinds.specs.declared.Sheet.{Sheet}
 use Rattle.kinds.specs.declared.Table.{Table}
 use Rattle.kinds.specs.Limits.{mostTasks}
 use Rattle.kinds.specs.Refusal.{numberOf, placeOf}
-use Rattle.kinds.specs.Answer.{Handed}
+use Rattle.kinds.specs.Answer.{Handed, handedCount}
 use Rattle.kinds.proofs.Answers.{not-refused}
 use Rattle.numeral.specs.declared.Numeral.the-variants as numeral
 use Rattle.numeral.specs.Scan.{numeralIn}
 use Rattle.sheet.specs.Sections.{resultsFit}
-use Rattle.writer.specs.declared.Written.the-variants as written
+use Rattle.kinds.specs.declared.Counted.the-variants as counted
 use Rattle.writer.specs.Encode.{encode, lengthOf}
 use Rattle.writer.specs.Writing.{Writes}
 use Rattle.writer.proofs.Rows.{encode-long}
 use Rattle.writer.proofs.Answers.{accepts, write-accepts, accepted-after}
 use Rattle.office.specs.declared.Imported.{Imported}
-use Rattle.office.specs.declared.Carried.{Carried}
-use Rattle.office.specs.declared.Carried.the-variants as carried
+use Rattle.kinds.specs.declared.Counted.{Counted}
+use Rattle.kinds.specs.declared.Counted.the-variants as carried
 use Rattle.office.specs.Reading.{readText, rowsOf}
-use Rattle.office.specs.Carrying.{handedCarried, importHanded, after, tableOf, Reads}
+use Rattle.office.specs.Carrying.{importHanded, afterCarry, tableOf, Reads}
 use Rattle.office.proofs.Landing.{lands, all-landed}
 use Rattle.fill.specs.Fill.{longestSheet, refusalLine, orLine, Fronts}
 use Rattle.fill.proofs.Fronts.{fronts}
@@ -73,8 +73,8 @@ module _ (policy processors text : List ℕ) where
 
 -- the text
 module _ (p m : ℕ) (text : List ℕ) (i : Imported) (reads : Reads text mostTasks i) where
-  handed-as : (r : Carried) → i .answer ≡ r → importHanded text mostTasks ≡ handedCarried r
-  handed-as r e = sym (reads .answer) ∙ ap handedCarried e
+  handed-as : (r : Counted) → i .answer ≡ r → importHanded text mostTasks ≡ handedCount r
+  handed-as r e = sym (reads .answer) ∙ ap handedCount e
 
   pub text-refused : (q : Refusal) → i .answer ≡ carried.Refused q → enteredText p m text ≡ refusalLine (numberOf q) (placeOf q)
   unfolding enteredText
@@ -98,13 +98,13 @@ module _ (p m : ℕ) (t : Table) (few : t .n ≤ mostTasks) (old new : List ℕ)
   abbrev x : Sheet
   x = sheetWith p m t
 
-  pub unrefused : (q : Refusal) {B : Type 0} → Writes x old (written.Refused q) new → B
+  pub unrefused : (q : Refusal) {B : Type 0} → Writes x old (counted.Refused q) new → B
   unfolding resultsFit
   unrefused q w = not-refused (lengthOf x) 0 q (sym (write-accepts x (length old) few refl (omega arith)) ∙ sym (w .answer))
 
-  pub sheet-fronts : (k : ℕ) → Writes x old (written.Bytes k) new → Fronts (encode x) old k new
+  pub sheet-fronts : (k : ℕ) → Writes x old (counted.Count k) new → Fronts (encode x) old k new
   sheet-fronts k w =
       let e = sym (w .answer) in
       let a = accepts x (length old) k e in
       fronts (encode x) old new k (a .is ∙ sym (encode-long x)) (omega (arith, a .fits, a .is))
-      (w .buffer ∙ (accepted-after x old k e ∙ ap (λ (n : ℕ). encode x ++ drop n old) (sym (a .is))))
+      (w .buffer ∙ (accepted-afterCarry x old k e ∙ ap (λ (n : ℕ). encode x ++ drop n old) (sym (a .is))))

@@ -10,12 +10,12 @@ use Rattle.kinds.specs.declared.Sheet.{Sheet}
 use Rattle.kinds.specs.declared.Table.{Table}
 use Rattle.kinds.specs.Refusal.{numberOf, placeOf}
 use Rattle.kinds.specs.Answer.{Handed, accepted, refused}
-use Rattle.sheet.specs.declared.Verdict.the-variants as verdict
+use Rattle.kinds.specs.declared.Verdict.the-variants as verdict
 use Rattle.sheet.specs.declared.Reading.{Reading}
 use Rattle.sheet.specs.Reading.{readSheet, handedReading}
-use Rattle.office.specs.declared.Carried.the-variants as carried
+use Rattle.kinds.specs.declared.Counted.the-variants as carried
 use Rattle.office.specs.Text.{textTo}
-use Rattle.office.specs.Carrying.{exportHanded, after, Exports}
+use Rattle.office.specs.Carrying.{exportHanded, afterCarry, Exports}
 use Rattle.office.proofs.Answers.{after-refused, export-fits}
 use Rattle.fill.specs.Fill.{refusalLine, orLine, Fronts}
 use Rattle.fill.proofs.Fronts.{fronts}
@@ -34,7 +34,7 @@ module _ (t : Table) (old : List ℕ) (room : length old ≡ longestText) where
       → Fronts (refusalLine (numberOf q) (placeOf q)) mid k new → Fronts (takenTable t) old k new
   table-refused q mid new k x f =
       let same : mid ≡ old =
-      x .output ∙ (ap (λ (h : Handed ℕ). after h (textTo (t .rows) (t .n)) old) (sym (x .answer)) ∙ after-refused q (textTo (t .rows) (t .n)) old) in
+      x .output ∙ (ap (λ (h : Handed ℕ). afterCarry h (textTo (t .rows) (t .n)) old) (sym (x .answer)) ∙ after-refused q (textTo (t .rows) (t .n)) old) in
       let says = handed (refused 0 q) (x .answer) ∙ line-of {A = ℕ} 0 q (λ n. textTo (t .rows) (t .n)) in
       rw (says, ← same) f
 
@@ -44,7 +44,7 @@ module _ (t : Table) (old : List ℕ) (room : length old ≡ longestText) where
       let a = export-fits (t .rows) (t .n) (length old) k (sym (x .answer)) in
       rw (handed (accepted k) (x .answer))
       (fronts text old new k (a .0) (omega (arith, a .0, a .1))
-      (x .output ∙ ap (λ (h : Handed ℕ). after h text old) (sym (x .answer))))
+      (x .output ∙ ap (λ (h : Handed ℕ). afterCarry h text old) (sym (x .answer))))
 
 -- a sheet, as the reader hands it back
 module _ (s : List ℕ) (r : Reading) (read : handedReading r ≡ readSheet s) where

@@ -1,6 +1,7 @@
 // The work of the office's programs on slices: `enter` makes an unfilled station sheet of a text, `take_out` writes the text of a sheet's
 // table; each writes the line of a refusal instead. Contracts cite `specs/Clerk`.
 use fill::LONGEST_SHEET;
+use kinds::Counted;
 use kinds::Granted;
 use kinds::Policy;
 use kinds::Refusal;
@@ -8,10 +9,8 @@ use kinds::Results;
 use kinds::Settings;
 use kinds::Sheet;
 use kinds::Table;
+use kinds::Verdict;
 use numeral::Numeral;
-use office::Carried;
-use sheet::Verdict;
-use writer::Written;
 ghost use mathlib.Core.Path.{_≡_};
 ghost use Prim.Native.Nat.{_≤_};
 ghost use lib.ListN.{length};
@@ -63,7 +62,7 @@ fn put_unfilled(policy: u16, m: u16, table: Table, out: &mut [u8]) -> usize
         table,
         results,
     };
-    let Written::Bytes(k) = writer::write(x, out) else {
+    let Counted::Count(k) = writer::write(x, out) else {
         return 0;
     };
     k
@@ -81,7 +80,7 @@ pub fn enter(policy: &[u8], processors: &[u8], text: &[u8], out: &mut [u8; LONGE
     };
     let imported = office::import(text, Table::MOST_TASKS);
     let answer = imported.answer;
-    if let Carried::Refused(refusal) = answer {
+    if let Counted::Refused(refusal) = answer {
         return fill::put_refusal(out, refusal);
     }
     let table = imported.table;
@@ -93,8 +92,8 @@ fn put_text(table: Table, out: &mut [u8; LONGEST_TEXT]) -> usize
     ensures { λ r. ⌜ Fronts (takenTable table) (now (out .entry)) r (now (out .exit)) ⌝ }
 {
     match office::export(table, out) {
-        Carried::Refused(refusal) => fill::put_refusal(out, refusal),
-        Carried::Count(k) => k,
+        Counted::Refused(refusal) => fill::put_refusal(out, refusal),
+        Counted::Count(k) => k,
     }
 }
 

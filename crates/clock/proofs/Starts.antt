@@ -15,13 +15,10 @@ use Rattle.ground.proofs.Buffer.{list-long, list-at}
 use Rattle.kinds.specs.declared.Refusal.the-variants.{TooManyTasks, BadPeriod}
 use Rattle.kinds.specs.Answer.{Handed, accepted, refused}
 use Rattle.kinds.specs.Limits.{longestPeriod, mostTasks}
-use Rattle.kinds.proofs.Answers.{not-refused}
-use Rattle.kinds.proofs.Refusals.{refusal-one}
+use Rattle.kinds.proofs.Answers.{with-value, with-one}
 use Rattle.clock.specs.declared.Clock.{Clock}
-use Rattle.clock.specs.declared.Begin.{Begin}
-use Rattle.clock.specs.declared.Begin.the-variants as begin
 use Rattle.clock.specs.declared.Started.{Started}
-use Rattle.clock.specs.Start.{every, isPeriod, firstBad, noClock, padded, clockFrom, started, handedBy, handedStart}
+use Rattle.clock.specs.Start.{every, isPeriod, firstBad, noClock, padded, clockFrom, started, handedStart}
 
 -- a period that is taken
 pub record Fair (ticks : ℕ) : Type 0 where
@@ -105,24 +102,12 @@ pub padded-at : (f : ℕ → ℕ) (n i : ℕ) → i < n → getD (padded f n) i 
 padded-at f n i l = list-at f n i (drop n (replicate mostTasks 0)) l
 
 -- no second answer, nor a second clock
-begin-one : (v w : Begin) (x y : Clock) → handedBy v x ≡ handedBy w y → v ≡ w
-begin-one begin.Begun begin.Begun x y e = refl
-begin-one begin.Begun (begin.Refused r) x y e = not-refused x y r e
-begin-one (begin.Refused r) begin.Begun x y e = not-refused y x r (sym e)
-begin-one (begin.Refused r) (begin.Refused q) x y e =
-    ap begin.Refused (refusal-one r q (ap (λ (h : Handed Clock). h .number) e) (ap (λ (h : Handed Clock). h .place) e))
-
-value-is : (v : Begin) (x : Clock) → handedBy v x .value ≡ x
-value-is begin.Begun x = refl
-value-is (begin.Refused r) x = refl
 
 -- what is handed back tells the clock
 pub clock-is : (r : Started) → r .clock ≡ handedStart r .value
-clock-is r = sym (value-is (r .answer) (r .clock))
+clock-is r = sym (with-value (r .answer) (r .clock))
 
 pub start-one : (ps : List ℕ) (tick : ℕ) (r q : Started) → handedStart r ≡ started ps tick → handedStart q ≡ started ps tick → r ≡ q
 start-one ps tick r q e f =
-    let h : handedStart r ≡ handedStart q = e ∙ sym f in
-    let v = begin-one (r .answer) (q .answer) (r .clock) (q .clock) h in
-    let x : r .clock ≡ q .clock = clock-is r ∙ (ap (λ (g : Handed Clock). g .value) h ∙ sym (clock-is q)) in
-    λ i. record { answer = v i; clock = x i }
+    let same = with-one (r .answer) (q .answer) (r .clock) (q .clock) (e ∙ sym f) in
+    λ i. record { answer = same .0 i; clock = same .1 i }

@@ -9,11 +9,9 @@ use Rattle.ground.specs.Choice.{pick, both}
 use Rattle.ground.specs.First.{firstBelow}
 use Rattle.ground.specs.Folds.{listTo}
 use Rattle.kinds.specs.declared.Refusal.the-variants.{TooManyTasks, BadPeriod}
-use Rattle.kinds.specs.Answer.{Handed, accepted, refused}
+use Rattle.kinds.specs.Answer.{Handed, accepted, refused, handedWith}
 use Rattle.kinds.specs.Limits.{longestPeriod, mostTasks}
 use Rattle.clock.specs.declared.Clock.{Clock}
-use Rattle.clock.specs.declared.Begin.{Begin}
-use Rattle.clock.specs.declared.Begin.the-variants as begin
 use Rattle.clock.specs.declared.Started.{Started}
 
 -- the period of task i
@@ -47,10 +45,6 @@ started periods tick =
     (pick (ltb (firstBad periods) (length periods)) (refused noClock (BadPeriod (firstBad periods)))
     (accepted (clockFrom periods tick)))
 
--- an answer in document 01's numbers, with the clock beside it
-abbrev pub handedBy : Begin → Clock → Handed Clock
-handedBy begin.Begun c = accepted c
-handedBy (begin.Refused r) c = refused c r
-
+-- a start in document 01's numbers, with the clock beside its verdict
 abbrev pub handedStart : Started → Handed Clock
-handedStart r = handedBy (r .answer) (r .clock)
+handedStart r = handedWith (r .answer) (r .clock)

@@ -3,6 +3,7 @@
 use kinds::Refusal;
 use kinds::Table;
 use kinds::Task;
+use kinds::Verdict;
 ghost use mathlib.Core.Path.{_≡_};
 ghost use Prim.Native.Nat.{_≤_};
 ghost use lib.ListN.{length};
@@ -24,15 +25,9 @@ impl Clock {
     pub const HALF_TURN: u32 = 2_147_483_648;
 }
 
-// What a start answers.
-pub enum Begin {
-    Begun,
-    Refused(Refusal),
-}
-
 // The answer to a start, and the clock: of zeros where it is refused.
 pub struct Started {
-    pub answer: Begin,
+    pub answer: Verdict,
     pub clock: Clock,
 }
 
@@ -118,19 +113,19 @@ pub fn start(periods: &[u32], tick: u32) -> Started
     let n = periods.len();
     if Table::MOST_TASKS < n {
         return Started {
-            answer: Begin::Refused(Refusal::TooManyTasks(n)),
+            answer: Verdict::Refused(Refusal::TooManyTasks(n)),
             clock: no_clock(),
         };
     }
     let bad = first_bad(periods);
     if bad < n {
         return Started {
-            answer: Begin::Refused(Refusal::BadPeriod(bad)),
+            answer: Verdict::Refused(Refusal::BadPeriod(bad)),
             clock: no_clock(),
         };
     }
     Started {
-        answer: Begin::Begun,
+        answer: Verdict::Accepted,
         clock: clock_from(periods, tick),
     }
 }

@@ -5,24 +5,24 @@ use mathlib.Core.List.{List, [], _∷_}
 use mathlib.Core.Path.{_≡_, sym, ap, _∙_}
 use lib.ListN.{length, getD}
 use Rattle.kinds.specs.declared.Refusal.{Refusal}
-use Rattle.kinds.specs.Answer.{Handed, accepted, refused}
+use Rattle.kinds.specs.Answer.{Handed, accepted, refused, handedWith}
 use Rattle.kinds.specs.Refusal.{numberOf, placeOf}
 use Rattle.clock.specs.declared.Clock.{Clock}
-use Rattle.clock.specs.declared.Begin.the-variants as begin
+use Rattle.kinds.specs.declared.Verdict.the-variants as verdict
 use Rattle.clock.specs.declared.Release.the-variants as release
 use Rattle.clock.specs.declared.Started.{Started}
 use Rattle.clock.specs.declared.Called.{Called}
-use Rattle.clock.specs.Start.{started, handedBy, handedStart}
+use Rattle.clock.specs.Start.{started, handedStart}
 use Rattle.clock.specs.Call.{released, handedRelease, CallIs}
 use Rattle.embed.specs.declared.clocked.ToldCall.{ToldCall}
 use Rattle.embed.specs.Clocked.{ToldCallIs}
 
 module _ (periods : List ℕ) (tick : ℕ) (r : Started) (p : handedStart r ≡ started periods tick) where
-  pub told-begun : r .answer ≡ begin.Begun → accepted (r .clock) ≡ started periods tick
-  told-begun e = ap (λ a. handedBy a (r .clock)) (sym e) ∙ p
+  pub told-begun : r .answer ≡ verdict.Accepted → accepted (r .clock) ≡ started periods tick
+  told-begun e = ap (λ a. handedWith a (r .clock)) (sym e) ∙ p
 
-  pub told-not-begun : (q : Refusal) → r .answer ≡ begin.Refused q → refused (r .clock) q ≡ started periods tick
-  told-not-begun q e = ap (λ a. handedBy a (r .clock)) (sym e) ∙ p
+  pub told-not-begun : (q : Refusal) → r .answer ≡ verdict.Refused q → refused (r .clock) q ≡ started periods tick
+  told-not-begun q e = ap (λ a. handedWith a (r .clock)) (sym e) ∙ p
 
 module _ (c : Clock) (present : ℕ) (r : Called) (p : CallIs c present r) where
   -- what is handed back, and the clock, field by field

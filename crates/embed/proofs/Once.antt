@@ -7,8 +7,7 @@ use lib.IntN.{ℤ}
 use lib.ListN.{length}
 use Rattle.kinds.specs.declared.Task.{Task}
 use Rattle.kinds.specs.declared.Settings.{Settings}
-use Rattle.kinds.specs.Answer.{Handed}
-use Rattle.checked.specs.Checked.{NumberAndPlace}
+use Rattle.kinds.specs.Answer.{Handed, NumberAndPlace}
 use Rattle.plan.specs.Plan.{Outcome}
 use Rattle.embed.specs.declared.Told.{Told}
 use Rattle.embed.specs.declared.ToldMargin.{ToldMargin}

@@ -4,12 +4,11 @@ use Prim.Native.Nat.{ℕ}
 use mathlib.Core.List.{List}
 use mathlib.Core.Path.{_≡_, refl, ap, _∙_}
 use Rattle.kinds.specs.declared.Sheet.{Sheet}
-use Rattle.kinds.specs.Answer.{Handed}
-use Rattle.sheet.specs.declared.Verdict.{Verdict}
-use Rattle.sheet.specs.declared.Verdict.the-variants.{Accepted, Refused}
+use Rattle.kinds.specs.Answer.{Handed, handedWith, handedVerdict, NumberAndPlace}
+use Rattle.kinds.specs.declared.Verdict.{Verdict}
+use Rattle.kinds.specs.declared.Verdict.the-variants.{Accepted, Refused}
 use Rattle.sheet.specs.declared.Reading.{Reading}
-use Rattle.sheet.specs.Reading.{readSheet, handedBy, handedReading}
-use Rattle.checked.specs.Checked.{NumberAndPlace, handedVerdict}
+use Rattle.sheet.specs.Reading.{readSheet, handedReading}
 use Rattle.embed.specs.declared.sheets.StationSheet.{StationSheet}
 use Rattle.embed.specs.declared.sheets.ToldVerdict.{ToldVerdict}
 use Rattle.embed.specs.Sheets.{numbersOf, inNumbers, toldVerdict}
@@ -18,7 +17,7 @@ use Rattle.embed.specs.Sheets.{numbersOf, inNumbers, toldVerdict}
 abbrev beside : NumberAndPlace → Sheet → Handed StationSheet
 beside h x = record { number = h .number; place = h .place; value = numbersOf x }
 
-verdict-beside : (v : Verdict) (x : Sheet) → beside (handedVerdict v) x ≡ inNumbers (handedBy v x)
+verdict-beside : (v : Verdict) (x : Sheet) → beside (handedVerdict v) x ≡ inNumbers (handedWith v x)
 verdict-beside Accepted x = refl
 verdict-beside (Refused q) x = refl
 

@@ -5,8 +5,7 @@ use mathlib.Core.List.{List}
 use mathlib.Core.Path.{_≡_}
 use Rattle.kinds.specs.declared.Sheet.{Sheet}
 use Rattle.kinds.specs.Policy.{policyNumber}
-use Rattle.kinds.specs.Answer.{Handed}
-use Rattle.checked.specs.Checked.{NumberAndPlace}
+use Rattle.kinds.specs.Answer.{Handed, NumberAndPlace}
 use Rattle.change_over.specs.declared.Which.{Which}
 use Rattle.change_over.specs.declared.Which.the-variants.{Standing, Proposed}
 use Rattle.change_over.specs.declared.Part.{Part}

@@ -1,7 +1,7 @@
 // The release clock for C and Rust: the clock table crosses by value, both ways.
-use clock::Begin;
 use clock::Clock;
 use clock::Release;
+use kinds::Verdict;
 ghost use mathlib.Core.Path.{_≡_};
 ghost use Rattle.clock.specs.Start.{started};
 ghost use Rattle.embed.specs.Clocked.{toldStart, ToldCallIs};
@@ -33,12 +33,12 @@ pub extern "C" fn eelbasket_clock_start(periods: &[u32], tick: u32) -> ToldStart
     let answer = begun.answer;
     let clock = begun.clock;
     match answer {
-        Begin::Begun => ToldStart {
+        Verdict::Accepted => ToldStart {
             number: 0,
             place: 0,
             clock,
         },
-        Begin::Refused(refusal) => ToldStart {
+        Verdict::Refused(refusal) => ToldStart {
             number: refusal.number() as u32,
             place: refusal.place(),
             clock,

@@ -3,17 +3,18 @@ use crate::Station;
 use crate::settings_of;
 use change_over::Which;
 use fill::LONGEST_SHEET;
+use kinds::Counted;
 use kinds::Results;
 use kinds::Sheet;
 use kinds::Table;
-use sheet::Verdict;
-use writer::Written;
+use kinds::Verdict;
 ghost use mathlib.Core.Path.{_≡_};
 ghost use lib.ListN.{length};
+ghost use Rattle.kinds.specs.Answer.{handedCount, handedVerdict};
 ghost use Rattle.sheet.specs.Reading.{readSheet};
-ghost use Rattle.writer.specs.Writing.{handedWritten, writeSheet, afterWrite};
+ghost use Rattle.writer.specs.Writing.{writeSheet, afterWrite};
 ghost use Rattle.fill.specs.Fill.{planned, counted, afterFill};
-ghost use Rattle.checked.specs.Checked.{checked, handedVerdict};
+ghost use Rattle.checked.specs.Checked.{checked};
 ghost use Rattle.change_over.specs.ChangeOver.{changeOver};
 ghost use Rattle.embed.specs.Sheets.{sheetOf, numbersOf, inNumbers, toldReading, toldCount, ToldCounts, toldVerdict, toldPart};
 
@@ -91,16 +92,16 @@ fn numbers_of(x: Sheet) -> StationSheet
 }
 
 // What the writer answers, in numbers.
-fn tell_written(written: Written) -> ToldCount
-    ensures { λ r. ⌜ toldCount r ≡ handedWritten written ⌝ }
+fn tell_written(written: Counted) -> ToldCount
+    ensures { λ r. ⌜ toldCount r ≡ handedCount written ⌝ }
 {
     match written {
-        Written::Bytes(count) => ToldCount {
+        Counted::Count(count) => ToldCount {
             number: 0,
             place: 0,
             count,
         },
-        Written::Refused(refused) => ToldCount {
+        Counted::Refused(refused) => ToldCount {
             number: refused.number() as u32,
             place: refused.place(),
             count: 0,

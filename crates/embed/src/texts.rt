@@ -1,25 +1,25 @@
 // The office's texts for C and Rust: import into lent records, export from them. Contracts cite `specs/Sheets` for what crosses.
 use crate::sheets::ToldCount;
+use kinds::Counted;
 use kinds::Table;
 use kinds::Task;
-use office::Carried;
 ghost use lib.ListN.{length};
-ghost use Rattle.office.specs.Carrying.{handedCarried};
 ghost use Rattle.embed.specs.Sheets.{toldCount};
 ghost use Rattle.embed.specs.Texts.{ToldImports, ToldExports};
 ghost use mathlib.Core.Path.{_≡_};
+ghost use Rattle.kinds.specs.Answer.{handedCount};
 
 // What an import or an export answers, in numbers.
-fn tell_carried(carried: Carried) -> ToldCount
-    ensures { λ r. ⌜ toldCount r ≡ handedCarried carried ⌝ }
+fn tell_carried(carried: Counted) -> ToldCount
+    ensures { λ r. ⌜ toldCount r ≡ handedCount carried ⌝ }
 {
     match carried {
-        Carried::Count(count) => ToldCount {
+        Counted::Count(count) => ToldCount {
             number: 0,
             place: 0,
             count,
         },
-        Carried::Refused(refusal) => ToldCount {
+        Counted::Refused(refusal) => ToldCount {
             number: refusal.number() as u32,
             place: refusal.place(),
             count: 0,

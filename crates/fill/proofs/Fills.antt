@@ -11,8 +11,8 @@ use Rattle.kinds.specs.declared.Refusal.{Refusal}
 use Rattle.kinds.specs.Refusal.{numberOf, placeOf}
 use Rattle.kinds.specs.Answer.{Handed, refused}
 use Rattle.kinds.proofs.Refusals.{refusal-numbered}
-use Rattle.writer.specs.declared.Written.{Written}
-use Rattle.writer.specs.declared.Written.the-variants.{Bytes, Refused}
+use Rattle.kinds.specs.declared.Counted.{Counted}
+use Rattle.kinds.specs.declared.Counted.the-variants.{Count, Refused}
 use Rattle.writer.proofs.Answers.{written-one}
 use Rattle.fill.specs.Fill.{refusalLine, planned, filled, Fills, Fronts}
 use Rattle.fill.proofs.Fronts.{fronts}
@@ -21,7 +21,7 @@ use Rattle.fill.proofs.Fronts.{fronts}
 pub refuses : (h : Handed (List ℕ)) (q : Refusal) → h ≡ refused [] q → (old : List ℕ) → Fills h old (Refused q) old
 refuses h q e old = rw e (record { answer = refl; output = refl; fits = omega arith })
 
-pub fills-one : (h : Handed (List ℕ)) (old : List ℕ) (r q : Written) (new other : List ℕ) → Fills h old r new → Fills h old q other → (r ≡ q) × (new ≡ other)
+pub fills-one : (h : Handed (List ℕ)) (old : List ℕ) (r q : Counted) (new other : List ℕ) → Fills h old r new → Fills h old q other → (r ≡ q) × (new ≡ other)
 fills-one h old r q new other a b = (written-one r q (a .answer ∙ sym (b .answer)), a .output ∙ sym (b .output))
 
 none-long : (bytes old : List ℕ) → length bytes ≡ 0 → bytes ++ drop (length bytes) old ≡ old
@@ -30,7 +30,7 @@ none-long (b ∷ bytes) old e = absurd (omega (arith, e))
 
 module _ (s old new : List ℕ) where
   -- the filled sheet is what the program writes
-  pub tells-sheet : (k : ℕ) → Fills (planned s) old (Bytes k) new → Fronts (filled s) old k new
+  pub tells-sheet : (k : ℕ) → Fills (planned s) old (Count k) new → Fronts (filled s) old k new
   unfolding filled
   tells-sheet k p =
       let bytes = planned s .value in

@@ -26,7 +26,7 @@ use Rattle.plain.proofs.Asked.{asked-roomy}
 use Rattle.sheet.specs.Sections.{resultsFit}
 use Rattle.sheet.specs.Rows.{granted, noGranted, padded}
 use Rattle.sheet.proofs.Padding.{padded-more, padded-cong}
-use Rattle.writer.specs.declared.Written.{Written}
+use Rattle.kinds.specs.declared.Counted.{Counted}
 use Rattle.writer.specs.Encode.{encode, lengthOf}
 use Rattle.writer.specs.Writing.{writeSheet, Writes}
 use Rattle.writer.proofs.Rows.{encode-long}
@@ -107,7 +107,7 @@ module _ (x : Sheet) (few : x .table .n ≤ mostTasks) (ps qs ps′ qs′ : List
       unfolding withPlan resultsOf
       planned-accepted room h = write-accepts (withPlan x k) room few (plan-fits (x .table .n)) (omega arith)
 
-      pub plan-written : (old new : List ℕ) → longestSheet ≤ length old → (w : Written) → Writes (withResults x r) old w new → Fills (plannedSheet x) old w new
+      pub plan-written : (old new : List ℕ) → longestSheet ≤ length old → (w : Counted) → Writes (withResults x r) old w new → Fills (plannedSheet x) old w new
       plan-written old new room w p =
           let y = withPlan x k in
           let p′ : Writes y old w new = rw planned-is at p in

@@ -8,13 +8,13 @@ use Rattle.kinds.specs.declared.Sheet.{Sheet}
 use Rattle.kinds.specs.declared.Refusal.{Refusal}
 use Rattle.kinds.specs.Limits.{mostTasks}
 use Rattle.kinds.specs.Refusal.{numberOf, placeOf}
-use Rattle.kinds.specs.Answer.{Handed, accepted, refused}
+use Rattle.kinds.specs.Answer.{Handed, accepted, refused, handedWith}
 use Rattle.kinds.proofs.Chain.{comes-first, goes-on}
 use Rattle.plain.specs.Asked.{asked}
-use Rattle.sheet.specs.declared.Verdict.{Verdict}
-use Rattle.sheet.specs.declared.Verdict.the-variants as verdict
+use Rattle.kinds.specs.declared.Verdict.{Verdict}
+use Rattle.kinds.specs.declared.Verdict.the-variants as verdict
 use Rattle.sheet.specs.declared.Reading.{Reading}
-use Rattle.sheet.specs.Reading.{sheetIn, readSheet, handedBy, handedReading}
+use Rattle.sheet.specs.Reading.{sheetIn, readSheet, handedReading}
 use Rattle.sheet.proofs.Whole.{accepted-whole}
 use Rattle.writer.specs.Encode.{encode}
 use Rattle.fill.specs.Results.{withPlan}
@@ -44,8 +44,8 @@ filled-planned s x k read e = ap (λ (h : Handed (List ℕ)). orLine h (λ b. b)
 
 -- as the reader hands it back
 module _ (s : List ℕ) (r : Reading) (read : handedReading r ≡ readSheet s) where
-  pub handed-as : (v : Verdict) → r .verdict ≡ v → readSheet s ≡ handedBy v (r .sheet)
-  handed-as v e = sym read ∙ ap (λ (w : Verdict). handedBy w (r .sheet)) e
+  pub handed-as : (v : Verdict) → r .verdict ≡ v → readSheet s ≡ handedWith v (r .sheet)
+  handed-as v e = sym read ∙ ap (λ (w : Verdict). handedWith w (r .sheet)) e
 
   pub reading-refused : (q : Refusal) → r .verdict ≡ verdict.Refused q → planned s ≡ refused [] q
   reading-refused q v = planned-refused s (r .sheet) q (handed-as (verdict.Refused q) v)

@@ -7,12 +7,11 @@ use lib.Dec.{eqb}
 use lib.ListN.{length, take, drop}
 use Rattle.ground.specs.Choice.{pick}
 use Rattle.kinds.specs.declared.Sheet.{Sheet}
-use Rattle.kinds.specs.Answer.{Handed, accepted, unrefused}
+use Rattle.kinds.specs.Answer.{Handed, accepted, unrefused, handedCount}
 use Rattle.plain.specs.Asked.{asked}
 use Rattle.sheet.specs.Reading.{readSheet}
-use Rattle.writer.specs.declared.Written.{Written}
+use Rattle.kinds.specs.declared.Counted.{Counted}
 use Rattle.writer.specs.Encode.{encode}
-use Rattle.writer.specs.Writing.{handedWritten}
 use Rattle.numeral.specs.Decimal.{decimal}
 use Rattle.fill.specs.Results.{withPlan}
 
@@ -57,8 +56,8 @@ counted h = record { number = h .number; place = h .place; value = length (h .va
 abbrev pub afterFill : Handed (List ℕ) → List ℕ → List ℕ
 afterFill h old = h .value ++ drop (length (h .value)) old
 
-pub record Fills (h : Handed (List ℕ)) (old : List ℕ) (r : Written) (new : List ℕ) : Type 0 where
-  pub answer : handedWritten r ≡ counted h
+pub record Fills (h : Handed (List ℕ)) (old : List ℕ) (r : Counted) (new : List ℕ) : Type 0 where
+  pub answer : handedCount r ≡ counted h
   pub output : new ≡ afterFill h old
   pub fits : length (h .value) ≤ length old
 

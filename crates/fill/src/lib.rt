@@ -1,13 +1,13 @@
 // The program's whole work on slices: a sheet in, the sheet with the plain finder's results out, or the line of a refusal. Contracts cite
 // `specs/Results` and `specs/Fill`.
 use kinds::Answer;
+use kinds::Counted;
 use kinds::Granted;
 use kinds::Refusal;
 use kinds::Results;
 use kinds::Sheet;
 use kinds::Table;
-use sheet::Verdict;
-use writer::Written;
+use kinds::Verdict;
 ghost use mathlib.Core.Path.{_≡_};
 ghost use Prim.Native.Nat.{_+_, _≤_};
 ghost use lib.ListN.{length};
@@ -70,7 +70,7 @@ fn results_of(
 }
 
 // Writes a sheet with its results filled in from the plain finder, or refuses it.
-fn fill_sheet(x: Sheet, out: &mut [u8]) -> Written
+fn fill_sheet(x: Sheet, out: &mut [u8]) -> Counted
     requires { ⌜ (x .table .n ≤ mostTasks) × (longestSheet ≤ length (now out)) ⌝ }
     ensures { λ r. ⌜ Fills (plannedSheet x) (now (out .entry)) r (now (out .exit)) ⌝ }
 {
@@ -80,7 +80,7 @@ fn fill_sheet(x: Sheet, out: &mut [u8]) -> Written
     let mut processors = [0u16; Table::MOST_TASKS];
     let answer = plain::find(table, settings, &mut periods, &mut processors);
     if let Answer::Refused(refusal) = answer {
-        return Written::Refused(refusal);
+        return Counted::Refused(refusal);
     }
     let results = results_of(periods, processors, table.n);
     let planned = Sheet {
@@ -92,13 +92,13 @@ fn fill_sheet(x: Sheet, out: &mut [u8]) -> Written
 }
 
 // Fills in the sheet that was read, or refuses it; a refusal writes nothing.
-pub fn fill_in(input: &[u8], out: &mut [u8; LONGEST_SHEET]) -> Written
+pub fn fill_in(input: &[u8], out: &mut [u8; LONGEST_SHEET]) -> Counted
     ensures { λ r. ⌜ Fills (planned (now (input .entry))) (now (out .entry)) r (now (out .exit)) ⌝ }
 {
     let reading = sheet::read(input);
     let verdict = reading.verdict;
     match verdict {
-        Verdict::Refused(refusal) => Written::Refused(refusal),
+        Verdict::Refused(refusal) => Counted::Refused(refusal),
         Verdict::Accepted => {
             let x = reading.sheet;
             fill_sheet(x, out)
@@ -112,7 +112,7 @@ pub fn fill(input: &[u8], out: &mut [u8; LONGEST_SHEET]) -> usize
 {
     let written = fill_in(input, out);
     match written {
-        Written::Refused(refusal) => put_refusal(out, refusal),
-        Written::Bytes(k) => k,
+        Counted::Refused(refusal) => put_refusal(out, refusal),
+        Counted::Count(k) => k,
     }
 }

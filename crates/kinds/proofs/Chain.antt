@@ -1,13 +1,15 @@
 -- A refusal that comes first is handed back, and where none does, the call goes on; the other way, an acceptance has passed both.
 -- Assumes nothing.
-use mathlib.Core.Path.{_≡_, ap}
+use mathlib.Core.Bool.{Bool, true, false}
+use mathlib.Core.Path.{_≡_, refl, sym, ap}
 use native.Mathlib.Omega.{arith}
 use borrow.Author.Tests.{ne-eqb}
 use Rattle.ground.proofs.Cases.{by-eq}
 use Rattle.kinds.specs.declared.Refusal.{Refusal}
 use Rattle.kinds.specs.Refusal.{numberOf}
-use Rattle.kinds.specs.Answer.{Handed, accepted, refused, unrefused}
+use Rattle.kinds.specs.Answer.{Handed, accepted, refused, judged, unrefused}
 use Rattle.kinds.proofs.Refusals.{refusal-numbered}
+use Rattle.kinds.proofs.Answers.{not-refused}
 
 module _ {A B : Type 0} (nothing : B) (h : Handed A) (rest : A → Handed B) where
   pub comes-first : (v : A) (q : Refusal) → h ≡ refused v q → refused nothing q ≡ unrefused nothing h rest
@@ -22,3 +24,9 @@ module _ {A B : Type 0} (nothing : B) (h : Handed A) (rest : A → Handed B) whe
       by-eq (h .number) 0
       (λ z. (z, rw z at e))
       (λ z. absurd (z (ap (λ (n : Handed B). n .number) (rw (ne-eqb (h .number) 0 z) at e))))
+
+-- where something is judged and the answer is an acceptance, the test held
+pub judged-passed : {A : Type 0} {x : A} (nothing : A) (test : Bool) (refusal : Refusal) (rest : Handed A)
+    → judged nothing test refusal rest ≡ accepted x → (test ≡ true) × (rest ≡ accepted x)
+judged-passed nothing true refusal rest e = (refl, e)
+judged-passed {x = x} nothing false refusal rest e = not-refused x nothing refusal (sym e)

@@ -272,6 +272,18 @@ impl Answer {
     }
 }
 
+// Yes, or the refusal.
+pub enum Verdict {
+    Accepted,
+    Refused(Refusal),
+}
+
+// A count, of rows or of bytes, or the refusal.
+pub enum Counted {
+    Count(usize),
+    Refused(Refusal),
+}
+
 // What the margin answers: a signed number, or the refusal.
 pub enum Margin {
     Is(i64),

@@ -14,22 +14,22 @@ use Rattle.kinds.specs.declared.Refusal.the-variants.{TooManyTasks, OutputTooSh
 use Rattle.kinds.specs.Limits.{mostTasks}
 use Rattle.kinds.specs.Task.{at}
 use Rattle.kinds.specs.Refusal.{numberOf}
-use Rattle.kinds.specs.Answer.{Handed, accepted, refused}
+use Rattle.kinds.specs.Answer.{Handed, accepted, refused, handedCount}
 use Rattle.kinds.proofs.Refusals.{refusal-numbered}
-use Rattle.kinds.proofs.Answers.{not-refused, refused-one}
+use Rattle.kinds.proofs.Answers.{not-refused, refused-one, count-one}
 use Rattle.field.specs.Stored.{Put}
 use Rattle.field.proofs.Stores.{stored-front}
-use Rattle.office.specs.declared.Carried.{Carried}
-use Rattle.office.specs.declared.Carried.the-variants.{Count, Refused}
+use Rattle.kinds.specs.declared.Counted.{Counted}
+use Rattle.kinds.specs.declared.Counted.the-variants.{Count, Refused}
 use Rattle.office.specs.declared.Imported.{Imported}
 use Rattle.office.specs.Text.{textTo}
 use Rattle.office.specs.Reading.{Rows, Not, readText, rowsOf}
-use Rattle.office.specs.Carrying.{handedCarried, carry, importHanded, exportHanded, after, Imports, Exports, tableOf, Reads, importedNot}
+use Rattle.office.specs.Carrying.{carry, importHanded, exportHanded, afterCarry, Imports, Exports, tableOf, Reads, importedNot}
 use Rattle.office.proofs.Lines.{Going, going-end}
 use Rattle.office.proofs.Texts.{text-same}
 
 -- a refused call leaves what it was lent
-pub after-refused : {A : Type 0} (r : Refusal) (new old : List A) → after (refused 0 r) new old ≡ old
+pub after-refused : {A : Type 0} (r : Refusal) (new old : List A) → afterCarry (refused 0 r) new old ≡ old
 after-refused r new old = rw (ne-eqb (numberOf r) 0 (λ z. omega (arith, refusal-numbered r)))
 
 module _ (needed room : ℕ) where
@@ -54,7 +54,7 @@ module _ (s : List ℕ) (room : ℕ) where
       rw k
       (record {
         answer = sym e;
-        table = ap tableOf (sym (ap (λ (h : Handed ℕ). after h (rowsOf (readText s)) []) e ∙ after-refused r (rowsOf (readText s)) []));
+        table = ap tableOf (sym (ap (λ (h : Handed ℕ). afterCarry h (rowsOf (readText s)) []) e ∙ after-refused r (rowsOf (readText s)) []));
       })
 
   pub reads-not : (r : Refusal) → readText s ≡ Not r → (i : Imported) → i ≡ importedNot r → Reads s room i
@@ -72,8 +72,8 @@ module _ (s : List ℕ) (room : ℕ) where
     reads-done q =
         let e = handed ∙ carry-done n room q in
         let r : rowsOf (readText s) ≡ g .rows = ap rowsOf (going-end s array at n g h) in
-        let t : after (importHanded s room) (rowsOf (readText s)) [] ≡ g .rows =
-        ap (λ (x : Handed ℕ). after x (rowsOf (readText s)) []) e ∙ (ap (λ (l : List Task). l ++ drop n []) r ∙ none (g .rows) n) in
+        let t : afterCarry (importHanded s room) (rowsOf (readText s)) [] ≡ g .rows =
+        ap (λ (x : Handed ℕ). afterCarry x (rowsOf (readText s)) []) e ∙ (ap (λ (l : List Task). l ++ drop n []) r ∙ none (g .rows) n) in
         let p = g .placed in
         let c = g .count in
         record { answer = sym e; table = cc t }
@@ -93,7 +93,7 @@ few-of rows n room h needed e = simp (le-ltb mostTasks n h, ← e)
 module _ (rows : List Task) (n : ℕ) (old : List ℕ) where
   refused-keeps : (r : Refusal) → exportHanded rows n (length old) ≡ refused 0 r → Exports rows n old (Refused r) old
   refused-keeps r e =
-      record { answer = sym e; output = sym (ap (λ (h : Handed ℕ). after h (textTo rows n) old) e ∙ after-refused r (textTo rows n) old) }
+      record { answer = sym e; output = sym (ap (λ (h : Handed ℕ). afterCarry h (textTo rows n) old) e ∙ after-refused r (textTo rows n) old) }
 
   pub exports-many : mostTasks < n → Exports rows n old (Refused (TooManyTasks n)) old
   exports-many h = refused-keeps (TooManyTasks n) (many-of rows n (length old) h)
@@ -113,7 +113,7 @@ module _ (rows : List Task) (n : ℕ) (old : List ℕ) where
           output =
               p .new-is
               ∙ (stored-front old (textTo rows n) written (sym e) (omega arith)
-              ∙ sym (ap (λ (h : Handed ℕ). after h (textTo rows n) old) k));
+              ∙ sym (ap (λ (h : Handed ℕ). afterCarry h (textTo rows n) old) k));
         }
 
 -- an accepted export has the text's length, and there is room for it
@@ -129,25 +129,19 @@ export-fits rows n room k e =
     (λ h. not-refused k 0 (TooManyTasks n) (sym e ∙ many-of rows n room h))
 
 -- ---- no second answer
-pub carried-one : (r q : Carried) → handedCarried r ≡ handedCarried q → r ≡ q
-carried-one (Count m) (Count n) e = ap Count (ap (λ (h : Handed ℕ). h .value) e)
-carried-one (Count m) (Refused q) e = not-refused m 0 q e
-carried-one (Refused r) (Count n) e = not-refused n 0 r (sym e)
-carried-one (Refused r) (Refused q) e = ap Refused (refused-one 0 r q e)
-
-pub import-one : (text : List ℕ) (old : List Task) (r q : Carried) (new other : List Task) → Imports text old r new → Imports text old q other
+pub import-one : (text : List ℕ) (old : List Task) (r q : Counted) (new other : List Task) → Imports text old r new → Imports text old q other
     → (r ≡ q) × (new ≡ other)
-import-one text old r q new other a b = (carried-one r q (a .answer ∙ sym (b .answer)), a .output ∙ sym (b .output))
+import-one text old r q new other a b = (count-one r q (a .answer ∙ sym (b .answer)), a .output ∙ sym (b .output))
 
-pub export-one : (rows : List Task) (n : ℕ) (old : List ℕ) (r q : Carried) (new other : List ℕ) → Exports rows n old r new → Exports rows n old q other
+pub export-one : (rows : List Task) (n : ℕ) (old : List ℕ) (r q : Counted) (new other : List ℕ) → Exports rows n old r new → Exports rows n old q other
     → (r ≡ q) × (new ≡ other)
-export-one rows n old r q new other a b = (carried-one r q (a .answer ∙ sym (b .answer)), a .output ∙ sym (b .output))
+export-one rows n old r q new other a b = (count-one r q (a .answer ∙ sym (b .answer)), a .output ∙ sym (b .output))
 
 pub read-one : (text : List ℕ) (room : ℕ) (r q : Imported) → Reads text room r → Reads text room q → r ≡ q
 read-one text room r q a b =
-    let x = carried-one (r .answer) (q .answer) (a .answer ∙ sym (b .answer)) in
+    let x = count-one (r .answer) (q .answer) (a .answer ∙ sym (b .answer)) in
     let y = a .table ∙ sym (b .table) in
-    ap₂ (λ (answer : Carried) (table : Table). record { answer = answer; table = table }) x y
+    ap₂ (λ (answer : Counted) (table : Table). record { answer = answer; table = table }) x y
 
 -- ---- rows that agree as far as they count are exported alike
 module _ (rows other : List Task) (n : ℕ) (agree : n ≤ mostTasks → (i : ℕ) → i < n → at rows i ≡ at other i) where
@@ -159,7 +153,7 @@ module _ (rows other : List Task) (n : ℕ) (agree : n ≤ mostTasks → (i : �
       few-of rows n room h (length (textTo rows n)) refl ∙ sym (few-of other n room h (length (textTo rows n)) (sym e)))
       (λ h. many-of rows n room h ∙ sym (many-of other n room h))
 
-  pub after-same : (old : List ℕ) → after (exportHanded rows n (length old)) (textTo rows n) old ≡ after (exportHanded other n (length old)) (textTo other n) old
+  pub after-same : (old : List ℕ) → afterCarry (exportHanded rows n (length old)) (textTo rows n) old ≡ afterCarry (exportHanded other n (length old)) (textTo other n) old
   after-same old =
       by-le n mostTasks
       (λ h. rw (handed-same (length old), text-same rows other n (agree h)))
@@ -168,5 +162,5 @@ module _ (rows other : List Task) (n : ℕ) (agree : n ≤ mostTasks → (i : �
       let y = many-of other n (length old) h in
       rw (x, y) (after-refused (TooManyTasks n) (textTo rows n) old ∙ sym (after-refused (TooManyTasks n) (textTo other n) old)))
 
-  pub exports-same : (old : List ℕ) (r : Carried) (new : List ℕ) → Exports rows n old r new → Exports other n old r new
+  pub exports-same : (old : List ℕ) (r : Counted) (new : List ℕ) → Exports rows n old r new → Exports other n old r new
   exports-same old r new x = record { answer = x .answer ∙ handed-same (length old); output = x .output ∙ after-same old }

@@ -14,10 +14,10 @@ use Rattle.kinds.specs.Limits.{mostTasks}
 use Rattle.kinds.specs.Answer.{Handed, accepted}
 use Rattle.kinds.specs.declared.Refusal.the-variants.{TooManyTasks, OutputTooShort}
 use Rattle.kinds.proofs.Answers.{not-refused}
-use Rattle.office.specs.declared.Carried.the-variants.{Count}
+use Rattle.kinds.specs.declared.Counted.the-variants.{Count}
 use Rattle.office.specs.Text.{textOf, AllFit}
 use Rattle.office.specs.Reading.{Reading, Rows, Not, readText, rowsOf}
-use Rattle.office.specs.Carrying.{carry, carryRows, importHanded, exportHanded, after, Imports, Exports}
+use Rattle.office.specs.Carrying.{carry, carryRows, importHanded, exportHanded, afterCarry, Imports, Exports}
 use Rattle.office.proofs.RoundTrip.{import-of-export, export-of-import}
 
 carried : (needed room k : ℕ) → carry needed room ≡ accepted k → (k ≡ needed) × (needed ≤ room)
@@ -43,7 +43,7 @@ pub import-after-export : (rows : List Task) (old new : List ℕ) (k : ℕ) → 
     → readText (take k new) ≡ Rows rows
 import-after-export rows old new k m x =
     let w = exported rows (length old) k (sym (x .answer)) in
-    let n : new ≡ textOf rows ++ drop k old = x .output ∙ ap (λ (h : Handed ℕ). after h (textOf rows) old) (sym (x .answer)) in
+    let n : new ≡ textOf rows ++ drop k old = x .output ∙ ap (λ (h : Handed ℕ). afterCarry h (textOf rows) old) (sym (x .answer)) in
     ap (λ (l : List ℕ). readText (take k l)) n
     ∙ (ap readText (take-at (textOf rows) (drop k old) k (sym (w .size))) ∙ import-of-export rows (w .few) m)
 
@@ -74,7 +74,7 @@ export-after-import text old new n x =
     let l = imported-of text (length old) n (sym (x .answer)) in
     let rows = rowsOf (readText text) in
     let b = export-of-import text rows (l .is) in
-    let i : new ≡ rows ++ drop n old = x .output ∙ ap (λ (h : Handed ℕ). after h rows old) (sym (x .answer)) in
+    let i : new ≡ rows ++ drop n old = x .output ∙ ap (λ (h : Handed ℕ). afterCarry h rows old) (sym (x .answer)) in
     let t : take n new ≡ rows = ap (take n) i ∙ take-at rows (drop n old) n (sym (l .count)) in
     let s : length (textOf rows) ≡ length text = ap length (b .text) in
     rw t (record { accepts = roomy rows (length text) (b .few) (omega arith) ∙ ap accepted s; same = b .text })

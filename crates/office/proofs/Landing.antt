@@ -13,31 +13,31 @@ use Rattle.kinds.specs.declared.Refusal.the-variants.{OutputTooShort}
 use Rattle.kinds.specs.Limits.{mostTasks}
 use Rattle.kinds.specs.Answer.{Handed, accepted, refused}
 use Rattle.office.specs.Reading.{Reading, Rows, Not, readText, rowsOf}
-use Rattle.office.specs.Carrying.{importHanded, after}
+use Rattle.office.specs.Carrying.{importHanded, afterCarry}
 use Rattle.office.proofs.Answers.{after-refused, carry-short, carry-done, import-not, import-rows}
 use Rattle.office.proofs.RoundTrip.{export-of-import}
 
 pub record Lands (rows : List Task) (room : ℕ) (h : Handed ℕ) (landing : List Task) : Type 0 where
   pub few : length landing ≤ mostTasks
   pub fits : length landing ≤ room
-  pub output : (old : List Task) → after h rows old ≡ landing ++ drop (length landing) old
+  pub output : (old : List Task) → afterCarry h rows old ≡ landing ++ drop (length landing) old
 
 module _ (rows : List Task) (room : ℕ) (h : Handed ℕ) where
-  lands-none : (r : Refusal) → h ≡ refused 0 r → Lands rows room h (after h rows [])
+  lands-none : (r : Refusal) → h ≡ refused 0 r → Lands rows room h (afterCarry h rows [])
   lands-none r e =
-      let kept : (old : List Task) → after h rows old ≡ old = λ old. ap (λ (x : Handed ℕ). after x rows old) e ∙ after-refused r rows old in
+      let kept : (old : List Task) → afterCarry h rows old ≡ old = λ old. ap (λ (x : Handed ℕ). afterCarry x rows old) e ∙ after-refused r rows old in
       rw (kept []) (record { few = omega arith; fits = omega arith; output = kept })
 
-  lands-all : h ≡ accepted (length rows) → length rows ≤ room → length rows ≤ mostTasks → Lands rows room h (after h rows [])
+  lands-all : h ≡ accepted (length rows) → length rows ≤ room → length rows ≤ mostTasks → Lands rows room h (afterCarry h rows [])
   lands-all e fits few =
-      let put : (old : List Task) → after h rows old ≡ rows ++ drop (length rows) old = λ old. ap (λ (x : Handed ℕ). after x rows old) e in
+      let put : (old : List Task) → afterCarry h rows old ≡ rows ++ drop (length rows) old = λ old. ap (λ (x : Handed ℕ). afterCarry x rows old) e in
       let past : drop {A = Task} (length rows) [] ≡ [] = drop-of-length-le [] {i = length rows} (omega arith) in
-      let z : after h rows [] ≡ rows = put [] ∙ (ap (λ (l : List Task). rows ++ l) past ∙ append-nil rows) in
+      let z : afterCarry h rows [] ≡ rows = put [] ∙ (ap (λ (l : List Task). rows ++ l) past ∙ append-nil rows) in
       rw z (record { few = few; fits = fits; output = put })
 
 -- the rows that an import with so much room hands over
 abbrev pub landing : List ℕ → ℕ → List Task
-landing text room = after (importHanded text room) (rowsOf (readText text)) []
+landing text room = afterCarry (importHanded text room) (rowsOf (readText text)) []
 
 pub lands : (text : List ℕ) (room : ℕ) → Lands (rowsOf (readText text)) room (importHanded text room) (landing text room)
 lands text room = by (readText text) refl
@@ -58,4 +58,4 @@ pub all-landed : (text : List ℕ) (room n : ℕ) → importHanded text room ≡
 all-landed text room n e =
     let rows = rowsOf (readText text) in
     let past : drop {A = Task} n [] ≡ [] = drop-of-length-le [] {i = n} (omega arith) in
-    ap (λ (h : Handed ℕ). after h rows []) e ∙ (ap (λ (l : List Task). rows ++ l) past ∙ append-nil rows)
+    ap (λ (h : Handed ℕ). afterCarry h rows []) e ∙ (ap (λ (l : List Task). rows ++ l) past ∙ append-nil rows)

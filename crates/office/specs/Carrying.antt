@@ -1,10 +1,10 @@
 -- What an import and an export hand back, and the lent output after each.
 -- Assumes nothing.
 use Prim.Native.Nat.{ℕ}
-use mathlib.Core.List.{List, [], _++_}
+use mathlib.Core.List.{List, []}
 use mathlib.Core.Path.{_≡_}
-use lib.Dec.{eqb, ltb}
-use lib.ListN.{length, drop}
+use lib.Dec.{ltb}
+use lib.ListN.{length}
 use Rattle.ground.specs.Choice.{pick}
 use Rattle.kinds.specs.declared.Task.{Task}
 use Rattle.kinds.specs.declared.Table.{Table}
@@ -12,18 +12,13 @@ use Rattle.kinds.specs.declared.Refusal.{Refusal}
 use Rattle.kinds.specs.declared.Refusal.the-variants.{TooManyTasks, OutputTooShort}
 use Rattle.kinds.specs.Limits.{mostTasks}
 use Rattle.kinds.specs.Task.{noTask}
-use Rattle.kinds.specs.Answer.{Handed, accepted, refused}
+use Rattle.kinds.specs.Answer.{Handed, accepted, refused, handedCount, after}
 use Rattle.walk.specs.Padded.{padded}
-use Rattle.office.specs.declared.Carried.{Carried}
-use Rattle.office.specs.declared.Carried.the-variants.{Count, Refused}
+use Rattle.kinds.specs.declared.Counted.{Counted}
+use Rattle.kinds.specs.declared.Counted.the-variants.{Refused}
 use Rattle.office.specs.declared.Imported.{Imported}
 use Rattle.office.specs.Text.{textTo}
 use Rattle.office.specs.Reading.{Reading, Rows, Not, readText, rowsOf}
-
--- an answer in document 01's numbers; a refusal's count is 0
-abbrev pub handedCarried : Carried → Handed ℕ
-handedCarried (Count n) = accepted n
-handedCarried (Refused r) = refused 0 r
 
 -- "Short outputs are refused by 5, last."
 abbrev pub carry : ℕ → ℕ → Handed ℕ
@@ -42,17 +37,17 @@ unfoldable pub exportHanded : List Task → ℕ → ℕ → Handed ℕ
 exportHanded rows n room =
     pick (ltb mostTasks n) (refused 0 (TooManyTasks n)) (carry (length (textTo rows n)) room)
 
--- the output after a call: what was carried over and then what stood there; where the call is refused, as it was
-abbrev pub after : {A : Type 0} → Handed ℕ → List A → List A → List A
-after h new old = pick (eqb (h .number) 0) (new ++ drop (h .value) old) old
+-- the output after a call: what was carried over and then what stood there
+abbrev pub afterCarry : {A : Type 0} → Handed ℕ → List A → List A → List A
+afterCarry h new old = after h new (h .value) old
 
-pub record Imports (text : List ℕ) (old : List Task) (r : Carried) (new : List Task) : Type 0 where
-  pub answer : handedCarried r ≡ importHanded text (length old)
-  pub output : new ≡ after (importHanded text (length old)) (rowsOf (readText text)) old
+pub record Imports (text : List ℕ) (old : List Task) (r : Counted) (new : List Task) : Type 0 where
+  pub answer : handedCount r ≡ importHanded text (length old)
+  pub output : new ≡ afterCarry (importHanded text (length old)) (rowsOf (readText text)) old
 
-pub record Exports (rows : List Task) (n : ℕ) (old : List ℕ) (r : Carried) (new : List ℕ) : Type 0 where
-  pub answer : handedCarried r ≡ exportHanded rows n (length old)
-  pub output : new ≡ after (exportHanded rows n (length old)) (textTo rows n) old
+pub record Exports (rows : List Task) (n : ℕ) (old : List ℕ) (r : Counted) (new : List ℕ) : Type 0 where
+  pub answer : handedCount r ≡ exportHanded rows n (length old)
+  pub output : new ≡ afterCarry (exportHanded rows n (length old)) (textTo rows n) old
 
 -- the table of some rows: unused places are zeros
 abbrev pub tableOf : List Task → Table
@@ -60,8 +55,8 @@ tableOf rows = record { rows = padded noTask mostTasks rows; n = length rows }
 
 -- an import by value: the table of the rows, or of none where it is refused
 pub record Reads (text : List ℕ) (room : ℕ) (r : Imported) : Type 0 where
-  pub answer : handedCarried (r .answer) ≡ importHanded text room
-  pub table : r .table ≡ tableOf (after (importHanded text room) (rowsOf (readText text)) [])
+  pub answer : handedCount (r .answer) ≡ importHanded text room
+  pub table : r .table ≡ tableOf (afterCarry (importHanded text room) (rowsOf (readText text)) [])
 
 abbrev pub importedNot : Refusal → Imported
 importedNot refusal = record { answer = Refused refusal; table = tableOf [] }

@@ -1,6 +1,7 @@
 // Task tables as the office keeps them: comma-separated text, a line for each task. `import` and `export` work on a table by value; the
 // calls over lent rows are those of `office_rows`. Contracts cite `specs/Text`, `specs/Reading` and `specs/Carrying`; the last laws of
 // `proofs/RoundTrip` are the two round trips.
+use kinds::Counted;
 use kinds::Refusal;
 use kinds::Table;
 use kinds::Task;
@@ -25,15 +26,9 @@ pub enum Line {
     Bad,
 }
 
-// What an import or an export answers: how many rows or bytes it carried over, or the refusal.
-pub enum Carried {
-    Count(usize),
-    Refused(Refusal),
-}
-
 // What an import by value answers, with the table; a refused one has the table of no tasks.
 pub struct Imported {
-    pub answer: Carried,
+    pub answer: Counted,
     pub table: Table,
 }
 
@@ -71,7 +66,7 @@ fn refused(refusal: Refusal) -> Imported
         tmax: 0,
         e: 0,
     };
-    let answer = Carried::Refused(refusal);
+    let answer = Counted::Refused(refusal);
     let table = Table {
         rows: [unused; Table::MOST_TASKS],
         n: 0,
@@ -106,7 +101,7 @@ pub fn import(text: &[u8], room: usize) -> Imported
     if room < n {
         return refused(Refusal::OutputTooShort(n));
     }
-    let answer = Carried::Count(n);
+    let answer = Counted::Count(n);
     let table = Table { rows, n };
     Imported { answer, table }
 }
@@ -172,18 +167,18 @@ fn put_text(out: &mut [u8], rows: [Task; Table::MOST_TASKS], n: usize) -> usize
 }
 
 // The text of a table, into a lent output: exactly that text, and nothing past it.
-pub fn export(table: Table, out: &mut [u8]) -> Carried
+pub fn export(table: Table, out: &mut [u8]) -> Counted
     ensures { λ r. ⌜ Exports (table .rows) (table .n) (now (out .entry)) r (now (out .exit)) ⌝ }
 {
     let n = table.n;
     let rows = table.rows;
     if Table::MOST_TASKS < n {
-        return Carried::Refused(Refusal::TooManyTasks(n));
+        return Counted::Refused(Refusal::TooManyTasks(n));
     }
     let needed = text_width(rows, n);
     if out.len() < needed {
-        return Carried::Refused(Refusal::OutputTooShort(needed));
+        return Counted::Refused(Refusal::OutputTooShort(needed));
     }
     let written = put_text(out, rows, n);
-    Carried::Count(written)
+    Counted::Count(written)
 }

@@ -6,9 +6,9 @@ use lib.ListN.{length}
 use Rattle.kinds.specs.declared.Task.{Task}
 use Rattle.rows.specs.Gathered.{tableOf}
 use Rattle.rows.proofs.Bridge.{table-at}
-use Rattle.office.specs.declared.Carried.{Carried}
+use Rattle.kinds.specs.declared.Counted.{Counted}
 use Rattle.office.specs.Carrying.{Exports}
 use Rattle.office.proofs.Answers.{exports-same}
 
-pub exports-over : (rows : List Task) (old : List ℕ) (r : Carried) (new : List ℕ) → Exports (tableOf rows .rows) (length rows) old r new → Exports rows (length rows) old r new
+pub exports-over : (rows : List Task) (old : List ℕ) (r : Counted) (new : List ℕ) → Exports (tableOf rows .rows) (length rows) old r new → Exports rows (length rows) old r new
 exports-over rows old r new x = exports-same (tableOf rows .rows) rows (length rows) (λ few i _. table-at rows few i) old r new x

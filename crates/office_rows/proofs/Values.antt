@@ -2,8 +2,8 @@
 -- Assumes nothing.
 use mathlib.Core.Path.{refl}
 use Rattle.walk.proofs.Thin.{Valued, of-enum}
-use Rattle.office.proofs.Carried as C
-use Rattle.office.proofs.Carried.Laws as C′
+use Rattle.kinds.proofs.Counted as C
+use Rattle.kinds.proofs.Counted.Laws as C′
 
 abbrev pub carried : Valued C.the-row
 carried = of-enum C.the-type C′.the-laws tt C′.lowers C′.the-plain (λ x f. refl)

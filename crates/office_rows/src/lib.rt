@@ -1,9 +1,9 @@
 // The office's public calls over a lent slice of whole task records: `export` reads lent rows and `import` fills them. Each is a thin call
 // above the covered core of `office`; contracts cite its definitions, and the laws of `proofs/Bridge` tie what is said of the table to
 // the rows.
+use kinds::Counted;
 use kinds::Table;
 use kinds::Task;
-use office::Carried;
 use office::Imported;
 ghost use mathlib.Core.Path.{_≡_};
 ghost use Prim.Native.Nat.{_≤_};
@@ -32,14 +32,14 @@ fn table_of(imported: Imported) -> Table
     imported.table
 }
 
-fn answer_of(imported: Imported) -> Carried
+fn answer_of(imported: Imported) -> Counted
     ensures { λ r. ⌜ r ≡ imported .answer ⌝ }
 {
     imported.answer
 }
 
 // The table of a text, into lent rows. A refused call leaves the rows as they were.
-pub fn import(text: &[u8], out: &mut [Task]) -> Carried
+pub fn import(text: &[u8], out: &mut [Task]) -> Counted
     ensures { λ r. ⌜ Imports (now (text .entry)) (now (out .entry)) r (now (out .exit)) ⌝ }
 {
     let imported = office::import(text, out.len());
@@ -48,7 +48,7 @@ pub fn import(text: &[u8], out: &mut [Task]) -> Carried
 }
 
 // The text of lent rows, into a lent output. More rows than a table takes are refused by 3 at their number.
-pub fn export(rows: &[Task], out: &mut [u8]) -> Carried
+pub fn export(rows: &[Task], out: &mut [u8]) -> Counted
     ensures { λ r. ⌜ Exports (now (rows .entry)) (length (now (rows .entry))) (now (out .entry)) r (now (out .exit)) ⌝ }
 {
     office::export(rows::gather(rows), out)

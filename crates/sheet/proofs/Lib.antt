@@ -1,6 +1,5 @@
 pub mod Padding
 pub mod RowFields
-pub mod Judging
 pub mod Stages
 pub mod HeadSteps
 pub mod RowSteps

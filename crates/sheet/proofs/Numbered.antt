@@ -11,11 +11,10 @@ use Rattle.kinds.specs.declared.Sheet.{Sheet}
 use Rattle.kinds.specs.declared.Refusal.{Refusal}
 use Rattle.kinds.specs.declared.Refusal.the-variants.{TooManyTasks, SheetEnds, NotTwoSettings, WrongResultCount, BytesAfterLast}
 use Rattle.kinds.specs.Limits.{mostTasks}
-use Rattle.kinds.specs.Answer.{Handed, accepted}
+use Rattle.kinds.specs.Answer.{Handed, accepted, judged}
 use Rattle.kinds.proofs.Refusals.{refusal-numbered}
 use Rattle.field.specs.Number.{u16At}
 use Rattle.sheet.specs.Sections.{settingsCount, settingsPlace, policyPlace, tasksPlace, recordsPlace, resultsPlace, grantedPlace, resultsFit}
-use Rattle.sheet.specs.Judged.{judged}
 use Rattle.sheet.specs.Reading.{noSheet, taskCount, resultCount, endOf, sheetIn, readRows, readSheet}
 
 -- what is handed back with number 0 is an acceptance

@@ -14,11 +14,11 @@ use Rattle.kinds.specs.declared.Refusal.the-variants.{TooManyTasks, SheetEnds, 
 use Rattle.kinds.specs.Limits.{mostTasks}
 use Rattle.kinds.specs.Answer.{Handed, accepted}
 use Rattle.field.specs.Number.{u16At}
-use Rattle.sheet.specs.declared.Verdict.the-variants as verdict
+use Rattle.kinds.specs.declared.Verdict.the-variants as verdict
+use Rattle.kinds.proofs.Chain.{judged-passed}
 use Rattle.sheet.specs.declared.Reading.{Reading}
 use Rattle.sheet.specs.Sections.{settingsCount, settingsPlace, policyPlace, tasksPlace, recordsPlace, resultsPlace, grantedPlace, resultsFit}
 use Rattle.sheet.specs.Reading.{noSheet, taskCount, resultCount, endOf, sheetIn, readRows, readSheet, handedReading}
-use Rattle.sheet.proofs.Judging.{judged-passed}
 use Rattle.sheet.proofs.Stages.{fits-few, head-whole, rows-whole}
 
 -- bytes that are a sheet

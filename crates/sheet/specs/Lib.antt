@@ -1,4 +1,3 @@
 pub mod Sections
 pub mod Rows
-pub mod Judged
 pub mod Reading

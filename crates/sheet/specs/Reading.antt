@@ -14,16 +14,13 @@ use Rattle.kinds.specs.declared.Refusal.the-variants.{TooManyTasks, SheetEnds, 
 use Rattle.kinds.specs.Limits.{mostTasks}
 use Rattle.kinds.specs.Task.{noTask}
 use Rattle.kinds.specs.Policy.{policyOf}
-use Rattle.kinds.specs.Answer.{Handed, accepted, refused}
+use Rattle.kinds.specs.Answer.{Handed, accepted, refused, judged, handedWith}
 use Rattle.field.specs.Number.{u16At}
-use Rattle.sheet.specs.declared.Verdict.{Verdict}
-use Rattle.sheet.specs.declared.Verdict.the-variants as verdict
 use Rattle.sheet.specs.declared.Reading.{Reading}
 use Rattle.sheet.specs.declared.Head.{Head}
 use Rattle.sheet.specs.declared.Head.the-variants as head
 use Rattle.sheet.specs.Sections.{settingsCount, taskSize, grantedSize, settingsPlace, policyPlace, mPlace, tasksPlace, recordsPlace, resultsPlace, grantedPlace, endPlace, resultsFit}
 use Rattle.sheet.specs.Rows.{taskAt, grantedAt, noGranted, rowsAt}
-use Rattle.sheet.specs.Judged.{judged}
 
 -- document 01: "A refused reading hands back a sheet of zeros (policy: the further choice 0)"
 unfoldable pub noSheet : Sheet
@@ -85,12 +82,8 @@ abbrev pub readFrom : List ℕ → ℕ → Handed Sheet
 readFrom s at = readSheet (drop at s)
 
 -- a reading in document 01's numbers
-abbrev pub handedBy : Verdict → Sheet → Handed Sheet
-handedBy verdict.Accepted x = accepted x
-handedBy (verdict.Refused r) x = refused x r
-
 abbrev pub handedReading : Reading → Handed Sheet
-handedReading r = handedBy (r .verdict) (r .sheet)
+handedReading r = handedWith (r .verdict) (r .sheet)
 
 -- the front of a sheet was read: its settings, its task count, and where its records start
 pub record Begins (s : List ℕ) (settings : Settings) (n from : ℕ) : Type 0 where

@@ -10,6 +10,7 @@ use kinds::Settings;
 use kinds::Sheet;
 use kinds::Table;
 use kinds::Task;
+use kinds::Verdict;
 ghost use mathlib.Core.Path.{_≡_};
 ghost use Prim.Native.Nat.{_≤_};
 ghost use lib.ListN.{length};
@@ -18,12 +19,6 @@ ghost use Rattle.kinds.specs.Answer.{refused};
 ghost use Rattle.sheet.specs.Sections.{recordsPlace, resultsPlace, endPlace, resultsFit};
 ghost use Rattle.sheet.specs.Rows.{taskField, grantedField, taskRows, grantedRows};
 ghost use Rattle.sheet.specs.Reading.{noSheet, readRows, readSheet, readFrom, Begins, HeadTells, handedReading};
-
-// Whether a sheet was read, or the refusal.
-pub enum Verdict {
-    Accepted,
-    Refused(Refusal),
-}
 
 // A verdict, and the sheet: that of zeros where it was refused.
 pub struct Reading {

@@ -12,15 +12,15 @@ use Rattle.kinds.specs.declared.Sheet.{Sheet}
 use Rattle.kinds.specs.declared.Refusal.the-variants.{TooManyTasks, OutputTooShort, WrongResultCount}
 use Rattle.kinds.specs.Limits.{mostTasks}
 use Rattle.kinds.specs.Answer.{Handed, accepted}
-use Rattle.kinds.proofs.Answers.{not-refused, refused-one}
 use Rattle.field.specs.Stored.{Put}
 use Rattle.field.proofs.Stores.{stored-front}
 use Rattle.sheet.specs.Sections.{resultsFit}
-use Rattle.sheet.proofs.Judging.{judged-passed}
-use Rattle.writer.specs.declared.Written.{Written}
-use Rattle.writer.specs.declared.Written.the-variants.{Bytes, Refused}
+use Rattle.kinds.specs.declared.Counted.{Counted}
+use Rattle.kinds.specs.declared.Counted.the-variants.{Count, Refused}
+use Rattle.kinds.proofs.Answers.{count-one}
+use Rattle.kinds.proofs.Chain.{judged-passed}
 use Rattle.writer.specs.Encode.{encode, lengthOf}
-use Rattle.writer.specs.Writing.{handedWritten, writeSheet, afterWrite, Writes}
+use Rattle.writer.specs.Writing.{writeSheet, afterWrite, Writes}
 
 module _ (x : Sheet) (old : List ℕ) where
   -- 3, then 10, then 5, each with the buffer as it was
@@ -43,7 +43,7 @@ module _ (x : Sheet) (old : List ℕ) where
           }
 
       -- else the sheet's bytes, and nothing past them
-      pub wrote : lengthOf x ≤ length old → (written : ℕ) (new : List ℕ) → Put old 0 (lengthOf x) (encode x) written new → Writes x old (Bytes written) new
+      pub wrote : lengthOf x ≤ length old → (written : ℕ) (new : List ℕ) → Put old 0 (lengthOf x) (encode x) written new → Writes x old (Count written) new
       unfolding writeSheet afterWrite
       wrote d written new p =
           let e : written ≡ lengthOf x = omega (arith, p .next-is) in
@@ -84,13 +84,6 @@ pub accepted-after : (x : Sheet) (old : List ℕ) (k : ℕ) → writeSheet x (le
 unfolding afterWrite
 accepted-after x old k e = rw e
 
--- what is handed back tells the answer
-pub written-one : (r q : Written) → handedWritten r ≡ handedWritten q → r ≡ q
-written-one (Bytes m) (Bytes n) e = ap Bytes (ap (λ (h : Handed ℕ). h .value) e)
-written-one (Bytes m) (Refused q) e = not-refused m 0 q e
-written-one (Refused r) (Bytes n) e = not-refused n 0 r (sym e)
-written-one (Refused r) (Refused q) e = ap Refused (refused-one 0 r q e)
-
 -- no second answer, with its buffer, meets the promise of `write`
-pub write-one : (x : Sheet) (old : List ℕ) (r q : Written) (new other : List ℕ) → Writes x old r new → Writes x old q other → (r ≡ q) × (new ≡ other)
-write-one x old r q new other a b = (written-one r q (a .answer ∙ sym (b .answer)), a .buffer ∙ sym (b .buffer))
+pub write-one : (x : Sheet) (old : List ℕ) (r q : Counted) (new other : List ℕ) → Writes x old r new → Writes x old q other → (r ≡ q) × (new ≡ other)
+write-one x old r q new other a b = (count-one r q (a .answer ∙ sym (b .answer)), a .buffer ∙ sym (b .buffer))

@@ -20,13 +20,14 @@ use Rattle.sheet.specs.Rows.{noGranted, taskAt, grantedAt}
 use Rattle.sheet.specs.Reading.{taskCount, resultCount, settingsIn, sheetIn, readSheet}
 use Rattle.sheet.proofs.Padding.{padded-long, padded-is, padded-out}
 use Rattle.sheet.proofs.Whole.{whole, few-results}
-use Rattle.writer.specs.declared.Written.{Written}
-use Rattle.writer.specs.declared.Written.the-variants as written
+use Rattle.kinds.specs.declared.Counted.{Counted}
+use Rattle.kinds.specs.declared.Counted.the-variants as counted
+use Rattle.kinds.proofs.Answers.{count-one}
 use Rattle.writer.specs.Encode.{encode, lengthOf}
 use Rattle.writer.specs.Writing.{writeSheet, Writes}
 use Rattle.writer.specs.Canonical.{grantedIn, canonical, Canonical, SheetHeld}
 use Rattle.writer.proofs.Rows.{encode-long}
-use Rattle.writer.proofs.Answers.{accepts, accepted-after, written-one, write-accepts}
+use Rattle.writer.proofs.Answers.{accepts, accepted-after, write-accepts}
 use Rattle.writer.proofs.Back.{back}
 use Rattle.writer.proofs.Forth.{forth}
 
@@ -39,7 +40,7 @@ module _ (s : List ℕ) (bytes : Bytes s) (x : Sheet) (e : readSheet s ≡ accep
   read-length = sym (encode-long x) ∙ ap length read-encode
 
   -- into any buffer that has the room
-  pub read-write : (old new : List ℕ) (r : Written) → Writes x old r new → length s ≤ length old → (r ≡ written.Bytes (length s)) × (new ≡ s ++ drop (length s) old)
+  pub read-write : (old new : List ℕ) (r : Counted) → Writes x old r new → length s ≤ length old → (r ≡ counted.Count (length s)) × (new ≡ s ++ drop (length s) old)
   unfolding sheetIn
   read-write old new r p room =
       let w = whole s x e in
@@ -47,12 +48,12 @@ module _ (s : List ℕ) (bytes : Bytes s) (x : Sheet) (e : readSheet s ≡ accep
       let few : x .table .n ≤ mostTasks = rw (ap (λ (y : Sheet). y .table .n) (w .1)) (w .0 .few) in
       let fit = ap (λ (y : Sheet). resultsFit (y .results .n) (y .table .n)) (w .1) ∙ w .0 .fit in
       let a : writeSheet x (length old) ≡ accepted (lengthOf x) = write-accepts x (length old) few fit (omega arith) in (
-        written-one r (written.Bytes (length s)) (p .answer ∙ (a ∙ ap accepted l)),
+        count-one r (counted.Count (length s)) (p .answer ∙ (a ∙ ap accepted l)),
         p .buffer ∙ (accepted-after x old (lengthOf x) a ∙ rw (read-encode, l)),
       )
 
 -- writing a sheet and reading it gives its canonical form
-pub write-read : (x : Sheet) → SheetHeld x → (old new : List ℕ) (k : ℕ) → Writes x old (written.Bytes k) new → readSheet (take k new) ≡ accepted (canonical x)
+pub write-read : (x : Sheet) → SheetHeld x → (old new : List ℕ) (k : ℕ) → Writes x old (counted.Count k) new → readSheet (take k new) ≡ accepted (canonical x)
 write-read x h old new k p =
     let a = accepts x (length old) k (sym (p .answer)) in
     let front : take k new ≡ encode x =

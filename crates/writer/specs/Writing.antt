@@ -1,25 +1,17 @@
 -- What a call of the writer hands back, and the buffer after it.
 -- Assumes nothing.
 use Prim.Native.Nat.{ℕ}
-use mathlib.Core.List.{List, _++_}
+use mathlib.Core.List.{List}
 use mathlib.Core.Path.{_≡_}
-use lib.Dec.{leb, eqb}
-use lib.ListN.{length, drop}
-use Rattle.ground.specs.Choice.{pick}
+use lib.Dec.{leb}
+use lib.ListN.{length}
 use Rattle.kinds.specs.declared.Sheet.{Sheet}
 use Rattle.kinds.specs.declared.Refusal.the-variants.{TooManyTasks, OutputTooShort, WrongResultCount}
 use Rattle.kinds.specs.Limits.{mostTasks}
-use Rattle.kinds.specs.Answer.{Handed, accepted, refused}
+use Rattle.kinds.specs.Answer.{Handed, accepted, handedCount, judged, after}
 use Rattle.sheet.specs.Sections.{resultsFit}
-use Rattle.sheet.specs.Judged.{judged}
-use Rattle.writer.specs.declared.Written.{Written}
-use Rattle.writer.specs.declared.Written.the-variants.{Bytes, Refused}
+use Rattle.kinds.specs.declared.Counted.{Counted}
 use Rattle.writer.specs.Encode.{encode, lengthOf}
-
--- an answer in document 01's numbers; a refusal's written length is 0
-abbrev pub handedWritten : Written → Handed ℕ
-handedWritten (Bytes n) = accepted n
-handedWritten (Refused r) = refused 0 r
 
 -- document 01: "The writer gives 3, 10, 5 in that order."
 unfoldable pub writeSheet : Sheet → ℕ → Handed ℕ
@@ -30,8 +22,8 @@ writeSheet x room =
 
 -- the buffer after: the sheet's bytes and then what stood there; where the call is refused, as it was
 unfoldable pub afterWrite : Sheet → List ℕ → List ℕ
-afterWrite x old = pick (eqb (writeSheet x (length old) .number) 0) (encode x ++ drop (lengthOf x) old) old
+afterWrite x old = after (writeSheet x (length old)) (encode x) (lengthOf x) old
 
-pub record Writes (x : Sheet) (old : List ℕ) (r : Written) (new : List ℕ) : Type 0 where
-  pub answer : handedWritten r ≡ writeSheet x (length old)
+pub record Writes (x : Sheet) (old : List ℕ) (r : Counted) (new : List ℕ) : Type 0 where
+  pub answer : handedCount r ≡ writeSheet x (length old)
   pub buffer : new ≡ afterWrite x old

@@ -1,5 +1,6 @@
 // Writing a station sheet into a lent buffer: rows, sections, the sheet. Callers use `write`. Contracts cite `specs/Encode` and
 // `specs/Writing`.
+use kinds::Counted;
 use kinds::Granted;
 use kinds::Refusal;
 use kinds::Settings;
@@ -14,12 +15,6 @@ ghost use Rattle.sheet.specs.Sections.{taskSize, grantedSize, tasksPlace};
 ghost use Rattle.writer.specs.Encode.{taskBytes, grantedBytes, settingsBytes, tasksBytes, resultsBytes, encode, lengthOf};
 ghost use Rattle.writer.specs.Writing.{Writes};
 ghost use Rattle.writer.specs.Canonical.{SheetHeld};
-
-// How many bytes were written, or the refusal.
-pub enum Written {
-    Bytes(usize),
-    Refused(Refusal),
-}
 
 // Stores a task record at a place; returns the place after it.
 fn put_task(out: &mut [u8], at: usize, task: Task) -> usize
@@ -109,7 +104,7 @@ pub fn held(x: Sheet)
 }
 
 // Writes a station sheet into a lent buffer.
-pub fn write(x: Sheet, out: &mut [u8]) -> Written
+pub fn write(x: Sheet, out: &mut [u8]) -> Counted
     ensures { λ r. ⌜ Writes x (now (out .entry)) r (now (out .exit)) ⌝ }
 {
     let table = x.table;
@@ -117,16 +112,16 @@ pub fn write(x: Sheet, out: &mut [u8]) -> Written
     let results = x.results;
     let r = results.n;
     if Table::MOST_TASKS < n {
-        return Written::Refused(Refusal::TooManyTasks(n));
+        return Counted::Refused(Refusal::TooManyTasks(n));
     }
     let fit = sheet::results_fit(r, n);
     if !fit {
-        return Written::Refused(Refusal::WrongResultCount(0));
+        return Counted::Refused(Refusal::WrongResultCount(0));
     }
     let needed = sheet::end_place(n, r);
     if out.len() < needed {
-        return Written::Refused(Refusal::OutputTooShort(needed));
+        return Counted::Refused(Refusal::OutputTooShort(needed));
     }
     let written = put_sheet(out, x);
-    Written::Bytes(written)
+    Counted::Count(written)
 }

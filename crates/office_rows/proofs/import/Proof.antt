@@ -38,12 +38,12 @@ use Rattle.kinds.specs.Limits.{mostTasks}
 use Rattle.office.specs.Carrying.{Imports, Reads}
 use Rattle.kinds.specs.declared.Task.{Task}
 use Rattle.office.specs.declared.Imported.{Imported}
-use Rattle.office.specs.declared.Carried.{Carried}
+use Rattle.kinds.specs.declared.Counted.{Counted}
 use Rattle.kinds.proofs.Task as P
 use Rattle.kinds.proofs.Table as T
 use Rattle.kinds.proofs.Table.Laws as T′
-use Rattle.office.proofs.Carried as R
-use Rattle.office.proofs.Carried.Laws as R′
+use Rattle.kinds.proofs.Counted as R
+use Rattle.kinds.proofs.Counted.Laws as R′
 use Rattle.office.proofs.Imported as N
 use Rattle.office.proofs.Imported.Laws as N′
 use Rattle.office.proofs.import as core
@@ -119,7 +119,7 @@ module _ {M : Type 1} (𝓤 : URA M) (H : Heap 𝓤) (A : Atoms 𝓤) (W : Given
   abbrev OwnY : Fml
   OwnY = MutSlice (named 1) κ₁ P.the-row .own y (vy ∷ [])
 
-  exits : (r : Carried) (zs : List Task) → Is R.the-row r (R′.lowered r ∷ []) → Imports (x .now) (y .now) r zs → length zs ≡ length (y .now)
+  exits : (r : Counted) (zs : List Task) → Is R.the-row r (R′.lowered r ∷ []) → Imports (x .now) (y .now) r zs → length zs ≡ length (y .now)
       → ent 𝓤 (⋆ 𝓤 H A (‵ (flft κ q) ∷ ‵ (flft κ₁ q₁) ∷ ‵ OwnX ∷ ‵ (finally P.the-row (y .name) zs) ∷ [])) (Post (R′.lowered r))
   exits r zs is e l =
       qed W (‵ (flft κ q) ∷ ‵ (flft κ₁ q₁) ∷ ‵ OwnX ∷ ‵ (finally P.the-row (y .name) zs) ∷ []) ∵

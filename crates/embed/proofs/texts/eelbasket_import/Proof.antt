@@ -40,10 +40,11 @@ use denote.Triple.Walked.{says, Stays, stay-none-slice, gave-slice, walkOf, goes
 use denote.Exit.{yes}
 use Rattle.kinds.specs.declared.Task.{Task}
 use Rattle.kinds.proofs.Task as P
-use Rattle.office.specs.declared.Carried.{Carried}
-use Rattle.office.specs.Carrying.{Imports, handedCarried}
-use Rattle.office.proofs.Carried as C
-use Rattle.office.proofs.Carried.Laws as C′
+use Rattle.kinds.specs.declared.Counted.{Counted}
+use Rattle.office.specs.Carrying.{Imports}
+use Rattle.kinds.proofs.Counted as C
+use Rattle.kinds.proofs.Counted.Laws as C′
+use Rattle.kinds.specs.Answer.{handedCount}
 use Rattle.office_rows.proofs.Facts.{gets, gets-val}
 use Rattle.office_rows.proofs.import as core
 use Rattle.office_rows.proofs.import.Symbol as core-def
@@ -117,7 +118,7 @@ module _ {M : Type 1} (𝓤 : URA M) (H : Heap 𝓤) (A : Atoms 𝓤) (W : Given
   abbrev to-import : Core 𝓤 H A mem run .Ghost
   to-import = (((κ, (κ₁, tt)), (q, (q₁, tt)), tt, (x, (y, tt)), (v ∷ [], (vy ∷ [], tt))), tt)
 
-  abbrev to-tell : Carried → Val → Tell 𝓤 H A mem run .Ghost
+  abbrev to-tell : Counted → Val → Tell 𝓤 H A mem run .Ghost
   to-tell r u = ((tt, tt, tt, (r, tt), (u ∷ [], tt)), tt)
 
   asks-import : ent 𝓤 (⋆ 𝓤 H A (‵ (flft κ q) ∷ ‵ (flft κ₁ q₁) ∷ ‵ OwnX ∷ ‵ OwnY ∷ [])) (Core 𝓤 H A mem run .pre to-import)
@@ -125,7 +126,7 @@ module _ {M : Type 1} (𝓤 : URA M) (H : Heap 𝓤) (A : Atoms 𝓤) (W : Given
       qed W (‵ (flft κ q) ∷ ‵ (flft κ₁ q₁) ∷ ‵ OwnX ∷ ‵ OwnY ∷ []) ∵
       nothing ! $ move ! (1 ∷ 2 ∷ 0 ∷ []) $ group ! 3 $ nothing ! $ move ! (3 ∷ 0 ∷ []) $ fjoin ! $ move ! (2 ∷ 0 ∷ []) $ fjoin ! $ move ! (1 ∷ 0 ∷ []) $ join ! $ frame ! $ done !
 
-  asks-tell : (r : Carried) (u : Val) → Is C.the-row r (u ∷ []) → ent 𝓤 (emp 𝓤) (Tell 𝓤 H A mem run .pre (to-tell r u))
+  asks-tell : (r : Counted) (u : Val) → Is C.the-row r (u ∷ []) → ent 𝓤 (emp 𝓤) (Tell 𝓤 H A mem run .pre (to-tell r u))
   asks-tell r u is = qed W [] ∵ nothing ! $ owned ! C.the-row (Is C.the-row) (EL.makes C.the-type C′.the-plain 𝓤 H A) r _ is $ fjoin ! $ nothing ! $ join ! $ frame ! $ done !
 
   walk : (𝓣 : Tables 𝓤 H) → Known 𝓤 H A mem run 𝓣 → Room u8 (length (x .now)) → Room P.the-row (length (y .now))
@@ -150,7 +151,7 @@ module _ {M : Type 1} (𝓤 : URA M) (H : Heap 𝓤) (A : Atoms 𝓤) (W : Given
       peeks ! C.the-row (Is C.the-row) (shows 𝓤 H A C.the-row) r (u ∷ []) (λ is. land ! (from ! (stop !)) (init ! 8 refl (EL.lawful C.the-type C′.the-laws 𝓤 H A W tt .typed r _ is .0)) $ drop ! $
       -- [the lifetimes; what says the last values; text's; _5 at 3; …; _3 at 7; …; _0 at 13]
       use0 W (raw (Tell 𝓤 H A mem run .pre (to-tell r u))) (asks-tell r u is) $
-      gets-val ! (fmOf 𝓤 H (W .laws) 𝓣) tell.ended (tell.clauses 𝓤 H A mem run) (known .1) (to-tell r u) (λ t. toldCount t ≡ handedCarried r) R′.lowered (R′.lowers .val-is) (λ t ws. id⊢ 𝓤 _)
+      gets-val ! (fmOf 𝓤 H (W .laws) 𝓣) tell.ended (tell.clauses 𝓤 H A mem run) (known .1) (to-tell r u) (λ t. toldCount t ≡ handedCount r) R′.lowered (R′.lowers .val-is) (λ t ws. id⊢ 𝓤 _)
       (and-then ! (load ! (from ! (stop !)) (look ! 8 refl)) (no-more !)) (λ t e it. drop ! $ drop ! $ land ! (from ! (stop !)) (init ! 13 refl (LL.lawful R.the-type R′.the-laws 𝓤 H A W .typed t _ it .0)) $
       -- [the lifetimes; what says the last values; text's; _5 at 3; …; _0 at 13]
       returns ! (look ! 13 refl) $ forget ! 3 refl $ forget ! 5 refl $ forget ! 7 refl $ forget ! 9 refl $ forget ! 11 refl $ forget ! 13 refl $
