@@ -1,15 +1,15 @@
--- `policy::margin_at` meets its contract. Assumes nothing.
+-- `policy::margin_of` meets its contract. Assumes nothing.
 use mathlib.Core.Path.{_∙_}
 use Rattle.policy.proofs.Tests.{margin-worked-out}
 use borrow.Author.Needs.{needs}
-use Rattle.policy.proofs.margin_at.Statement.{statement}
-use Rattle.policy.proofs.margin_at.Tie as tie
+use Rattle.policy.proofs.margin_of.Statement.{statement}
+use Rattle.policy.proofs.margin_of.Tie as tie
 
 weights-of-requires : tie.Need-weights-of-requires
 weights-of-requires c κs = search needs
 
-total-at-requires : tie.Need-total-at-requires
-total-at-requires c κs = search needs
+total-of-requires : tie.Need-total-of-requires
+total-of-requires c κs = search needs
 
 right-of-requires : tie.Need-right-of-requires
 right-of-requires c κs = search needs
@@ -23,14 +23,14 @@ difference-requires c κs = search needs
 returns : tie.Need-returns
 returns c =
     let w = c .before .before .before .before in
-    search needs ∙ (c .difference .ensures ∙ margin-worked-out _ _ _ _ _ _ _ _ _ (w .weights-of .ensures .0) (c .before .before .before .total-at .ensures) (c .before .left-of .ensures .is) (c .before .before .right-of .ensures .is))
+    search needs ∙ (c .difference .ensures ∙ margin-worked-out _ _ _ _ _ _ _ _ _ (w .weights-of .ensures .0) (c .before .before .before .total-of .ensures) (c .before .left-of .ensures .is) (c .before .before .right-of .ensures .is))
 
-pub margin-at-spec : {M : Type 1} → statement M
-margin-at-spec =
+pub margin-of-spec : {M : Type 1} → statement M
+margin-of-spec =
     tie.close
     (tie.spec
     weights-of-requires
-    total-at-requires
+    total-of-requires
     right-of-requires
     left-of-requires
     difference-requires
