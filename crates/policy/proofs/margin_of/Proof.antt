@@ -23,7 +23,9 @@ difference-requires c κs = search needs
 returns : tie.Need-returns
 returns c =
     let w = c .before .before .before .before in
-    search needs ∙ (c .difference .ensures ∙ margin-worked-out _ _ _ _ _ _ _ _ _ (w .weights-of .ensures .0) (c .before .before .before .total-of .ensures) (c .before .left-of .ensures .is) (c .before .before .right-of .ensures .is))
+    let t = c .before .before .before .total-of .ensures in
+    let worked = margin-worked-out _ _ _ _ _ _ _ _ _ (w .weights-of .ensures .0) t (c .before .left-of .ensures .is) (c .before .before .right-of .ensures .is) in
+    search needs ∙ (c .difference .ensures ∙ worked)
 
 pub margin-of-spec : {M : Type 1} → statement M
 margin-of-spec =

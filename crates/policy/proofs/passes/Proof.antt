@@ -23,7 +23,8 @@ right-of-requires c κs = search needs
 returns : tie.Need-returns
 returns c =
     let w = c .before .before .before in
-    passes-worked-out _ _ _ _ _ _ _ _ _ (w .weights-of .ensures .0) (c .before .before .total-of .ensures) (c .before .left-of .ensures .is) (c .right-of .ensures .is) (sym (w .before .before .has-formula .ensures) ∙ w .before .if1 .taken)
+    passes-worked-out _ _ _ _ _ _ _ _ _ (w .weights-of .ensures .0) (c .before .before .total-of .ensures) (c .before .left-of .ensures .is)
+    (c .right-of .ensures .is) (sym (w .before .before .has-formula .ensures) ∙ w .before .if1 .taken)
 
 is-first-fit-requires : tie.Need-is-first-fit-requires
 is-first-fit-requires c κs = search needs
