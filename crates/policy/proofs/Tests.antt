@@ -146,6 +146,9 @@ passes-within GlobalRm m load n some few t =
 passes-within FirstFit m load n some few t = fits-within m load n few t
 passes-within (Further q) m load n some few t = true-false t refl
 
+pub too-much : (p : Policy) (m : ℕ) (load : ℕ → ℕ) (n : ℕ) → 1 ≤ m → m ≤ mostProcessors → scale * m < sumTo load n → passes p m load n ≡ false
+too-much p m load n some few h = by-bool (passes p m load n) (λ t. absurd (omega (arith, passes-within p m load n some few t))) (λ f. f)
+
 -- passing and the margin look at the loads of the first n tasks only
 module _ (p : Policy) (m : ℕ) (f g : ℕ → ℕ) (n : ℕ) (h : (i : ℕ) → i < n → f i ≡ g i) where
   pub holds-same : holds p m (sumTo f n) (maxTo f n) ≡ holds p m (sumTo g n) (maxTo g n)

@@ -6,6 +6,7 @@ use kinds::Table;
 ghost use mathlib.Core.Path.{_≡_};
 ghost use Prim.Native.Nat.{_≤_};
 ghost use lib.IntN.{subℕ};
+ghost use Rattle.ground.specs.Folds.{sumTo};
 ghost use Rattle.kinds.specs.Limits.{scale, mostProcessors};
 ghost use Rattle.fit.specs.Fit.{loadIn, Loads};
 ghost use Rattle.policy.specs.Sides.{weightsOf, Light, left, right, SideIs, TotalIs, marginOf};
@@ -114,6 +115,23 @@ pub fn passes(policy: Policy, m: u16, loads: &[u32; Table::MOST_TASKS], n: usize
         return trial.placed;
     }
     false
+}
+
+// The same with the sum of the loads at hand: where they add up to more than the processors have, no policy passes and none is tried.
+pub fn passes_summed(
+    policy: Policy,
+    m: u16,
+    loads: &[u32; Table::MOST_TASKS],
+    n: usize,
+    sum: u64,
+) -> bool
+    requires { ⌜ Loads (now loads) n × (1 ≤ m) × (m ≤ mostProcessors) × (sum ≡ sumTo (loadIn (now loads)) n) ⌝ }
+    ensures { λ r. ⌜ r ≡ passes policy m (loadIn (now (loads .entry))) n ⌝ }
+{
+    if m as u64 * Share::SCALE < sum {
+        return false;
+    }
+    passes(policy, m, loads, n)
 }
 
 // The right side of the test minus the left, as a signed number.
