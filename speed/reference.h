@@ -3,15 +3,13 @@
 #define REFERENCE_H
 #include "eelbasket.h"
 
-/* The plain finder with the shares divided anew at each step, as the library does. */
-struct eelbasket_told reference_plain(const struct eelbasket_task *rows, size_t tasks, struct eelbasket_station station,
-                                      uint32_t *periods, size_t periods_len, uint16_t *processors, size_t processors_len);
+typedef struct eelbasket_told finder(const struct eelbasket_task *rows, size_t tasks, struct eelbasket_station station, uint32_t *periods,
+                                     size_t periods_len, uint16_t *processors, size_t processors_len);
 
-/* The plain finder with largest and least shares worked out once. */
-struct eelbasket_told reference_hoisted(const struct eelbasket_task *rows, size_t tasks, struct eelbasket_station station,
-                                        uint32_t *periods, size_t periods_len, uint16_t *processors, size_t processors_len);
+/* The plain finder. Each divides once for a call; the shares of a step are multiplied out of the springs, or carried from the step
+   before, in a select or a maximum. */
+finder reference_multiplied, reference_select, reference_max;
 
 /* The quick finder. */
-struct eelbasket_told reference_quick(const struct eelbasket_task *rows, size_t tasks, struct eelbasket_station station,
-                                      uint32_t *periods, size_t periods_len, uint16_t *processors, size_t processors_len);
+finder reference_quick;
 #endif

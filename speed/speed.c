@@ -3,8 +3,6 @@
 #include <time.h>
 #include "reference.h"
 
-typedef struct eelbasket_told finder(const struct eelbasket_task *, size_t, struct eelbasket_station, uint32_t *, size_t, uint16_t *, size_t);
-
 static uint32_t periods[33], other_periods[33];
 static uint16_t processors[33], other_processors[33];
 
@@ -21,17 +19,19 @@ static double batch(finder *f, const struct eelbasket_task *rows, size_t n, stru
     return (now() - start) / (double)calls;
 }
 
-/* The best time of one call of either in nanoseconds: the two take turns, in batches of some 0.1 ms or of one call, for half a second,
-   so that what else the machine does falls on both. */
-static void time_of(finder *f, finder *g, const struct eelbasket_task *rows, size_t n, struct eelbasket_station s, double *a, double *b) {
-    long calls = (long)(1e5 / (batch(g, rows, n, s, 3) + 1)) + 1;
+enum { MOST_FORMS = 4 };
+
+/* The best time of one call of each in nanoseconds: they take turns, in batches of some 0.1 ms or of one call, for half a second or
+   more, so that what else the machine does falls on all. */
+static void time_of(finder *const *f, int forms, const struct eelbasket_task *rows, size_t n, struct eelbasket_station s, double *best) {
+    long calls = (long)(1e5 / (batch(f[0], rows, n, s, 3) + 1)) + 1;
     double start = now();
-    *a = *b = 1e18;
-    for (int turn = 0; turn < 5 || now() - start < 5e8; turn++) {
-        double x = batch(f, rows, n, s, calls), y = batch(g, rows, n, s, calls);
-        if (x < *a) *a = x;
-        if (y < *b) *b = y;
-    }
+    for (int j = 0; j < forms; j++) best[j] = 1e18;
+    for (int turn = 0; turn < 5 || now() - start < 5e8; turn++)
+        for (int j = 0; j < forms; j++) {
+            double x = batch(f[j], rows, n, s, calls);
+            if (x < best[j]) best[j] = x;
+        }
 }
 
 static int agree(finder *f, finder *g, const struct eelbasket_task *rows, size_t n, struct eelbasket_station s) {
@@ -42,15 +42,29 @@ static int agree(finder *f, finder *g, const struct eelbasket_task *rows, size_t
     return same;
 }
 
-static int row(const char *name, const char *what, finder *ours, finder *theirs, const struct eelbasket_task *rows, size_t n, struct eelbasket_station s) {
-    if (!agree(ours, theirs, rows, n, s)) {
-        printf("%s, %s: the two do not agree\n", name, what);
-        return 0;
-    }
-    double a, b;
-    time_of(ours, theirs, rows, n, s, &a, &b);
-    printf("| %s | %s | %.0f | %.0f | %.2f |\n", name, what, a, b, a / b);
+/* The library's finder, f[0], beside the best of the C forms that follow it. */
+static int row(const char *name, const char *what, finder *const *f, int forms, const struct eelbasket_task *rows, size_t n, struct eelbasket_station s) {
+    for (int j = 1; j < forms; j++)
+        if (!agree(f[0], f[j], rows, n, s)) {
+            printf("%s, %s: the two do not agree\n", name, what);
+            return 0;
+        }
+    double best[MOST_FORMS], c = 1e18;
+    time_of(f, forms, rows, n, s, best);
+    for (int j = 1; j < forms; j++)
+        if (best[j] < c) c = best[j];
+    printf("| %s | %s | %.0f | %.0f | %.2f |\n", name, what, best[0], c, best[0] / c);
     return 1;
+}
+
+static int plain(const char *name, const char *what, const struct eelbasket_task *rows, size_t n, struct eelbasket_station s) {
+    static finder *const forms[] = {eelbasket_plain, reference_multiplied, reference_select, reference_max};
+    return row(name, what, forms, 4, rows, n, s);
+}
+
+static int quick(const char *name, const char *what, const struct eelbasket_task *rows, size_t n, struct eelbasket_station s) {
+    static finder *const forms[] = {eelbasket_quick, reference_quick};
+    return row(name, what, forms, 2, rows, n, s);
 }
 
 static void spread(struct eelbasket_task *rows, int n, uint32_t from, uint32_t step) {
@@ -64,22 +78,17 @@ int main(void) {
     for (int wide = 1; wide >= 0; wide--) {
         spread(rows, 20, wide ? 100 : 1, wide ? 100 : 1);
         const char *name = wide ? "20 tasks, m = 4, E 100 to 2000" : "20 tasks, m = 4, E 1 to 20";
-        for (uint16_t p = 1; p <= 3; p++) {
-            static const char *quick[] = {"quick, policy 1", "quick, policy 2", "quick, policy 3"};
-            ok &= row(name, quick[p - 1], eelbasket_quick, reference_quick, rows, 20, (struct eelbasket_station){p, 4});
-        }
-        for (uint16_t p = 1; p <= 4; p++) {
-            static const char *plain[] = {"plain, policy 1", "plain, policy 2", "plain, policy 3", "plain, policy 4"};
-            ok &= row(name, plain[p - 1], eelbasket_plain, reference_plain, rows, 20, (struct eelbasket_station){p, 4});
-        }
+        static const char *quickly[] = {"quick, policy 1", "quick, policy 2", "quick, policy 3"};
+        static const char *plainly[] = {"plain, policy 1", "plain, policy 2", "plain, policy 3", "plain, policy 4"};
+        for (uint16_t p = 1; p <= 3; p++) ok &= quick(name, quickly[p - 1], rows, 20, (struct eelbasket_station){p, 4});
+        for (uint16_t p = 1; p <= 4; p++) ok &= plain(name, plainly[p - 1], rows, 20, (struct eelbasket_station){p, 4});
     }
     for (int i = 0; i < 32; i++) rows[i] = (struct eelbasket_task){1, 1, 1000000000, 1};
-    ok &= row("case J", "quick", eelbasket_quick, reference_quick, rows, 2, (struct eelbasket_station){1, 1});
-    ok &= row("case J", "plain, C divides anew", eelbasket_plain, reference_plain, rows, 2, (struct eelbasket_station){1, 1});
-    ok &= row("case J", "plain, C divides once", eelbasket_plain, reference_hoisted, rows, 2, (struct eelbasket_station){1, 1});
-    ok &= row("32 tasks of case J's kind, m = 16", "quick", eelbasket_quick, reference_quick, rows, 32, (struct eelbasket_station){1, 16});
-    ok &= row("32 tasks of case J's kind, m = 16", "plain", eelbasket_plain, reference_plain, rows, 32, (struct eelbasket_station){1, 16});
+    ok &= quick("case J", "quick", rows, 2, (struct eelbasket_station){1, 1});
+    ok &= plain("case J", "plain", rows, 2, (struct eelbasket_station){1, 1});
+    ok &= quick("32 tasks of case J's kind, m = 16", "quick", rows, 32, (struct eelbasket_station){1, 16});
+    ok &= plain("32 tasks of case J's kind, m = 16", "plain", rows, 32, (struct eelbasket_station){1, 16});
     for (int i = 1; i < 32; i++) rows[i] = (struct eelbasket_task){600, 1000, 1000, 0};
-    ok &= row("first fit, K = 999,999, refused", "plain, policy 4", eelbasket_plain, reference_plain, rows, 20, (struct eelbasket_station){4, 16});
+    ok &= plain("first fit, K = 999,999, refused", "plain, policy 4", rows, 20, (struct eelbasket_station){4, 16});
     return ok ? 0 : 1;
 }
