@@ -25,6 +25,10 @@ pub unchecked : (test : Bool) (r : Refusal) (rest : Admission) → check test r 
 unchecked true r rest e = absurd (let z : _≡_ {A = ℕ} 0 1 = cc in omega arith)
 unchecked false r rest e = (refl, e)
 
+pub not-admitted : {A : Type 0} {r : Refusal} (a : Admission) → a ≡ Refused r → a ≡ Admitted → A
+not-admitted Admitted e f = absurd (let z : _≡_ {A = ℕ} 0 1 = cc in omega arith)
+not-admitted (Refused q) e f = absurd (let z : _≡_ {A = ℕ} 0 1 = cc in omega arith)
+
 neither : (a b : Bool) → either a b ≡ false → (a ≡ false) × (b ≡ false)
 neither true b e = true-false refl e
 neither false b e = (refl, e)

@@ -19,7 +19,7 @@ use Rattle.kinds.specs.Answer.{accepted}
 use Rattle.kinds.proofs.Policies.{number-back}
 use Rattle.share.specs.Share.{periodAt}
 use Rattle.share.specs.Table.{shares, periodsAt}
-use Rattle.share.proofs.Tasks.{period-is}
+use Rattle.share.proofs.Tasks.{shortest}
 use Rattle.share.proofs.Tables.{all-good}
 use Rattle.fit.proofs.Placing.{fits-placed}
 use Rattle.policy.proofs.Demand.{step-at}
@@ -72,7 +72,7 @@ module _ (x : Sheet) (k : ℕ) (few : x .table .n ≤ mostTasks) (e : asked x �
   period-held i l =
       let f : ℕ → ℕ = λ j. periodAt (at (x .table .rows) j) k in
       let good = all-good (x .table .rows) (x .table .n) (accepts .ready .none-bad) i l in
-      rw (list-in f (x .table .n) i l) (omega (arith, period-is (at (x .table .rows) i) good k (f i) refl .most))
+      rw (list-in f (x .table .n) i l) (omega (arith, good .tmax-most, shortest (at (x .table .rows) i) good k .high))
 
   place-held : (i : ℕ) → i < x .table .n → processorAt (meant (x .settings .policy)) (x .settings .m) (x .table .rows) k i < limit 2
   place-held i l =

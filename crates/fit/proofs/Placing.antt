@@ -1,7 +1,7 @@
 -- What document 01 says of first fit: each task has the lowest-numbered processor with room, each load is at most S, and when every
 -- task is placed the loads of the processors add up to the sum of the tasks' loads.
 -- Assumes nothing.
-use Prim.Native.Nat.{ℕ, zero, suc, _+_, _≤_, _<_}
+use Prim.Native.Nat.{ℕ, zero, suc, _+_, _*_, _≤_, _<_}
 use mathlib.Core.Bool.{true}
 use mathlib.Core.List.{List}
 use mathlib.Core.Path.{_≡_, refl, ap, _∙_}
@@ -14,7 +14,7 @@ use Rattle.ground.specs.First.{firstBelow, IsFirst}
 use Rattle.ground.specs.Folds.{sumTo}
 use Rattle.ground.proofs.Cases.{by-eq}
 use Rattle.ground.proofs.First.{first-is, first-cong}
-use Rattle.ground.proofs.Folds.{sum-cong}
+use Rattle.ground.proofs.Folds.{sum-most, sum-cong}
 use Rattle.ground.proofs.Buffer.{list-cong}
 use Rattle.kinds.specs.Limits.{scale, mostProcessors}
 use Rattle.fit.specs.Fit.{hasRoom, lowestRoom, loaded, loadsAfter, placeAt, stuckAt, fits, placesTo}
@@ -92,6 +92,11 @@ module _ (m : ℕ) (load : ℕ → ℕ) where
 
   pub each-load-most : (n : ℕ) → m ≤ mostProcessors → fits m load n ≡ true → (j : ℕ) → j < m → getD (loadsAfter m load n) j 0 ≤ scale
   each-load-most n few e = load-most few n (fits-placed n e)
+
+  -- so loads that add up to more than the processors have do not fit
+  pub fits-within : (n : ℕ) → m ≤ mostProcessors → fits m load n ≡ true → sumTo load n ≤ scale * m
+  fits-within n few e =
+      omega (arith, loads-add-up n few e, sum-most (λ j. getD (loadsAfter m load n) j 0) m scale (each-load-most n few e))
 
 -- first fit looks at the loads of the first n tasks only
 module _ (m : ℕ) (f g : ℕ → ℕ) where

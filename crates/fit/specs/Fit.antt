@@ -1,6 +1,6 @@
 -- Document 01's placing rule, over the loads of tasks by number.
 -- Assumes nothing.
-use Prim.Native.Nat.{ℕ, zero, suc, _+_}
+use Prim.Native.Nat.{ℕ, zero, suc, _+_, _≤_, _<_}
 use mathlib.Core.Bool.{Bool}
 use mathlib.Core.List.{List, _++_}
 use mathlib.Core.Path.{_≡_}
@@ -10,6 +10,15 @@ use Rattle.ground.specs.First.{firstBelow}
 use Rattle.ground.specs.Folds.{listTo}
 use Rattle.kinds.specs.Limits.{scale, mostTasks, mostProcessors}
 use Rattle.fit.specs.declared.Fit.{Fit}
+
+-- the load of task i in a column
+abbrev pub loadIn : List ℕ → ℕ → ℕ
+loadIn loads i = getD loads i 0
+
+-- a column of the loads of n tasks, none above S
+pub record Loads (loads : List ℕ) (n : ℕ) : Type 0 where
+  pub few : n ≤ mostTasks
+  pub most : (i : ℕ) → i < n → loadIn loads i ≤ scale
 
 -- the processor j, counted from 0, has room for a load: with it, it is at most S
 abbrev pub hasRoom : List ℕ → ℕ → ℕ → Bool

@@ -40,6 +40,13 @@ module _ (test : ℕ → Bool) (K k : ℕ) (h : (j : ℕ) → j < k → test j �
   pub least-none : K < k → Nothing ≡ leastUpTo test K
   least-none l = least-unique test K Nothing _ (λ j g. h j (omega arith)) (least-is test K)
 
+-- an answer has one step, and none has none
+pub at-step : {j k : ℕ} → At j ≡ At k → j ≡ k
+at-step {j} {k} e = ap (λ (s : Step). elim s [ At x ↦ x | Nothing ↦ 0 ]) e
+
+pub nothing-at : {A : Type 0} {k : ℕ} → Nothing ≡ At k → A
+nothing-at {A} {k} e = absurd (let z : _≡_ {A = ℕ} 0 1 = ap (λ (s : Step). elim s [ At x ↦ 1 | Nothing ↦ 0 ]) e in omega arith)
+
 -- what an answer says
 pub least-at : (test : ℕ → Bool) (K k : ℕ) → leastUpTo test K ≡ At k → LeastAt test K k
 least-at test K k e = rw e at (least-is test K)

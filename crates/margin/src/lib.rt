@@ -12,11 +12,24 @@ pub fn margin_at(table: Table, settings: Settings, step: u32) -> Margin
     ensures { λ r. ⌜ handedMargin r ≡ marginHanded settings (table .rows) (table .n) step ⌝ }
 {
     let n = table.n;
-    match admission::admit(table, settings, false, n) {
-        Admission::Refused(refusal) => Margin::Refused(refusal),
-        Admission::Admitted => {
-            let asked = settings.policy;
-            Margin::Is(policy::margin_at(asked.meant(), settings.m, table, step))
-        }
-    }
+    let mut shares = [0u32; Table::MOST_TASKS];
+    let mut least = [0u32; Table::MOST_TASKS];
+    let mut elasticity = [0u32; Table::MOST_TASKS];
+    let mut saturation = [0u32; Table::MOST_TASKS];
+    let admission = admission::admit(
+        table,
+        settings,
+        false,
+        n,
+        &mut shares,
+        &mut least,
+        &mut elasticity,
+        &mut saturation,
+    );
+    let Admission::Refused(refusal) = admission else {
+        let asked = settings.policy;
+        springs::shares_at(&mut shares, &least, &elasticity, n, step);
+        return Margin::Is(policy::margin_of(asked.meant(), settings.m, &shares, n));
+    };
+    Margin::Refused(refusal)
 }

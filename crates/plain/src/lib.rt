@@ -1,5 +1,6 @@
-// The plain finder: it tests the policy at step 0, 1, 2, … to full compression, with the shares worked out from the record at each step.
-// The promise of `find` is `outcome true` of `plan`.
+// The plain finder: it tests the policy at step 0, 1, 2, … to full compression. The springs are worked out once for a call, and the
+// shares stand in a column that is let down from step to step. Contracts cite `specs/Steps`; the promise of `find` is `outcome true` of
+// `plan`.
 use admission::Admission;
 use ground::Step;
 use kinds::Answer;
@@ -11,20 +12,28 @@ ghost use mathlib.Core.Path.{_≡_};
 ghost use Prim.Native.Nat.{_≤_};
 ghost use Rattle.kinds.specs.Answer.{handed};
 ghost use Rattle.kinds.specs.Limits.{mostProcessors};
-ghost use Rattle.share.specs.Table.{GoodTable};
-ghost use Rattle.policy.specs.Passing.{leastStep};
-ghost use Rattle.plan.specs.Plan.{found, outcome, Meets};
+ghost use Rattle.springs.specs.Columns.{columns, springIn, Roomy};
+ghost use Rattle.plan.specs.Plan.{found, outcome, Meets, FoundHeld};
+ghost use Rattle.plain.specs.Steps.{Searchable, StepHeld};
 
 // The periods and processors of the least passing step, written to the two lent outputs, or the refusal, which writes nothing.
 pub fn find(table: Table, settings: Settings, periods: &mut [u32], processors: &mut [u16]) -> Answer
     ensures { λ r. ⌜ Meets (outcome true settings (table .rows) (table .n) (now (periods .entry)) (now (processors .entry))) r (now (periods .exit)) (now (processors .exit)) ⌝ }
 {
-    let answer = decide(
+    let mut shares = [0u32; Table::MOST_TASKS];
+    let mut least = [0u32; Table::MOST_TASKS];
+    let mut elasticity = [0u32; Table::MOST_TASKS];
+    let mut saturation = [0u32; Table::MOST_TASKS];
+    let answer = decide_in(
         table,
         settings,
         ground::shorter(periods.len(), processors.len()),
+        &mut shares,
+        &mut least,
+        &mut elasticity,
+        &mut saturation,
     );
-    plan::grant(answer, table, settings, periods, processors);
+    plan::grant(answer, table, settings, &shares, periods, processors);
     answer
 }
 
@@ -32,27 +41,85 @@ pub fn find(table: Table, settings: Settings, periods: &mut [u32], processors: &
 pub fn decide(table: Table, settings: Settings, room: usize) -> Answer
     ensures { λ r. ⌜ handed r ≡ found true settings (table .rows) (table .n) room ⌝ }
 {
-    let admission = admission::admit(table, settings, true, room);
+    let mut shares = [0u32; Table::MOST_TASKS];
+    let mut least = [0u32; Table::MOST_TASKS];
+    let mut elasticity = [0u32; Table::MOST_TASKS];
+    let mut saturation = [0u32; Table::MOST_TASKS];
+    decide_in(
+        table,
+        settings,
+        room,
+        &mut shares,
+        &mut least,
+        &mut elasticity,
+        &mut saturation,
+    )
+}
+
+// The same in lent columns: of an acceptance the first holds the shares of its step.
+fn decide_in(
+    table: Table,
+    settings: Settings,
+    room: usize,
+    shares: &mut [u32; Table::MOST_TASKS],
+    least: &mut [u32; Table::MOST_TASKS],
+    elasticity: &mut [u32; Table::MOST_TASKS],
+    saturation: &mut [u32; Table::MOST_TASKS],
+) -> Answer
+    requires { ⌜ Roomy (columns (now shares) (now least) (now elasticity) (now saturation)) ⌝ }
+    ensures { λ r. ⌜ FoundHeld true settings (table .rows) (table .n) room r (now (shares .exit)) ⌝ }
+{
+    let admission = admission::admit(
+        table,
+        settings,
+        true,
+        room,
+        shares,
+        least,
+        elasticity,
+        saturation,
+    );
     let Admission::Admitted = admission else {
         return plan::decide(admission, Step::Nothing);
     };
     let asked = settings.policy;
-    let step = least_step(asked.meant(), settings.m, table);
+    let step = least_step(
+        asked.meant(),
+        settings.m,
+        shares,
+        least,
+        elasticity,
+        saturation,
+        table.n,
+    );
     plan::decide(admission, step)
 }
 
-// The least step from 0 to full compression that passes.
-fn least_step(policy: Policy, m: u16, table: Table) -> Step
-    requires { ⌜ GoodTable table × (1 ≤ m) × (m ≤ mostProcessors) ⌝ }
-    ensures { λ r. ⌜ r ≡ leastStep policy m (table .rows) (table .n) ⌝ }
+// The least step from 0 to full compression that passes. The column of the largest shares is let down to those of that step.
+fn least_step(
+    policy: Policy,
+    m: u16,
+    shares: &mut [u32; Table::MOST_TASKS],
+    least: &[u32; Table::MOST_TASKS],
+    elasticity: &[u32; Table::MOST_TASKS],
+    saturation: &[u32; Table::MOST_TASKS],
+    n: usize,
+) -> Step
+    requires { ⌜ Searchable (now shares) (now least) (now elasticity) n × (1 ≤ m) × (m ≤ mostProcessors) ⌝ }
+    ensures { λ r. ⌜ StepHeld policy m (springIn (now (shares .entry)) (now (least .entry)) (now (elasticity .entry))) (now (saturation .entry)) n r (now (shares .exit)) ⌝ }
 {
-    let full = share::full_compression(table);
+    let full = springs::full_compression(saturation, n);
+    let total = policy::total_of(shares, n);
+    let mut sum = total.sum;
     let mut k: u32 = 0;
-    while k <= full {
-        if policy::passes_at(policy, m, table, k) {
+    loop {
+        if policy::passes_summed(policy, m, shares, n, sum) {
             return Step::At(k);
         }
+        if full <= k {
+            return Step::Nothing;
+        }
+        sum = springs::next_shares(shares, least, elasticity, n);
         k += 1;
     }
-    Step::Nothing
 }

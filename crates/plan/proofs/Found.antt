@@ -1,7 +1,7 @@
 -- What an accepted answer has passed, so that its plan may be written.
 -- Assumes nothing.
 use Prim.Native.Nat.{ℕ, _≤_, min}
-use mathlib.Core.Bool.{Bool}
+use mathlib.Core.Bool.{Bool, true}
 use mathlib.Core.List.{List}
 use mathlib.Core.Path.{_≡_, refl, sym, ap}
 use native.Mathlib.Omega.{arith}
@@ -16,15 +16,16 @@ use Rattle.kinds.specs.declared.Answer.{Answer}
 use Rattle.kinds.specs.declared.Answer.the-variants.{Accepted, Refused}
 use Rattle.kinds.specs.declared.Refusal.{Refusal}
 use Rattle.kinds.specs.declared.Refusal.the-variants.{NoStepPasses}
-use Rattle.kinds.specs.Answer.{Handed, accepted, handed}
+use Rattle.kinds.specs.Answer.{Handed, accepted, handed, isAccepted, stepOf}
 use Rattle.kinds.specs.Policy.{meant}
 use Rattle.kinds.proofs.Answers.{not-refused}
 use Rattle.share.proofs.Tables.{good-table}
+use Rattle.springs.specs.Columns.{SharesOf}
 use Rattle.policy.specs.Passing.{leastStep}
 use Rattle.policy.proofs.Demand.{step-at}
 use Rattle.admission.specs.declared.Admission as adm
 use Rattle.admission.specs.Admission.{admission}
-use Rattle.admission.proofs.Chain.{Ready, admitted}
+use Rattle.admission.proofs.Chain.{Ready, admitted, not-admitted}
 use Rattle.plan.specs.Plan.{decided, found, outcome, Meets, Leaves, Grantable, MayGrant}
 
 -- an acceptance was admitted, and its step is the least that passes
@@ -32,6 +33,18 @@ pub decided-accepted : (a : adm.Admission) (step : Step) (k : ℕ) → accepted 
 decided-accepted (adm.the-variants.Refused r) step k e = not-refused k 0 r e
 decided-accepted adm.the-variants.Admitted (At j) k e = (refl, ap At (sym (ap (λ (h : Handed ℕ). h .value) e)))
 decided-accepted adm.the-variants.Admitted Nothing k e = not-refused k 0 NoStepPasses e
+
+-- the step of an acceptance is the one that was found
+pub answered-at : (answer : Answer) (a : adm.Admission) (step : Step) → handed answer ≡ decided a step → isAccepted answer ≡ true
+    → step ≡ At (stepOf answer)
+answered-at (Accepted k) a step e t = decided-accepted a step k e .1
+answered-at (Refused r) a step e t = true-false t refl
+
+-- a refused admission is no acceptance
+pub refused-held : {A : Type 0} (answer : Answer) (a : adm.Admission) (step : Step) (r : Refusal) → handed answer ≡ decided a step
+    → a ≡ adm.the-variants.Refused r → isAccepted answer ≡ true → A
+refused-held (Accepted k) a step r e q t = not-admitted a q (decided-accepted a step k e .0)
+refused-held (Refused x) a step r e q t = true-false t refl
 
 pub record Accepting (serves : Bool) (s : Settings) (rows : List Task) (n room k : ℕ) : Type 0 where
   pub ready : Ready serves s rows n room
@@ -43,9 +56,12 @@ accepting serves s rows n room k e =
     let d = decided-accepted _ _ k e in
     record { ready = admitted serves s rows n room (d .0); step = d .1 }
 
-pub may-grant : (serves : Bool) (answer : Answer) (s : Settings) (t : Table) (a b : ℕ) → handed answer ≡ found serves s (t .rows) (t .n) (min a b) → MayGrant answer s t a b
-may-grant serves (Refused r) s t a b e = record { to-periods = λ x. true-false x refl; to-processors = λ x. true-false x refl }
-may-grant serves (Accepted k) s t a b e = record { to-periods = λ _. grantable a (omega arith); to-processors = λ _. grantable b (omega arith) }
+pub may-grant : (serves : Bool) (answer : Answer) (s : Settings) (t : Table) (shares : List ℕ) (a b : ℕ)
+    → handed answer ≡ found serves s (t .rows) (t .n) (min a b)
+    → (isAccepted answer ≡ true → SharesOf (t .rows) (t .n) (stepOf answer) shares) → MayGrant answer s t shares a b
+may-grant serves (Refused r) s t shares a b e h = record { to-periods = λ x. true-false x refl; to-processors = λ x. true-false x refl; held = h }
+may-grant serves (Accepted k) s t shares a b e h =
+    record { to-periods = λ _. grantable a (omega arith); to-processors = λ _. grantable b (omega arith); held = h }
   where
     grantable : (room : ℕ) → min a b ≤ room → Grantable (meant (s .policy)) (s .m) t k room
     grantable room h =

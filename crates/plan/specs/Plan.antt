@@ -20,15 +20,20 @@ use Rattle.kinds.specs.Answer.{Handed, accepted, refused, handed, isAccepted, s
 use Rattle.kinds.specs.Limits.{mostProcessors}
 use Rattle.kinds.specs.Policy.{meant, isFirstFit}
 use Rattle.share.specs.Table.{GoodTable, shares, periodsAt}
-use Rattle.fit.specs.Fit.{placeAt}
-use Rattle.policy.specs.Passing.{passesAt, leastStep}
+use Rattle.springs.specs.Columns.{SharesOf}
+use Rattle.fit.specs.Fit.{loadIn, Loads, placeAt}
+use Rattle.policy.specs.Passing.{passes, passesAt, leastStep}
 use Rattle.admission.specs.declared.Admission.{Admission}
 use Rattle.admission.specs.declared.Admission.the-variants.{Admitted, Refused}
 use Rattle.admission.specs.Admission.{admission}
 
+-- the processor of task i with these loads
+abbrev pub processorOn : Policy → ℕ → (ℕ → ℕ) → ℕ → ℕ
+processorOn p m load i = pick (isFirstFit p) (placeAt m load i + 1) 0
+
 -- the processor of task i at step k: "1 to m under policy 4, and 0 ("any") under 1 to 3"
 abbrev pub processorAt : Policy → ℕ → List Task → ℕ → ℕ → ℕ
-processorAt p m rows k i = pick (isFirstFit p) (placeAt m (shares rows k) i + 1) 0
+processorAt p m rows k i = processorOn p m (shares rows k) i
 
 unfoldable pub processorsAt : Policy → ℕ → List Task → ℕ → ℕ → List ℕ
 processorsAt p m rows n k = listTo (processorAt p m rows k) n
@@ -72,6 +77,11 @@ pub record Meets (o : Outcome) (answer : Answer) (periods processors : List ℕ)
   pub grants : periods ≡ o .periods
   pub places : processors ≡ o .processors
 
+-- an answer, and of an acceptance a column of the shares of its step
+pub record FoundHeld (serves : Bool) (s : Settings) (rows : List Task) (n room : ℕ) (answer : Answer) (shares : List ℕ) : Type 0 where
+  pub answers : handed answer ≡ found serves s rows n room
+  pub held : isAccepted answer ≡ true → SharesOf rows n (stepOf answer) shares
+
 -- what the writing of a plan at step k relies on
 pub record Grantable (p : Policy) (m : ℕ) (t : Table) (k room : ℕ) : Type 0 where
   pub table : GoodTable t
@@ -79,9 +89,17 @@ pub record Grantable (p : Policy) (m : ℕ) (t : Table) (k room : ℕ) : Type 0 
   pub roomy : t .n ≤ room
   pub passing : passesAt p m (t .rows) (t .n) k ≡ true
 
-pub record MayGrant (answer : Answer) (s : Settings) (t : Table) (periods processors : ℕ) : Type 0 where
+-- what the writing of processors relies on
+pub record Placeable (p : Policy) (m : ℕ) (loads : List ℕ) (n room : ℕ) : Type 0 where
+  pub light : Loads loads n
+  pub m-most : m ≤ mostProcessors
+  pub roomy : n ≤ room
+  pub passing : passes p m (loadIn loads) n ≡ true
+
+pub record MayGrant (answer : Answer) (s : Settings) (t : Table) (shares : List ℕ) (periods processors : ℕ) : Type 0 where
   pub to-periods : isAccepted answer ≡ true → Grantable (meant (s .policy)) (s .m) t (stepOf answer) periods
   pub to-processors : isAccepted answer ≡ true → Grantable (meant (s .policy)) (s .m) t (stepOf answer) processors
+  pub held : isAccepted answer ≡ true → SharesOf (t .rows) (t .n) (stepOf answer) shares
 
 -- what the writing of a plan leaves in the two outputs
 pub record Leaves (h : Handed ℕ) (s : Settings) (rows : List Task) (n : ℕ) (oldPeriods oldProcessors periods processors : List ℕ) : Type 0 where

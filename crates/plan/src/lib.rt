@@ -9,13 +9,17 @@ use kinds::Settings;
 use kinds::Table;
 ghost use mathlib.Core.List.{_++_};
 ghost use mathlib.Core.Path.{_≡_};
-ghost use Prim.Native.Nat.{ℕ, _≤_};
+ghost use Prim.Native.Nat.{ℕ, _≤_, _<_};
 ghost use lib.ListN.{length, getD, drop};
 ghost use Rattle.ground.specs.Folds.{listTo};
 ghost use Rattle.kinds.specs.Answer.{handed};
 ghost use Rattle.kinds.specs.Limits.{mostTasks};
-ghost use Rattle.share.specs.Table.{GoodTable, periodsAt};
-ghost use Rattle.plan.specs.Plan.{decided, processorsAt, Grantable, MayGrant, Leaves};
+ghost use Rattle.kinds.specs.Task.{at};
+ghost use Rattle.share.specs.Share.{leastOf};
+ghost use Rattle.share.specs.Table.{GoodTable};
+ghost use Rattle.springs.specs.Columns.{periodOn};
+ghost use Rattle.fit.specs.Fit.{loadIn};
+ghost use Rattle.plan.specs.Plan.{decided, processorOn, Placeable, MayGrant, Leaves};
 
 // What an admission and the search for a step come to.
 pub fn decide(admission: Admission, step: Step) -> Answer
@@ -37,14 +41,14 @@ fn stepped(step: Step) -> Answer
     }
 }
 
-// Writes the period of each task at step k, and nothing past them.
-pub fn write_periods(table: Table, k: u32, out: &mut [u32])
-    requires { ⌜ GoodTable table × (table .n ≤ length (now out)) ⌝ }
-    ensures { λ _. ⌜ now (out .exit) ≡ periodsAt (table .rows) (table .n) k ++ drop (table .n) (now (out .entry)) ⌝ }
+// Writes the period that its share allows each task, and nothing past them.
+fn write_periods(table: Table, shares: &[u32; Table::MOST_TASKS], out: &mut [u32])
+    requires { ⌜ GoodTable table × (table .n ≤ length (now out)) × ((i : ℕ) → i < table .n → leastOf (at (table .rows) i) ≤ getD (now shares) i 0) ⌝ }
+    ensures { λ _. ⌜ now (out .exit) ≡ listTo (periodOn (table .rows) (now (shares .entry))) (table .n) ++ drop (table .n) (now (out .entry)) ⌝ }
 {
     let n = table.n;
     for i in 0..n {
-        out[i] = share::period_at(table.rows[i], k);
+        out[i] = springs::period_on(table.rows[i], shares[i]);
     }
 }
 
@@ -58,14 +62,19 @@ fn write_front(from: [u16; Table::MOST_TASKS], n: usize, out: &mut [u16])
     }
 }
 
-// Writes the processor of each task at step k, at which the table passes, and nothing past them.
-pub fn write_processors(policy: Policy, m: u16, table: Table, k: u32, out: &mut [u16])
-    requires { ⌜ Grantable policy m table k (length (now out)) ⌝ }
-    ensures { λ _. ⌜ now (out .exit) ≡ processorsAt policy m (table .rows) (table .n) k ++ drop (table .n) (now (out .entry)) ⌝ }
+// Writes the processor of each of n tasks with these loads, which pass, and nothing past them.
+fn write_processors(
+    policy: Policy,
+    m: u16,
+    loads: &[u32; Table::MOST_TASKS],
+    n: usize,
+    out: &mut [u16],
+)
+    requires { ⌜ Placeable policy m (now loads) n (length (now out)) ⌝ }
+    ensures { λ _. ⌜ now (out .exit) ≡ listTo (processorOn policy m (loadIn (now (loads .entry)))) n ++ drop n (now (out .entry)) ⌝ }
 {
-    let n = table.n;
     if policy.is_first_fit() {
-        let trial = fit::first_fit(table, m as usize, k);
+        let trial = fit::first_fit(loads, n, m as usize);
         let processors = trial.processors;
         write_front(processors, n, out);
     } else {
@@ -73,21 +82,21 @@ pub fn write_processors(policy: Policy, m: u16, table: Table, k: u32, out: &mut 
     }
 }
 
-// Writes what an answer grants to the two lent outputs: an accepted plan, or nothing.
+// Writes what an answer grants to the two lent outputs: an accepted plan, or nothing. The shares of the answer's step are at hand.
 pub fn grant(
     answer: Answer,
     table: Table,
     settings: Settings,
+    shares: &[u32; Table::MOST_TASKS],
     periods: &mut [u32],
     processors: &mut [u16],
 )
-    requires { ⌜ MayGrant answer settings table (length (now periods)) (length (now processors)) ⌝ }
+    requires { ⌜ MayGrant answer settings table (now shares) (length (now periods)) (length (now processors)) ⌝ }
     ensures { λ _. ⌜ Leaves (handed answer) settings (table .rows) (table .n) (now (periods .entry)) (now (processors .entry)) (now (periods .exit)) (now (processors .exit)) ⌝ }
 {
     if answer.accepted() {
-        let k = answer.step();
         let asked = settings.policy;
-        write_periods(table, k, periods);
-        write_processors(asked.meant(), settings.m, table, k, processors);
+        write_periods(table, shares, periods);
+        write_processors(asked.meant(), settings.m, shares, table.n, processors);
     }
 }

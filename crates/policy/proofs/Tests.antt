@@ -4,7 +4,7 @@ use Prim.Native.Nat.{ℕ, suc, _+_, _-_, _*_, _≤_, _<_}
 use mathlib.Core.Bool.{true, false}
 use mathlib.Core.List.{List}
 use mathlib.Core.Path.{_≡_, refl, sym, ap, ap₂, _∙_}
-use native.Mathlib.Nat.{mul-le-mul-left}
+use native.Mathlib.Nat.{mul-le-mul-left, mul-le-mul-right}
 use native.Mathlib.Omega.{arith}
 use lib.Dec.{leb}
 use lib.IntN.{pos, negsuc, subℕ}
@@ -12,17 +12,17 @@ use borrow.Author.Tests.{leb-true, leb-false, le-leb}
 use Rattle.ground.specs.Folds.{sumTo, maxTo}
 use Rattle.ground.specs.Least.{Rising}
 use Rattle.ground.proofs.Cases.{by-bool, true-false}
-use Rattle.ground.proofs.Folds.{sum-le, max-falls, max-gap, sum-cong, max-cong}
+use Rattle.ground.proofs.Folds.{sum-le, term-le-sum, max-to-le, max-falls, max-gap, sum-cong, max-cong}
 use Rattle.kinds.specs.declared.Task.{Task}
 use Rattle.kinds.specs.declared.Policy.{Policy}
 use Rattle.kinds.specs.declared.Policy.the-variants.{Pooled, GlobalEdf, GlobalRm, FirstFit, Further}
-use Rattle.kinds.specs.Limits.{scale}
+use Rattle.kinds.specs.Limits.{scale, mostProcessors}
 use Rattle.kinds.specs.Policy.{hasFormula, isFirstFit}
 use Rattle.kinds.specs.Task.{at}
 use Rattle.share.specs.Table.{shares}
 use Rattle.share.proofs.Tasks.{falls}
 use Rattle.fit.specs.Fit.{fits}
-use Rattle.fit.proofs.Placing.{fits-same}
+use Rattle.fit.proofs.Placing.{fits-within, fits-same}
 use Rattle.policy.specs.declared.Weights.{Weights}
 use Rattle.policy.specs.Sides.{leftSide, rightSide, left, right, weightsOf, marginOf, TotalIs}
 use Rattle.policy.specs.Passing.{holds, passes, passesAt}
@@ -134,6 +134,20 @@ module _ (p : Policy) (m : ℕ) (load : ℕ → ℕ) (n : ℕ) (w : Weights) (su
   pub margin-worked-out : subℕ r l ≡ marginOf p m load n
   unfolding marginOf
   margin-worked-out = ap₂ subℕ right-worked-out left-worked-out
+
+-- loads that add up to more than the processors have pass under no policy
+pub passes-within : (p : Policy) (m : ℕ) (load : ℕ → ℕ) (n : ℕ) → 1 ≤ m → m ≤ mostProcessors → passes p m load n ≡ true → sumTo load n ≤ scale * m
+unfolding passes
+passes-within Pooled m load n some few t = omega (arith, leb-true (sumTo load n) (m * scale) t)
+passes-within GlobalEdf m load n some few t = omega (arith, leb-true (sumTo load n + (m - 1) * maxTo load n) (m * scale) t)
+passes-within GlobalRm m load n some few t =
+    let h = leb-true (2 * sumTo load n + m * maxTo load n) (m * scale + 2 * maxTo load n) t in
+    omega (arith, h, mul-le-mul-right (maxTo load n) some, max-to-le load n (sumTo load n) (term-le-sum load n))
+passes-within FirstFit m load n some few t = fits-within m load n few t
+passes-within (Further q) m load n some few t = true-false t refl
+
+pub too-much : (p : Policy) (m : ℕ) (load : ℕ → ℕ) (n : ℕ) → 1 ≤ m → m ≤ mostProcessors → scale * m < sumTo load n → passes p m load n ≡ false
+too-much p m load n some few h = by-bool (passes p m load n) (λ t. absurd (omega (arith, passes-within p m load n some few t))) (λ f. f)
 
 -- passing and the margin look at the loads of the first n tasks only
 module _ (p : Policy) (m : ℕ) (f g : ℕ → ℕ) (n : ℕ) (h : (i : ℕ) → i < n → f i ≡ g i) where

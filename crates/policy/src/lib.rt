@@ -1,13 +1,14 @@
-// The four policies: the sum and the max of the shares at a step, the two sides of a policy's test, passing and the margin. Contracts
-// cite `specs/Sides` and `specs/Passing`.
+// The four policies over any loads: their sum and max, the two sides of a policy's test, passing and the margin. Contracts cite
+// `specs/Sides` and `specs/Passing`.
 use kinds::Policy;
 use kinds::Share;
 use kinds::Table;
 ghost use mathlib.Core.Path.{_≡_};
 ghost use Prim.Native.Nat.{_≤_};
 ghost use lib.IntN.{subℕ};
+ghost use Rattle.ground.specs.Folds.{sumTo};
 ghost use Rattle.kinds.specs.Limits.{scale, mostProcessors};
-ghost use Rattle.share.specs.Table.{GoodTable, shares};
+ghost use Rattle.fit.specs.Fit.{loadIn, Loads};
 ghost use Rattle.policy.specs.Sides.{weightsOf, Light, left, right, SideIs, TotalIs, marginOf};
 ghost use Rattle.policy.specs.Passing.{passes};
 
@@ -75,51 +76,71 @@ pub fn right_of(w: Weights, max: u64) -> u64
     w.r + w.c * max
 }
 
-// The sum and the max of the loads at a step.
+// The sum and the max of some loads.
 pub struct Total {
     pub sum: u64,
     pub max: u64,
 }
 
-pub fn total_at(table: Table, k: u32) -> Total
-    requires { ⌜ GoodTable table ⌝ }
-    ensures { λ r. ⌜ TotalIs (shares (table .rows) k) (table .n) (r .sum) (r .max) ⌝ }
+// The total of n loads. 32 bits hold it, and are twice as fast as 64.
+pub fn total_of(loads: &[u32; Table::MOST_TASKS], n: usize) -> Total
+    requires { ⌜ Loads (now loads) n ⌝ }
+    ensures { λ r. ⌜ TotalIs (loadIn (now (loads .entry))) n (r .sum) (r .max) ⌝ }
 {
-    let n = table.n;
-    let mut sum: u64 = 0;
-    let mut max: u64 = 0;
+    let mut sum: u32 = 0;
+    let mut max: u32 = 0;
     for i in 0..n {
-        let load = share::load_at(table.rows[i], k);
+        let load = loads[i];
         sum += load;
-        max = ground::larger(max, load);
+        max = ground::later(max, load);
     }
-    Total { sum, max }
+    Total {
+        sum: ground::wide(sum),
+        max: ground::wide(max),
+    }
 }
 
-// Whether the table passes the policy's test at step k.
-pub fn passes_at(policy: Policy, m: u16, table: Table, k: u32) -> bool
-    requires { ⌜ GoodTable table × (1 ≤ m) × (m ≤ mostProcessors) ⌝ }
-    ensures { λ r. ⌜ r ≡ passes policy m (shares (table .rows) k) (table .n) ⌝ }
+// Whether n tasks with these loads pass the policy's test on m processors.
+pub fn passes(policy: Policy, m: u16, loads: &[u32; Table::MOST_TASKS], n: usize) -> bool
+    requires { ⌜ Loads (now loads) n × (1 ≤ m) × (m ≤ mostProcessors) ⌝ }
+    ensures { λ r. ⌜ r ≡ passes policy m (loadIn (now (loads .entry))) n ⌝ }
 {
     if policy.has_formula() {
         let w = weights_of(policy, m);
-        let total = total_at(table, k);
+        let total = total_of(loads, n);
         return left_of(w, total.sum, total.max) <= right_of(w, total.max);
     }
     if policy.is_first_fit() {
-        let trial = fit::first_fit(table, m as usize, k);
+        let trial = fit::first_fit(loads, n, m as usize);
         return trial.placed;
     }
     false
 }
 
+// The same with the sum of the loads at hand: where they add up to more than the processors have, no policy passes and none is tried.
+pub fn passes_summed(
+    policy: Policy,
+    m: u16,
+    loads: &[u32; Table::MOST_TASKS],
+    n: usize,
+    sum: u64,
+) -> bool
+    requires { ⌜ Loads (now loads) n × (1 ≤ m) × (m ≤ mostProcessors) × (sum ≡ sumTo (loadIn (now loads)) n) ⌝ }
+    ensures { λ r. ⌜ r ≡ passes policy m (loadIn (now (loads .entry))) n ⌝ }
+{
+    if m as u64 * Share::SCALE < sum {
+        return false;
+    }
+    passes(policy, m, loads, n)
+}
+
 // The right side of the test minus the left, as a signed number.
-pub fn margin_at(policy: Policy, m: u16, table: Table, k: u32) -> i64
-    requires { ⌜ GoodTable table × (1 ≤ m) × (m ≤ mostProcessors) ⌝ }
-    ensures { λ r. ⌜ r ≡ marginOf policy m (shares (table .rows) k) (table .n) ⌝ }
+pub fn margin_of(policy: Policy, m: u16, loads: &[u32; Table::MOST_TASKS], n: usize) -> i64
+    requires { ⌜ Loads (now loads) n × (1 ≤ m) × (m ≤ mostProcessors) ⌝ }
+    ensures { λ r. ⌜ r ≡ marginOf policy m (loadIn (now (loads .entry))) n ⌝ }
 {
     let w = weights_of(policy, m);
-    let total = total_at(table, k);
+    let total = total_of(loads, n);
     difference(right_of(w, total.max), left_of(w, total.sum, total.max))
 }
 

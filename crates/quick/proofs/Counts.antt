@@ -11,7 +11,7 @@ use Rattle.ground.specs.Folds.{anyTo, countTo}
 use Rattle.ground.proofs.Cases.{by-bool, by-le}
 use Rattle.ground.proofs.Folds.{any-has, count-cong, count-le, count-none, count-split}
 use Rattle.policy.specs.Looks.{isNew, counts, distinct, distinctBelow}
-use Rattle.stretch.specs.Next.{Next}
+use Rattle.division.specs.Next.{Next}
 
 -- the tasks that are the first with the saturation step q are one, or none
 one-new : (s : ℕ → ℕ) (q n : ℕ) → countTo (λ i. both (eqb (s i) q) (isNew s i)) n ≡ bit (anyTo (λ j. eqb (s j) q) n)

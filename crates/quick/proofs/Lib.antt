@@ -3,4 +3,3 @@ pub mod Looking
 pub mod Loop
 pub mod Served
 pub mod Promises
-pub mod Granting

@@ -12,10 +12,12 @@ use Rattle.ground.proofs.Folds.{le-max-to, max-to-le}
 use Rattle.ground.proofs.Least.{least-is, least-unique}
 use Rattle.policy.specs.declared.Weights.{Weights}
 use Rattle.policy.specs.Looks.{distinctBelow, looksFor}
-use Rattle.stretch.specs.Spring.{Spring, weighedAt, saturations}
-use Rattle.stretch.specs.Next.{Next}
-use Rattle.stretch.specs.Division.{Fair, divided}
-use Rattle.stretch.proofs.Stretches.{weighed-rising, fails-before, divided-least, divided-most}
+use Rattle.springs.specs.declared.Spring.{Spring}
+use Rattle.springs.specs.Spring.{saturations}
+use Rattle.division.specs.Weighed.{weighedAt}
+use Rattle.division.specs.Next.{Next}
+use Rattle.division.specs.Division.{Fair, divided}
+use Rattle.division.proofs.Stretches.{weighed-rising, fails-before, divided-least, divided-most}
 use Rattle.quick.specs.Search.{Failed, SearchEnds}
 use Rattle.quick.proofs.Counts.{below-same, below-next, below-most, below-one, below-all}
 

@@ -10,10 +10,13 @@ use borrow.Author.Tests.{eq-eqb, ne-eqb}
 use Rattle.ground.specs.declared.Step.the-variants.{At, Nothing}
 use Rattle.kinds.specs.Limits.{mostTasks}
 use Rattle.policy.specs.declared.Weights.{Weights}
-use Rattle.stretch.specs.Spring.{Spring, weighedAt, saturations, Saturates}
-use Rattle.stretch.specs.Next.{Next, nextTo}
-use Rattle.stretch.specs.Division.{Fair, divided, Stretches}
-use Rattle.stretch.proofs.Nexts.{next-is, next-none, next-cong}
+use Rattle.springs.specs.declared.Spring.{Spring}
+use Rattle.springs.specs.Spring.{saturations}
+use Rattle.springs.specs.Columns.{Saturates}
+use Rattle.division.specs.Weighed.{weighedAt}
+use Rattle.division.specs.Next.{Next, nextTo}
+use Rattle.division.specs.Division.{Fair, divided, Stretches}
+use Rattle.division.proofs.Nexts.{next-is, next-none, next-cong}
 use Rattle.quick.specs.declared.Search.{Search}
 use Rattle.quick.specs.Search.{dueAfter, OneLook, Searchable, Failed, SearchEnds}
 use Rattle.quick.proofs.Looking.{ends-at-zero, failed-at-zero, ends-nowhere, failed-next, ends-divided, looks-left}

@@ -27,9 +27,11 @@ use Rattle.policy.proofs.LookCount.{for-same, looks-bound}
 use Rattle.policy.proofs.Tests.{passes-weighed, passes-same}
 use Rattle.admission.specs.declared.Admission as adm
 use Rattle.admission.specs.Admission.{admission}
-use Rattle.stretch.specs.Spring.{Springs, springsOf, saturations, weighed, weighedAt, sharesOn, Sprung}
-use Rattle.stretch.specs.Division.{Fair}
-use Rattle.stretch.proofs.Columns.{shares-are, saturations-are}
+use Rattle.springs.specs.Spring.{sharesOn, saturations}
+use Rattle.springs.specs.Columns.{Columns, springsIn, Sprung}
+use Rattle.division.specs.Weighed.{weighed, weighedAt}
+use Rattle.division.specs.Division.{Fair}
+use Rattle.springs.proofs.Columns.{shares-are, saturations-are}
 use Rattle.quick.specs.declared.Ended.{Ended}
 use Rattle.quick.specs.Looked.{looksAfter, looks}
 use Rattle.quick.specs.Search.{SearchEnds, LeastFound}
@@ -50,27 +52,27 @@ formula GlobalRm a b = refl
 formula FirstFit a b = true-false refl b
 formula (Further q) a b = true-false refl a
 
-module _ (p : Policy) (m : ℕ) (rows : List Task) (n : ℕ) (s : Springs) (w : Sprung rows n s) (f : hasFormula p ≡ true) where
+module _ (p : Policy) (m : ℕ) (rows : List Task) (n : ℕ) (s : Columns) (w : Sprung rows n s) (f : hasFormula p ≡ true) where
   -- the test on the springs is the policy's on the shares
-  test-is : (k : ℕ) → weighedAt (weightsOf p m) (springsOf s) n k ≡ passesAt p m rows n k
+  test-is : (k : ℕ) → weighedAt (weightsOf p m) (springsIn s) n k ≡ passesAt p m rows n k
   unfolding weighed
   test-is k =
-      sym (passes-weighed p m (sharesOn (springsOf s) k) n f)
-      ∙ passes-same p m (sharesOn (springsOf s) k) (shares rows k) n (λ i l. shares-are rows n s w k i l)
+      sym (passes-weighed p m (sharesOn (springsIn s) k) n f)
+      ∙ passes-same p m (sharesOn (springsIn s) k) (shares rows k) n (λ i l. shares-are rows n s w k i l)
 
-  full-is : maxTo (saturations (springsOf s)) n ≡ fullCompression rows n
+  full-is : maxTo (saturations (springsIn s)) n ≡ fullCompression rows n
   unfolding fullCompression
-  full-is = max-cong (saturations (springsOf s)) (λ i. saturationAt (at rows i)) n (saturations-are rows n s w)
+  full-is = max-cong (saturations (springsIn s)) (λ i. saturationAt (at rows i)) n (saturations-are rows n s w)
 
-  looks-are : (step : Step) → looksFor (saturations (springsOf s)) n step ≡ looksOf rows n step
+  looks-are : (step : Step) → looksFor (saturations (springsIn s)) n step ≡ looksOf rows n step
   unfolding looksOf
-  looks-are step = for-same (saturations (springsOf s)) (λ i. saturationAt (at rows i)) n (saturations-are rows n s w) step
+  looks-are step = for-same (saturations (springsIn s)) (λ i. saturationAt (at rows i)) n (saturations-are rows n s w) step
 
-  pub least-found : (r : Ended) → SearchEnds (weighedAt (weightsOf p m) (springsOf s) n) (saturations (springsOf s)) n r → LeastFound p m rows n r
+  pub least-found : (r : Ended) → SearchEnds (weighedAt (weightsOf p m) (springsIn s) n) (saturations (springsIn s)) n r → LeastFound p m rows n r
   unfolding leastStep
   least-found r e =
       let step : r .step ≡ leastStep p m rows n =
-      e .least ∙ (least-cong (weighedAt (weightsOf p m) (springsOf s) n) (passesAt p m rows n) _ test-is ∙ ap (leastUpTo (passesAt p m rows n)) full-is) in
+      e .least ∙ (least-cong (weighedAt (weightsOf p m) (springsIn s) n) (passesAt p m rows n) _ test-is ∙ ap (leastUpTo (passesAt p m rows n)) full-is) in
       record { least = step; count = e .count ∙ (looks-are (r .step) ∙ ap (looksOf rows n) step) }
 
 -- the looks of a call, as the code has them

@@ -1,3 +1,3 @@
 pub mod Search
 pub mod Looked
-pub mod Sprung
+pub mod Held

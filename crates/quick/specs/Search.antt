@@ -13,8 +13,10 @@ use Rattle.kinds.specs.declared.Policy.{Policy}
 use Rattle.kinds.specs.Limits.{mostTasks}
 use Rattle.policy.specs.Looks.{distinctBelow, looksFor, looksOf}
 use Rattle.policy.specs.Passing.{leastStep}
-use Rattle.stretch.specs.Spring.{Spring, AllWithin, Saturates}
-use Rattle.stretch.specs.Next.{nextTo}
+use Rattle.springs.specs.declared.Spring.{Spring}
+use Rattle.springs.specs.Spring.{AllWithin}
+use Rattle.springs.specs.Columns.{Saturates}
+use Rattle.division.specs.Next.{nextTo}
 use Rattle.quick.specs.declared.Search.{Search}
 use Rattle.quick.specs.declared.Ended.{Ended}
 

@@ -4,27 +4,21 @@
 use admission::Admission;
 use ground::Step;
 use kinds::Answer;
-use kinds::Refusal;
 use kinds::Settings;
 use kinds::Table;
 use policy::Weights;
-ghost use mathlib.Core.Bool.{false};
-ghost use mathlib.Core.List.{_++_};
 ghost use mathlib.Core.Path.{_≡_};
-ghost use Prim.Native.Nat.{ℕ, _≤_};
-ghost use lib.ListN.{length, drop};
-ghost use Rattle.ground.specs.Folds.{listTo};
-ghost use Rattle.kinds.specs.Answer.{handed};
+ghost use Prim.Native.Nat.{_≤_};
+ghost use lib.ListN.{length};
 ghost use Rattle.kinds.specs.Limits.{mostTasks};
 ghost use Rattle.policy.specs.Sides.{Light};
-ghost use Rattle.share.specs.Table.{GoodTable, periodsAt};
-ghost use Rattle.admission.specs.Admission.{gateOf};
-ghost use Rattle.plan.specs.Plan.{Leaves};
-ghost use Rattle.stretch.specs.Spring.{springIn, weighedAt, saturations, AllWithin, SumIs, columns, Roomy};
-ghost use Rattle.stretch.specs.Division.{Fair};
+ghost use Rattle.springs.specs.Spring.{saturations, SumIs, AllWithin};
+ghost use Rattle.springs.specs.Columns.{columns, springIn, Roomy};
+ghost use Rattle.division.specs.Weighed.{weighedAt};
+ghost use Rattle.division.specs.Division.{Fair};
 ghost use Rattle.quick.specs.Search.{dueAfter, OneLook, Searchable, SearchEnds};
 ghost use Rattle.quick.specs.Looked.{FoundLooked, MeetsLooked};
-ghost use Rattle.quick.specs.Sprung.{SharesIn, AdmittedSprung, FoundSprung, MayGrantSprung};
+ghost use Rattle.quick.specs.Held.{FoundLookedHeld, HeldAt};
 
 // What the quick finder answers, and the looks that it made.
 pub struct Looked {
@@ -66,15 +60,7 @@ pub fn find(table: Table, settings: Settings, periods: &mut [u32], processors: &
         &mut saturation,
     );
     let answer = found.answer;
-    grant(
-        answer,
-        table,
-        settings,
-        &largest,
-        &least,
-        periods,
-        processors,
-    );
+    plan::grant(answer, table, settings, &largest, periods, processors);
     found
 }
 
@@ -97,7 +83,7 @@ pub fn decide(table: Table, settings: Settings, room: usize) -> Looked
     )
 }
 
-// The same, with the springs worked out into four lent columns.
+// The same in lent columns: of an acceptance the first holds the shares of its step.
 fn decide_in(
     table: Table,
     settings: Settings,
@@ -108,11 +94,12 @@ fn decide_in(
     saturation: &mut [u32; Table::MOST_TASKS],
 ) -> Looked
     requires { ⌜ Roomy (columns (now largest) (now least) (now elasticity) (now saturation)) ⌝ }
-    ensures { λ r. ⌜ FoundSprung settings (table .rows) (table .n) room r (columns (now (largest .exit)) (now (least .exit)) (now (elasticity .exit)) (now (saturation .exit))) ⌝ }
+    ensures { λ r. ⌜ FoundLookedHeld settings (table .rows) (table .n) room r (now (largest .exit)) ⌝ }
 {
-    let admission = admit(
+    let admission = admission::admit(
         table,
         settings,
+        false,
         room,
         largest,
         least,
@@ -130,95 +117,26 @@ fn decide_in(
     let w = policy::weights_of(asked.meant(), settings.m);
     let ended = search_columns(w, largest, least, elasticity, saturation, table.n);
     let step = ended.step;
+    let_down_to(step, largest, least, elasticity, table.n);
     Looked {
         answer: plan::decide(admission, step),
         looks: ended.looks,
     }
 }
 
-// The admission, refusals 1 to 6. The walk that judges the records works their springs out.
-fn admit(
-    table: Table,
-    settings: Settings,
-    room: usize,
-    largest: &mut [u32; Table::MOST_TASKS],
-    least: &mut [u32; Table::MOST_TASKS],
-    elasticity: &mut [u32; Table::MOST_TASKS],
-    saturation: &mut [u32; Table::MOST_TASKS],
-) -> Admission
-    requires { ⌜ Roomy (columns (now largest) (now least) (now elasticity) (now saturation)) ⌝ }
-    ensures { λ r. ⌜ AdmittedSprung settings (table .rows) (table .n) room r (columns (now (largest .exit)) (now (least .exit)) (now (elasticity .exit)) (now (saturation .exit))) ⌝ }
-{
-    let n = table.n;
-    let gate = gate_of(settings, n, room);
-    let Admission::Admitted = gate else {
-        return gate;
-    };
-    let bad = stretch::springs_of(table, largest, least, elasticity, saturation);
-    if bad < n {
-        return Admission::Refused(Refusal::BadRecord(bad));
-    }
-    Admission::Admitted
-}
-
-// Refusals 1 to 5. Policy 4 is not served.
-fn gate_of(settings: Settings, n: usize, room: usize) -> Admission
-    ensures { λ r. ⌜ r ≡ gateOf false settings n room ⌝ }
-{
-    let asked = settings.policy;
-    let policy = asked.meant();
-    admission::gate(
-        policy.is_further(),
-        settings.m,
-        n,
-        policy.is_first_fit(),
-        room,
-    )
-}
-
-// Writes what an answer grants to the two lent outputs: an accepted plan, or nothing. The largest and least shares are at hand.
-fn grant(
-    answer: Answer,
-    table: Table,
-    settings: Settings,
-    largest: &[u32; Table::MOST_TASKS],
+// Lets a column of largest shares down to those of a step, if there is one.
+fn let_down_to(
+    step: Step,
+    shares: &mut [u32; Table::MOST_TASKS],
     least: &[u32; Table::MOST_TASKS],
-    periods: &mut [u32],
-    processors: &mut [u16],
+    elasticity: &[u32; Table::MOST_TASKS],
+    n: usize,
 )
-    requires { ⌜ MayGrantSprung answer settings table (now largest) (now least) (length (now periods)) (length (now processors)) ⌝ }
-    ensures { λ _. ⌜ Leaves (handed answer) settings (table .rows) (table .n) (now (periods .entry)) (now (processors .entry)) (now (periods .exit)) (now (processors .exit)) ⌝ }
+    requires { ⌜ (n ≤ mostTasks) × (length (now shares) ≡ mostTasks) × AllWithin (springIn (now shares) (now least) (now elasticity)) n ⌝ }
+    ensures { λ _. ⌜ HeldAt step (springIn (now (shares .entry)) (now (least .entry)) (now (elasticity .entry))) n (now (shares .exit)) ⌝ }
 {
-    if answer.accepted() {
-        write_periods(table, largest, least, answer.step(), periods);
-        write_any(table.n, processors);
-    }
-}
-
-// Writes the period of each task at step k, and nothing past them.
-fn write_periods(
-    table: Table,
-    largest: &[u32; Table::MOST_TASKS],
-    least: &[u32; Table::MOST_TASKS],
-    k: u32,
-    out: &mut [u32],
-)
-    requires { ⌜ GoodTable table × (table .n ≤ length (now out)) × SharesIn (table .rows) (table .n) (now largest) (now least) ⌝ }
-    ensures { λ _. ⌜ now (out .exit) ≡ periodsAt (table .rows) (table .n) k ++ drop (table .n) (now (out .entry)) ⌝ }
-{
-    let n = table.n;
-    for i in 0..n {
-        out[i] = stretch::period_on(table.rows[i], largest[i], least[i], k);
-    }
-}
-
-// Writes 0 ("any") for the processor of each of n tasks, and nothing past them.
-fn write_any(n: usize, out: &mut [u16])
-    requires { ⌜ n ≤ length (now out) ⌝ }
-    ensures { λ _. ⌜ now (out .exit) ≡ listTo (λ (i : ℕ). 0) n ++ drop n (now (out .entry)) ⌝ }
-{
-    for j in 0..n {
-        out[j] = 0;
+    if let Step::At(k) = step {
+        springs::shares_at(shares, least, elasticity, n, k);
     }
 }
 
@@ -235,8 +153,8 @@ fn look(
     requires { ⌜ Light w × (n ≤ mostTasks) × AllWithin (springIn (now largest) (now least) (now elasticity)) n × (before .looks ≤ mostTasks) × (due ≡ dueAfter (saturations (springIn (now largest) (now least) (now elasticity))) n before) ⌝ }
     ensures { λ after. ⌜ OneLook (weighedAt w (springIn (now (largest .entry)) (now (least .entry)) (now (elasticity .entry))) n) (saturations (springIn (now (largest .entry)) (now (least .entry)) (now (elasticity .entry)))) n before after × SumIs (springIn (now (largest .entry)) (now (least .entry)) (now (elasticity .entry))) n (after .step) (after .sum) ⌝ }
 {
-    let total = stretch::total_at(largest, least, elasticity, n, due);
-    let passed = stretch::weighs(w, total);
+    let total = division::total_at(largest, least, elasticity, n, due);
+    let passed = division::weighs(w, total);
     Search {
         looks: before.looks + 1,
         step: due,
@@ -272,12 +190,12 @@ fn search_columns(
             looks: search.looks,
         };
     }
-    let mut due = stretch::next_due(saturation, n, 0);
+    let mut due = division::next_due(saturation, n, 0);
     while due != 0 {
         let sum = search.sum;
         search = look(w, largest, least, elasticity, n, search, due);
         if search.passed {
-            let step = stretch::divide(
+            let step = division::divide(
                 w,
                 largest,
                 least,
@@ -293,7 +211,7 @@ fn search_columns(
                 looks: search.looks,
             };
         }
-        due = stretch::next_due(saturation, n, search.step);
+        due = division::next_due(saturation, n, search.step);
     }
     Ended {
         step: Step::Nothing,

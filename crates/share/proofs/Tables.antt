@@ -1,6 +1,6 @@
--- What document 01 says of full compression and of the first bad record, and the walks over a table that work them out.
+-- What document 01 says of full compression and of the first bad record, and the walk over a table that finds it.
 -- Assumes nothing.
-use Prim.Native.Nat.{ℕ, _+_, _≤_, _<_, max}
+use Prim.Native.Nat.{ℕ, _+_, _≤_, _<_}
 use mathlib.Core.Bool.{Bool, true, false, not}
 use mathlib.Core.List.{List}
 use mathlib.Core.Path.{_≡_, sym, ap, _∙_}
@@ -8,14 +8,14 @@ use native.Mathlib.Omega.{arith}
 use Rattle.ground.specs.First.{IsFirst}
 use Rattle.ground.proofs.Cases.{by-bool, true-false}
 use Rattle.ground.proofs.First.{first-is, first-here, first-more, first-none, first-cong}
-use Rattle.ground.proofs.Folds.{max-none, max-more, le-max-to, max-to-le, max-cong}
+use Rattle.ground.proofs.Folds.{le-max-to, max-to-le, max-cong}
 use Rattle.ground.proofs.Buffer.{list-cong}
 use Rattle.kinds.specs.declared.Task.{Task}
 use Rattle.kinds.specs.declared.Table.{Table}
 use Rattle.kinds.specs.Limits.{mostTasks}
 use Rattle.kinds.specs.Task.{at, Good, isGood}
 use Rattle.kinds.proofs.Records.{good-is}
-use Rattle.share.specs.Share.{saturationAt, periodAt, StepIs}
+use Rattle.share.specs.Share.{saturationAt, periodAt}
 use Rattle.share.specs.Table.{fullCompression, firstBad, periodsAt, GoodTable}
 use Rattle.share.proofs.Tasks.{saturation-most}
 
@@ -32,20 +32,6 @@ full-within rows n b h = max-to-le (λ i. saturationAt (at rows i)) n b h
 -- document 01: "K is never above 999,999."
 pub full-most : (rows : List Task) (n : ℕ) → ((i : ℕ) → i < n → Good (at rows i)) → fullCompression rows n ≤ 999999
 full-most rows n g = full-within rows n 999999 (λ i l. omega (arith, saturation-most (at rows i) (g i l)))
-
--- the walk that works K out
-pub full-start : (rows : List Task) → StepIs (fullCompression rows 0) 0
-unfolding fullCompression
-full-start rows = record { is = sym (max-none (λ j. saturationAt (at rows j))); most = omega arith }
-
-pub full-more : (rows : List Task) (i greatest s r : ℕ) → StepIs (fullCompression rows i) greatest → StepIs (saturationAt (at rows i)) s
-    → r ≡ max greatest s → StepIs (fullCompression rows (i + 1)) r
-unfolding fullCompression
-full-more rows i greatest s r p q e =
-    record {
-      is = omega (arith, max-more (λ j. saturationAt (at rows j)) i, p .is, q .is);
-      most = omega (arith, p .most, q .most);
-    }
 
 -- the first bad record in words: those before it are good, and it is not
 pub first-bad-is : (rows : List Task) (n : ℕ) → IsFirst (λ i. not (isGood (at rows i))) n (firstBad rows n)

@@ -10,7 +10,7 @@ use Rattle.kinds.specs.Task.{Good}
 use Rattle.rule.specs.Rule.{Shortest}
 use Rattle.rule.proofs.Shares.{part-high, part-low, part-falls, share-falls, share-least, share-zero, share-rigid, share-high, share-saturated, share-above, saturation-high}
 use Rattle.rule.proofs.Periods.{period-shortest}
-use Rattle.share.specs.Share.{costOf, largestOf, leastOf, shareAt, saturationAt, periodAt, ShareIs, StepIs, PeriodIs}
+use Rattle.share.specs.Share.{costOf, largestOf, leastOf, shareAt, saturationAt, periodAt, ShareIs}
 
 -- the share never rises with the step
 pub falls : (t : Task) (j k : ℕ) → j ≤ k → shareAt t k ≤ shareAt t j
@@ -83,12 +83,3 @@ module _ (t : Task) (g : Good t) where
 
   pub least-is : (r : ℕ) → r ≡ leastOf t → ShareIs (leastOf t) r
   least-is r e = record { is = e; some = omega (arith, least-some); most = omega (arith, least-largest, largest-most) }
-
-  pub share-is : (k r : ℕ) → r ≡ shareAt t k → ShareIs (shareAt t k) r
-  share-is k r e = record { is = e; some = omega (arith, share-some k); most = omega (arith, share-most k) }
-
-  pub saturation-is : (r : ℕ) → r ≡ saturationAt t → StepIs (saturationAt t) r
-  saturation-is r e = record { is = e; most = omega (arith, saturation-most) }
-
-  pub period-is : (k r : ℕ) → r ≡ periodAt t k → PeriodIs t k r
-  period-is k r e = record { is = e; most = omega (arith, shortest k .high) }

@@ -1,9 +1,9 @@
 -- Document 01, "Numbers on a task", for a task record.
 -- Assumes nothing.
-use Prim.Native.Nat.{ℕ, _≤_, _<_}
+use Prim.Native.Nat.{ℕ, _≤_}
 use mathlib.Core.Path.{_≡_}
 use Rattle.kinds.specs.declared.Task.{Task}
-use Rattle.kinds.specs.Limits.{scale, longestPeriod}
+use Rattle.kinds.specs.Limits.{scale}
 use Rattle.rule.specs.Rule.{partOf, shareOf, saturationOf, periodOf}
 
 -- the whole cost of a job
@@ -30,11 +30,3 @@ pub record ShareIs (share r : ℕ) : Type 0 where
   pub is : r ≡ share
   pub some : 1 ≤ r
   pub most : r ≤ scale
-
-pub record StepIs (step r : ℕ) : Type 0 where
-  pub is : r ≡ step
-  pub most : r < scale
-
-pub record PeriodIs (t : Task) (k r : ℕ) : Type 0 where
-  pub is : r ≡ periodAt t k
-  pub most : r ≤ longestPeriod

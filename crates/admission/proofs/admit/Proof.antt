@@ -1,33 +1,15 @@
 -- `admission::admit` meets its contract. Assumes nothing.
-use mathlib.Core.Path.{_≡_, sym, _∙_}
+use mathlib.Core.Path.{refl, sym, _∙_}
 use borrow.Author.Tests.{lt-ltb, le-ltb}
-use Rattle.kinds.specs.Policy.{meant}
-use Rattle.admission.specs.Admission.{gateOf, admission}
-use Rattle.admission.proofs.Chain.{gate-passed}
+use Rattle.springs.proofs.Columns.{sprung-front}
+use Rattle.admission.specs.Admission.{admission}
+use Rattle.admission.proofs.Chain.{not-admitted, gate-passed}
 use borrow.Author.Needs.{needs}
 use Rattle.admission.proofs.admit.Statement.{statement}
 use Rattle.admission.proofs.admit.Tie as tie
 
--- the gate as the definition has it
-through : (c : tie.After-gate) → let a = c .before .before .before .before .args in
-    c .gate .result ≡ gateOf (a .serves) (a .settings) (a .table .n) (a .room)
-through c =
-    let u = c .before in
-    let f = u .before in
-    let p = f .before in
-    rw (← p .meant .ensures, ← f .is-further .ensures, ← u .unserved .ensures) (c .gate .ensures)
-
-meant-requires : tie.Need-meant-requires
-meant-requires c κs = search needs
-
-is-further-requires : tie.Need-is-further-requires
-is-further-requires c κs = search needs
-
-unserved-requires : tie.Need-unserved-requires
-unserved-requires c κs = search needs
-
-gate-requires : tie.Need-gate-requires
-gate-requires c κs = search needs
+gate-of-requires : tie.Need-gate-of-requires
+gate-of-requires c κs = search needs
 
 enum-told : tie.Need-enum-told
 enum-told c = search needs
@@ -37,34 +19,49 @@ enum-told-2 c = search needs
 
 returns : tie.Need-returns
 unfolding admission
-returns c = rw (← through (c .before .before), c .enum-told2 .given .1)
+returns c =
+    let g = c .before .before in
+    record {
+      is = rw (← g .gate-of .ensures, c .enum-told2 .given .1);
+      sprung = λ e. not-admitted _ (c .enum-told2 .given .1) e;
+    }
 
-first-bad-requires : tie.Need-first-bad-requires
-first-bad-requires c κs = gate-passed _ _ _ _ _ (sym (through (c .before .before)) ∙ c .enum-told .given .1) .few
+springs-of-requires : tie.Need-springs-of-requires
+springs-of-requires c κs =
+    let t = c .before .before .before .before in
+    let g = t .before .before in
+    (gate-passed _ _ _ _ _ (sym (g .gate-of .ensures) ∙ t .enum-told .given .1) .few, g .before .pre)
 
 returns-2 : tie.Need-returns-2
 unfolding admission
 returns-2 c =
     let b = c .before in
-    rw (← through (b .before .before .before), b .before .enum-told .given .1, ← b .first-bad .ensures, lt-ltb _ _ (c .if1 .taken))
+    let t = b .before .before .before .before .before in
+    record {
+      is =
+          rw (← t .before .before .gate-of .ensures, t .enum-told .given .1, ← b .springs-of .ensures .first, lt-ltb _ _ (c .if1 .taken));
+      sprung = λ e. not-admitted _ refl e;
+    }
 
 returns-3 : tie.Need-returns-3
 unfolding admission
 returns-3 c =
     let b = c .before in
-    rw (← through (b .before .before .before), b .before .enum-told .given .1, ← b .first-bad .ensures, le-ltb _ _ (c .if1 .left))
+    let t = b .before .before .before .before .before in
+    record {
+      is =
+          rw (← t .before .before .gate-of .ensures, t .enum-told .given .1, ← b .springs-of .ensures .first, le-ltb _ _ (c .if1 .left));
+      sprung = λ e. sprung-front _ _ _ _ (c .if1 .left) (b .springs-of .ensures .sprung);
+    }
 
 pub admit-spec : {M : Type 1} → statement M
 admit-spec =
     tie.close
     (tie.spec
-    meant-requires
-    is-further-requires
-    unserved-requires
-    gate-requires
+    gate-of-requires
     enum-told
     enum-told-2
     returns
-    first-bad-requires
+    springs-of-requires
     returns-2
     returns-3)

@@ -2,34 +2,35 @@
 use Prim.Native.Nat.{_-_}
 use native.Mathlib.Omega.{arith}
 use mathlib.Core.Logic.{⊎-elim}
-use Rattle.share.specs.Table.{shares}
+use mathlib.Core.Path.{refl}
+use Rattle.fit.specs.Fit.{loadIn}
 use Rattle.fit.proofs.Walk.{Placed, Passed, passed-none, passed-more, placed-none, placed-all, placed-stuck, placed-more}
 use Rattle.fit.proofs.first_fit.Statement.{statement}
 use Rattle.fit.proofs.first_fit.Tie as tie
 
 abbrev Inv-loop : tie.InvT-loop
-Inv-loop m k table n loads processors i load j₀ j = Passed m loads load j
+Inv-loop loads n m most held processors i load j₀ j = Passed m held load j
 
 abbrev μ-loop : tie.MeasureT-loop
-μ-loop m k table n loads processors i load j₀ j = m - j
+μ-loop loads n m most held processors i load j₀ j = m - j
 
 abbrev Inv-tasks : tie.InvT-tasks
-Inv-tasks m k table n loads₀ processors₀ i₀ loads processors i = Placed m (shares (table .rows) k) n loads processors i
+Inv-tasks loads n m most held₀ processors₀ i₀ held processors i = Placed m (loadIn loads) n held processors i
 
 abbrev μ-tasks : tie.MeasureT-tasks
-μ-tasks m k table n loads₀ processors₀ i₀ loads processors i = n - i
+μ-tasks loads n m most held₀ processors₀ i₀ held processors i = n - i
+
+cast-most : tie.Need-cast-most Inv-loop μ-loop Inv-tasks μ-tasks
+cast-most c = omega arith
 
 tasks-holds : tie.Need-tasks-holds Inv-loop μ-loop Inv-tasks μ-tasks
 tasks-holds c = placed-none _ _ _
 
-mul-load-at : tie.Need-mul-load-at Inv-loop μ-loop Inv-tasks μ-tasks
-mul-load-at c = omega arith
+mul-load : tie.Need-mul-load Inv-loop μ-loop Inv-tasks μ-tasks
+mul-load c = omega arith
 
-element-copy-out-load-at : tie.Need-element-copy-out-load-at Inv-loop μ-loop Inv-tasks μ-tasks
-element-copy-out-load-at c = omega arith
-
-load-at-requires : tie.Need-load-at-requires Inv-loop μ-loop Inv-tasks μ-tasks
-load-at-requires c κs = c .before .before .before .pre .0 .good _ (c .before .tasks-test .taken)
+element-copy-out-load : tie.Need-element-copy-out-load Inv-loop μ-loop Inv-tasks μ-tasks
+element-copy-out-load c = omega arith
 
 loop-holds : tie.Need-loop-holds Inv-loop μ-loop Inv-tasks μ-tasks
 loop-holds c = passed-none _ _ _
@@ -41,7 +42,9 @@ array-read-if1 : tie.Need-array-read-if1 Inv-loop μ-loop Inv-tasks μ-tasks
 array-read-if1 c = omega arith
 
 sub-if1 : tie.Need-sub-if1 Inv-loop μ-loop Inv-tasks μ-tasks
-sub-if1 c = omega arith
+sub-if1 c =
+    let t = c .before .before .before in
+    omega (arith, t .before .before .pre .0 .most _ (t .tasks-test .taken))
 
 add-j : tie.Need-add-j Inv-loop μ-loop Inv-tasks μ-tasks
 add-j c = omega arith
@@ -52,20 +55,22 @@ loop-less c = omega arith
 loop-again : tie.Need-loop-again Inv-loop μ-loop Inv-tasks μ-tasks
 loop-again c = passed-more _ _ _ _ (c .before .before .loop .inv) (c .before .loop-test .left) (omega arith)
 
-mul-loads : tie.Need-mul-loads Inv-loop μ-loop Inv-tasks μ-tasks
-mul-loads c = omega arith
+mul-held : tie.Need-mul-held Inv-loop μ-loop Inv-tasks μ-tasks
+mul-held c = omega arith
 
-array-read-loads : tie.Need-array-read-loads Inv-loop μ-loop Inv-tasks μ-tasks
-array-read-loads c = omega arith
+array-read-held : tie.Need-array-read-held Inv-loop μ-loop Inv-tasks μ-tasks
+array-read-held c = omega arith
 
-add-loads : tie.Need-add-loads Inv-loop μ-loop Inv-tasks μ-tasks
-add-loads c = omega arith
+add-held : tie.Need-add-held Inv-loop μ-loop Inv-tasks μ-tasks
+add-held c =
+    let t = c .before .before .before .before in
+    omega (arith, t .before .before .pre .0 .most _ (t .tasks-test .taken))
 
-mul-loads-2 : tie.Need-mul-loads-2 Inv-loop μ-loop Inv-tasks μ-tasks
-mul-loads-2 c = omega arith
+mul-held-2 : tie.Need-mul-held-2 Inv-loop μ-loop Inv-tasks μ-tasks
+mul-held-2 c = omega arith
 
-array-write-loads : tie.Need-array-write-loads Inv-loop μ-loop Inv-tasks μ-tasks
-array-write-loads c = omega arith
+array-write-held : tie.Need-array-write-held Inv-loop μ-loop Inv-tasks μ-tasks
+array-write-held c = omega arith
 
 add-processors : tie.Need-add-processors Inv-loop μ-loop Inv-tasks μ-tasks
 add-processors c = omega arith
@@ -87,17 +92,20 @@ tasks-less c = omega arith
 
 tasks-again : tie.Need-tasks-again Inv-loop μ-loop Inv-tasks μ-tasks
 tasks-again c =
-    let b = c .before .before in
-    let a = b .before .before .before .before in
-    placed-more _ (shares (a .before .args .t1 .rows) (a .before .args .k)) _ _ _ _ (a .tasks .inv) (b .before .before .before .tasks-test .taken) _ (b .before .load-at .ensures .is) _ (b .loop .inv) (c .before .loop-test .left) (omega arith) (omega arith)
+    let l = c .before .before in
+    let t = l .before .before in
+    let a = t .before .before in
+    let most = a .pre .0 .most _ (t .tasks-test .taken) in
+    placed-more _ (loadIn (a .args .loads .now)) _ _ _ _ (t .before .tasks .inv) (t .tasks-test .taken) _ refl _ (l .loop .inv) (c .before .loop-test .left)
+    (omega (arith, most)) (a .pre .0 .few)
 
 returns : tie.Need-returns Inv-loop μ-loop Inv-tasks μ-tasks
 returns c =
     let a = c .before in
-    let load = shares (a .before .args .t1 .rows) (a .before .args .k) in
+    let load = loadIn (a .before .args .loads .now) in
     ⊎-elim
     (λ w. placed-all _ load _ _ _ _ (a .tasks .inv) (w .left))
-    (λ w. placed-stuck _ load _ _ _ _ (a .tasks .inv) (w .0 .taken) _ (w .2 .ensures .is) _ (w .3 .inv) (w .4 .taken))
+    (λ w. placed-stuck _ load _ _ _ _ (a .tasks .inv) (w .0 .taken) _ refl _ (w .2 .inv) (w .3 .taken))
     (c .tasks-test .came)
 
 pub first-fit-spec : {M : Type 1} → statement M
@@ -108,10 +116,10 @@ first-fit-spec =
     μ-loop
     Inv-tasks
     μ-tasks
+    cast-most
     tasks-holds
-    mul-load-at
-    element-copy-out-load-at
-    load-at-requires
+    mul-load
+    element-copy-out-load
     loop-holds
     mul-if1
     array-read-if1
@@ -119,11 +127,11 @@ first-fit-spec =
     add-j
     loop-less
     loop-again
-    mul-loads
-    array-read-loads
-    add-loads
-    mul-loads-2
-    array-write-loads
+    mul-held
+    array-read-held
+    add-held
+    mul-held-2
+    array-write-held
     add-processors
     cast-processors
     mul-processors

@@ -1,28 +1,27 @@
 -- `plain::find` meets its contract. Assumes nothing.
 use Prim.Native.Nat.{min}
 use mathlib.Core.Bool.{true}
-use mathlib.Core.Path.{_≡_}
 use lib.ListN.{length}
-use Rattle.kinds.specs.Answer.{handed}
 use Rattle.plan.proofs.Found.{may-grant, meets}
-use Rattle.plan.specs.Plan.{found}
+use Rattle.plan.specs.Plan.{FoundHeld}
 use borrow.Author.Needs.{needs}
 use Rattle.plain.proofs.find.Statement.{statement}
 use Rattle.plain.proofs.find.Tie as tie
 
--- the answer is what demand 2 finds in the room of the shorter output
-answered : (c : tie.After-decide) → let a = c .before .before .before .before .args in
-    handed (c .decide .result) ≡ found true (a .settings) (a .table .rows) (a .table .n) (min (length (a .periods .now)) (length (a .processors .now)))
-answered c = rw (c .before .shorter .ensures) at (c .decide .ensures)
+-- the answer is what demand 2 finds in the room of the shorter output, and the first column holds the shares of its step
+answered : (c : tie.After-decide-in) → let a = c .before .before .before .before .before .before .before .before .args in
+    let room = min (length (a .periods .now)) (length (a .processors .now)) in
+    FoundHeld true (a .settings) (a .table .rows) (a .table .n) room (c .decide-in .result) (c .decide-in .last .1 .1 .1 .0)
+answered c = rw (c .before .before .before .before .before .shorter .ensures) at (c .decide-in .ensures)
 
 shorter-requires : tie.Need-shorter-requires
 shorter-requires c κs = search needs
 
-decide-requires : tie.Need-decide-requires
-decide-requires c κs = search needs
+decide-in-requires : tie.Need-decide-in-requires
+decide-in-requires c κs = search needs
 
 grant-requires : tie.Need-grant-requires
-grant-requires c κs = may-grant true _ _ _ _ _ (answered (c .before .before))
+grant-requires c κs = let f = answered (c .before .before .before) in may-grant true _ _ _ _ _ _ (f .answers) (f .held)
 
 same-length : tie.Need-same-length
 same-length c = search needs
@@ -33,9 +32,9 @@ same-length-2 c = search needs
 returns : tie.Need-returns
 returns c =
     let g = c .before .before .before .before in
-    meets true _ _ _ _ _ _ _ _ (answered (g .before .before .before)) (g .grant .ensures)
+    meets true _ _ _ _ _ _ _ _ (answered (g .before .before .before .before) .answers) (g .grant .ensures)
 
 pub find-spec : {M : Type 1} → statement M
 find-spec =
     tie.close
-    (tie.spec shorter-requires decide-requires grant-requires same-length same-length-2 returns)
+    (tie.spec shorter-requires decide-in-requires grant-requires same-length same-length-2 returns)

@@ -1,36 +1,67 @@
 -- `plain::least_step` meets its contract. Assumes nothing.
-use Prim.Native.Nat.{ℕ, _+_, _-_, _≤_, _<_}
-use mathlib.Core.Bool.{false}
-use mathlib.Core.Path.{_≡_, sym, _∙_}
+use Prim.Native.Nat.{_-_, _≤_}
 use native.Mathlib.Omega.{arith}
-use Rattle.ground.proofs.First.{first-more}
-use Rattle.ground.proofs.Least.{least-here, least-none}
-use Rattle.share.specs.Table.{fullCompression}
-use Rattle.policy.specs.Passing.{passesAt, leastStep}
+use Rattle.springs.specs.Columns.{springIn}
+use Rattle.plain.proofs.Stepping.{Stepped, first-loads, stepped-none, stepped-loads, stepped-within, stepped-here, stepped-end, stepped-more}
 use Rattle.plain.proofs.least_step.Statement.{statement}
 use Rattle.plain.proofs.least_step.Tie as tie
 
 abbrev Inv-loop : tie.InvT-loop
-Inv-loop policy m table full k₀ k = (k ≤ full + 1) × ((j : ℕ) → j < k → passesAt policy m (table .rows) (table .n) j ≡ false)
+Inv-loop policy m shares₀ least elasticity saturation n full sum₀ k₀ shares sum k =
+    (k ≤ full) × Stepped policy m (springIn shares₀ least elasticity) n k sum shares
 
 abbrev μ-loop : tie.MeasureT-loop
-μ-loop policy m table full k₀ k = full + 1 - k
+μ-loop policy m shares₀ least elasticity saturation n full sum₀ k₀ shares sum k = full - k
 
 full-compression-requires : tie.Need-full-compression-requires Inv-loop μ-loop
-full-compression-requires c κs = c .pre .0
+full-compression-requires c κs = c .pre .0 .few
+
+total-of-requires : tie.Need-total-of-requires Inv-loop μ-loop
+total-of-requires c κs = let s = c .before .before in first-loads (s .args .shares .now) (s .args .least .now) (s .args .elasticity .now) _ (s .pre .0)
 
 loop-holds : tie.Need-loop-holds Inv-loop μ-loop
-loop-holds c = (omega arith, λ j l. absurd (omega arith))
+loop-holds c =
+    let s = c .before .before .before in
+    (omega arith, stepped-none _ _ _ _ _ (s .args .saturation .now) _ (s .pre .0) _ _ (c .total-of .ensures))
 
-passes-at-requires : tie.Need-passes-at-requires Inv-loop μ-loop
-passes-at-requires c κs = c .before .before .before .pre
+passes-summed-requires : tie.Need-passes-summed-requires Inv-loop μ-loop
+passes-summed-requires c κs =
+    let l = c .before in
+    let s = l .before .before .before .before in
+    let a = s .args in
+    let loads =
+    stepped-loads (a .policy) (a .m) (a .shares .now) (a .least .now) (a .elasticity .now) (a .saturation .now) _ (s .pre .0) _ _ _ (l .loop .inv .1) in
+    (loads, s .pre .1, s .pre .2, l .loop .inv .1 .added)
 
 returns : tie.Need-returns Inv-loop μ-loop
-unfolding leastStep
 returns c =
-    let l = c .before .before .before in
-    let a = l .before .before .args in
-    least-here (passesAt (a .policy) (a .m) (a .table .rows) (a .table .n)) (fullCompression (a .table .rows) (a .table .n)) _ (l .loop .inv .1) (omega (arith, l .before .full-compression .ensures .is)) (sym (c .before .passes-at .ensures) ∙ c .if1 .taken)
+    let p = c .before in
+    let l = p .before .before in
+    let f = l .before .before .before in
+    let s = f .before in
+    let a = s .args in
+    stepped-here (a .policy) (a .m) (a .shares .now) (a .least .now) (a .elasticity .now) (a .saturation .now) _ (s .pre .0) _ _ _ (l .loop .inv .1)
+    _ (p .passes-summed .ensures) _ (f .full-compression .ensures) (l .loop .inv .0) (c .if1 .taken)
+
+returns-2 : tie.Need-returns-2 Inv-loop μ-loop
+returns-2 c =
+    let p = c .before .before in
+    let l = p .before .before in
+    let f = l .before .before .before in
+    let s = f .before in
+    let a = s .args in
+    stepped-end (a .policy) (a .m) (a .shares .now) (a .least .now) (a .elasticity .now) (a .saturation .now) _ (s .pre .0) _ _ _ (l .loop .inv .1)
+    _ (p .passes-summed .ensures) _ (f .full-compression .ensures) (l .loop .inv .0) (c .before .if1 .left) (c .if2 .taken)
+
+next-shares-requires : tie.Need-next-shares-requires Inv-loop μ-loop
+next-shares-requires c κs =
+    let l = c .before .before .before .before .before in
+    let s = l .before .before .before .before in
+    let a = s .args in
+    let w = l .loop .inv .1 in
+    let within =
+    stepped-within (a .policy) (a .m) (a .shares .now) (a .least .now) (a .elasticity .now) (a .saturation .now) _ (s .pre .0) _ _ _ w in
+    (s .pre .0 .few, w .held .long, within)
 
 add-k : tie.Need-add-k Inv-loop μ-loop
 add-k c = omega arith
@@ -40,16 +71,16 @@ loop-less c = omega arith
 
 loop-again : tie.Need-loop-again Inv-loop μ-loop
 loop-again c =
-    let l = c .before .before .before in
-    let a = l .before .before .args in
-    (omega arith, first-more (passesAt (a .policy) (a .m) (a .table .rows) (a .table .n)) 0 _ (l .loop .inv .1) (sym (c .before .passes-at .ensures) ∙ c .if1 .left))
-
-returns-2 : tie.Need-returns-2 Inv-loop μ-loop
-unfolding leastStep
-returns-2 c =
-    let l = c .before in
-    let a = l .before .before .args in
-    least-none (passesAt (a .policy) (a .m) (a .table .rows) (a .table .n)) (fullCompression (a .table .rows) (a .table .n)) _ (l .loop .inv .1) (omega (arith, l .before .full-compression .ensures .is))
+    let i = c .before .before .before in
+    let p = i .before in
+    let l = p .before .before in
+    let s = l .before .before .before .before in
+    let a = s .args in
+    let h = c .next-shares .ensures in (
+      omega arith,
+      stepped-more (a .policy) (a .m) (a .shares .now) (a .least .now) (a .elasticity .now) (a .saturation .now) _ (s .pre .0) _ _ _ (l .loop .inv .1)
+          _ (p .passes-summed .ensures) (i .if1 .left) _ _ (h .0) (h .1),
+    )
 
 pub least-step-spec : {M : Type 1} → statement M
 least-step-spec =
@@ -58,10 +89,12 @@ least-step-spec =
     Inv-loop
     μ-loop
     full-compression-requires
+    total-of-requires
     loop-holds
-    passes-at-requires
+    passes-summed-requires
     returns
+    returns-2
+    next-shares-requires
     add-k
     loop-less
-    loop-again
-    returns-2)
+    loop-again)

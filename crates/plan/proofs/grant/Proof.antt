@@ -1,22 +1,27 @@
 -- `plan::grant` meets its contract. Assumes nothing.
-use mathlib.Core.Path.{_∙_, sym}
+use mathlib.Core.Bool.{true}
+use mathlib.Core.Path.{_≡_, refl, _∙_, sym}
+use Rattle.kinds.specs.Answer.{isAccepted, stepOf}
+use Rattle.kinds.specs.Policy.{meant}
+use Rattle.plan.proofs.Processors.{placeable, enough, periods-held, processors-held}
 use Rattle.plan.proofs.Writing.{leaves-refused, leaves-accepted}
 use borrow.Author.Needs.{needs}
 use Rattle.plan.proofs.grant.Statement.{statement}
 use Rattle.plan.proofs.grant.Tie as tie
 
+-- the plan is accepted
+granted : (c : tie.Then1) → isAccepted (c .before .before .before .before .args .answer) ≡ true
+granted c = sym (c .before .accepted .ensures) ∙ c .if1 .taken
+
 accepted-requires : tie.Need-accepted-requires
 accepted-requires c κs = search needs
 
-step-requires : tie.Need-step-requires
-step-requires c κs = search needs
-
 write-periods-requires : tie.Need-write-periods-requires
 write-periods-requires c κs =
-    let a = c .before .before .before in
-    let s = a .before .before .before in
-    let g = s .pre .to-periods (sym (a .accepted .ensures) ∙ c .before .before .if1 .taken) in
-    (g .table, g .roomy)
+    let i = c .before in
+    let s = i .before .before .before .before in
+    let g = s .pre .to-periods (granted i) in
+    (g .table, g .roomy, enough _ _ (s .args .table) (stepOf (s .args .answer)) _ (s .args .shares .now) g (s .pre .held (granted i)))
 
 meant-requires : tie.Need-meant-requires
 meant-requires c κs = search needs
@@ -24,10 +29,12 @@ meant-requires c κs = search needs
 write-processors-requires : tie.Need-write-processors-requires
 write-processors-requires c κs =
     let m = c .before in
-    let k = m .before .before .before .before .before in
-    let a = k .before .before in
-    let s = a .before .before .before in
-    rw (k .step .ensures, m .meant .ensures) (s .pre .to-processors (sym (a .accepted .ensures) ∙ k .before .if1 .taken))
+    let i = m .before .before .before .before .before in
+    let s = i .before .before .before .before in
+    let g = s .args in
+    let t = granted i in
+    rw (m .meant .ensures)
+    (placeable (meant (g .settings .policy)) _ (g .table) (stepOf (g .answer)) _ (g .shares .now) (s .pre .to-processors t) (s .pre .held t))
 
 same-length : tie.Need-same-length
 same-length c = search needs
@@ -40,10 +47,16 @@ returns c =
     let w = c .before .before in
     let m = w .before .before in
     let v = m .before .before .before in
-    let k = v .before .before in
-    let a = k .before .before in
-    let g = a .before .before .before .args in
-    leaves-accepted (g .answer) (g .settings) _ _ _ _ _ _ _ _ (sym (a .accepted .ensures) ∙ k .before .if1 .taken) (k .step .ensures) (m .meant .ensures) (v .write-periods .ensures) (w .write-processors .ensures)
+    let i = v .before .before in
+    let s = i .before .before .before .before in
+    let g = s .args in
+    let k = stepOf (g .answer) in
+    let p = s .pre in
+    let t = granted i in
+    leaves-accepted (g .answer) (g .settings) _ _ _ _ _ _ k _ t refl refl
+    (periods-held _ _ (g .table) k _ (g .shares .now) (p .to-periods t) (p .held t) _ _ (v .write-periods .ensures))
+    (processors-held _ _ (g .table) k _ (g .shares .now) (p .to-processors t) (p .held t) _ _
+    (rw (m .meant .ensures) at (w .write-processors .ensures)))
 
 returns-2 : tie.Need-returns-2
 returns-2 c = leaves-refused (c .before .before .before .before .args .answer) _ _ _ _ _ (sym (c .before .accepted .ensures) ∙ c .if1 .left)
@@ -53,7 +66,6 @@ grant-spec =
     tie.close
     (tie.spec
     accepted-requires
-    step-requires
     write-periods-requires
     meant-requires
     write-processors-requires

@@ -3,29 +3,36 @@ use Prim.Native.Nat.{_-_, _≤_, ℕ}
 use mathlib.Core.Path.{_≡_}
 use native.Mathlib.Omega.{arith}
 use Rattle.ground.proofs.Buffer.{Front, front-none, front-more}
-use Rattle.kinds.specs.Task.{at}
-use Rattle.share.specs.Share.{periodAt}
-use Rattle.share.specs.Table.{periodsAt}
+use Rattle.springs.specs.Columns.{periodOn}
 use Rattle.plan.proofs.write_periods.Statement.{statement}
 use Rattle.plan.proofs.write_periods.Tie as tie
 
 abbrev Inv-loop : tie.InvT-loop
-Inv-loop k out₀ table n i₀ out i = (i ≤ n) × Front (λ (j : ℕ). periodAt (at (table .rows) j) k) out₀ out i
+Inv-loop shares out₀ table n i₀ out i = (i ≤ n) × Front (periodOn (table .rows) shares) out₀ out i
 
 abbrev μ-loop : tie.MeasureT-loop
-μ-loop k out₀ table n i₀ out i = n - i
+μ-loop shares out₀ table n i₀ out i = n - i
 
 loop-holds : tie.Need-loop-holds Inv-loop μ-loop
 loop-holds c = (omega arith, front-none _ _)
 
-mul-period-at : tie.Need-mul-period-at Inv-loop μ-loop
-mul-period-at c = omega arith
+mul-period-on : tie.Need-mul-period-on Inv-loop μ-loop
+mul-period-on c = omega arith
 
-element-copy-out-period-at : tie.Need-element-copy-out-period-at Inv-loop μ-loop
-element-copy-out-period-at c = omega arith
+element-copy-out-period-on : tie.Need-element-copy-out-period-on Inv-loop μ-loop
+element-copy-out-period-on c = omega arith
 
-period-at-requires : tie.Need-period-at-requires Inv-loop μ-loop
-period-at-requires c κs = c .before .before .before .before .pre .0 .good _ (c .before .loop-test .taken)
+mul-period-on-2 : tie.Need-mul-period-on-2 Inv-loop μ-loop
+mul-period-on-2 c = omega arith
+
+element-copy-out-period-on-2 : tie.Need-element-copy-out-period-on-2 Inv-loop μ-loop
+element-copy-out-period-on-2 c = omega arith
+
+period-on-requires : tie.Need-period-on-requires Inv-loop μ-loop
+period-on-requires c κs =
+    let t = c .before .before in
+    let p = t .before .before .before .pre in
+    (p .0 .good _ (t .loop-test .taken), p .2 _ (t .loop-test .taken))
 
 mul-out : tie.Need-mul-out Inv-loop μ-loop
 mul-out c = omega arith
@@ -41,15 +48,14 @@ loop-less c = omega arith
 
 loop-again : tie.Need-loop-again Inv-loop μ-loop
 loop-again c =
-    let l = c .before .before .before in
+    let l = c .before .before .before .before in
     let a = l .before .before .args in
-    (omega arith, front-more (λ (j : ℕ). periodAt (at (a .t1 .rows) j) (a .k)) _ _ _ _ (omega arith) (c .period-at .ensures .is) (l .loop .inv .1))
+    (omega arith, front-more (periodOn (a .t1 .rows) (a .shares .now)) _ _ _ _ (omega arith) (c .period-on .ensures) (l .loop .inv .1))
 
 same-length : tie.Need-same-length Inv-loop μ-loop
 same-length c = c .before .loop .inv .1 .long
 
 returns : tie.Need-returns Inv-loop μ-loop
-unfolding periodsAt
 returns c = let e : c .before .loop .i ≡ c .before .before .before .args .t1 .n = omega arith in rw e at (c .before .loop .inv .1 .is)
 
 pub write-periods-spec : {M : Type 1} → statement M
@@ -59,9 +65,11 @@ write-periods-spec =
     Inv-loop
     μ-loop
     loop-holds
-    mul-period-at
-    element-copy-out-period-at
-    period-at-requires
+    mul-period-on
+    element-copy-out-period-on
+    mul-period-on-2
+    element-copy-out-period-on-2
+    period-on-requires
     mul-out
     slice-write-out
     add-i

@@ -3,6 +3,7 @@ use Prim.Native.Nat.{ℕ}
 use mathlib.Core.List.{List, _++_}
 use mathlib.Core.Path.{_∙_, sym, ap}
 use lib.ListN.{drop}
+use Rattle.fit.specs.Fit.{loadIn}
 use Rattle.plan.proofs.Processors.{trial-processors, any-processors}
 use borrow.Author.Needs.{needs}
 use Rattle.plan.proofs.write_processors.Statement.{statement}
@@ -29,8 +30,8 @@ returns c =
     let f = w .before .before .before in
     let i = f .before .before in
     let s = i .before .before in
-    w .write-front .ensures ∙ ap (λ (l : List ℕ). l ++ drop (s .args .table .n) (s .args .out .now))
-    (trial-processors _ _ (s .args .table) (s .args .k) _ (sym (i .is-first-fit .ensures) ∙ f .before .if1 .taken) (s .pre .passing) (f .first-fit .ensures))
+    w .write-front .ensures ∙ ap (λ (l : List ℕ). l ++ drop (s .args .n) (s .args .out .now))
+    (trial-processors _ _ (loadIn (s .args .loads .now)) _ _ (sym (i .is-first-fit .ensures) ∙ f .before .if1 .taken) (s .pre .passing) (f .first-fit .ensures))
 
 same-length-2 : tie.Need-same-length-2
 same-length-2 c = search needs
@@ -40,8 +41,8 @@ returns-2 c =
     let w = c .before .before in
     let i = w .before .before .before in
     let s = i .before .before in
-    w .write-front2 .ensures ∙ ap (λ (l : List ℕ). l ++ drop (s .args .table .n) (s .args .out .now))
-    (any-processors _ _ (s .args .table) (s .args .k) (s .pre .table .few) (sym (i .is-first-fit .ensures) ∙ w .before .before .if1 .left))
+    w .write-front2 .ensures ∙ ap (λ (l : List ℕ). l ++ drop (s .args .n) (s .args .out .now))
+    (any-processors (s .args .policy) (s .args .m) (loadIn (s .args .loads .now)) _ (s .pre .light .few) (sym (i .is-first-fit .ensures) ∙ w .before .before .if1 .left))
 
 pub write-processors-spec : {M : Type 1} → statement M
 write-processors-spec =

@@ -1,6 +1,6 @@
 -- `quick::look` meets its contract. Assumes nothing.
 use mathlib.Core.Path.{refl, _∙_}
-use Rattle.stretch.proofs.Columns.{weighed-worked-out}
+use Rattle.division.proofs.Weighing.{weighed-worked-out}
 use borrow.Author.Needs.{needs}
 use Rattle.quick.proofs.look.Statement.{statement}
 use Rattle.quick.proofs.look.Tie as tie

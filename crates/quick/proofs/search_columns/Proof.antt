@@ -2,7 +2,8 @@
 use Prim.Native.Nat.{_+_, _-_, _<_}
 use mathlib.Core.Path.{refl, sym}
 use native.Mathlib.Omega.{arith}
-use Rattle.stretch.specs.Spring.{springIn, SumIs}
+use Rattle.springs.specs.Spring.{SumIs}
+use Rattle.springs.specs.Columns.{springIn}
 use Rattle.quick.proofs.Loop.{Standing, due-first, next-in, first-passes, first-fails, none-due, look-due, divides, next-passes, next-fails}
 use Rattle.quick.proofs.search_columns.Statement.{statement}
 use Rattle.quick.proofs.search_columns.Tie as tie

@@ -1,0 +1,4 @@
+pub mod Weighing
+pub mod Nexts
+pub mod Lines
+pub mod Stretches

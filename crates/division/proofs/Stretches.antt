@@ -1,0 +1,128 @@
+-- The division gives the least passing step of a stretch whose first step fails and whose last one, the next saturation step, passes.
+-- Assumes nothing.
+use Prim.Native.Nat.{ℕ, zero, suc, _+_, _-_, _*_, _≤_, _<_, min}
+use mathlib.Core.Bool.{Bool, true, false}
+use mathlib.Core.Logic.{_↔_}
+use mathlib.Core.List.{List}
+use mathlib.Core.Path.{_≡_, refl, sym, ap₂}
+use native.Mathlib.Nat.{min-eq-left, min-eq-right}
+use native.Mathlib.Numerals.{add-one}
+use native.Mathlib.Omega.{arith}
+use lib.ListN.{getD}
+use borrow.Author.Tests.{leb-true, le-leb}
+use Rattle.ground.specs.Folds.{sumTo, maxTo}
+use Rattle.ground.specs.Least.{LeastAt, Rising}
+use Rattle.ground.proofs.Cases.{by-le, true-false, false-of}
+use Rattle.ground.proofs.Folds.{sum-none, sum-more, sum-cong, sum-le, max-falls, max-gap, sum-line, term-le-sum}
+use Rattle.kinds.specs.Limits.{greatestElasticity}
+use Rattle.policy.specs.declared.Weights.{Weights}
+use Rattle.policy.specs.Sides.{left, right}
+use Rattle.policy.proofs.Tests.{test-stays}
+use Rattle.rule.proofs.Shares.{share-falls}
+use Rattle.springs.specs.declared.Spring.{Spring}
+use Rattle.springs.specs.Spring.{shareOn, saturationOn, sharesOn, saturations}
+use Rattle.springs.specs.Columns.{Saturates}
+use Rattle.division.specs.Weighed.{weighed, weighedAt}
+use Rattle.division.specs.Next.{Next}
+use Rattle.division.specs.Division.{Fair, slopeOf, slope, slopesIn, slopeSum, need, harder, needTo, divided, FallIs}
+use Rattle.division.proofs.Lines.{share-line, slope-some, need-iff, both-ways}
+
+need-to-iff : (w : Weights) → Fair w → (springs : ℕ → Spring) (p q j sum sum′ fall n : ℕ) → 0 < fall → sum ≡ sum′ + j * fall → p + j < q
+    → ((i : ℕ) → i < n → slope (springs i) p ≤ fall) → ((i : ℕ) → i < n → p < saturationOn (springs i) → q ≤ saturationOn (springs i))
+    → (needTo w springs p sum fall n ≤ j) ↔ (left w sum′ (maxTo (sharesOn springs (p + j)) n) ≤ right w (maxTo (sharesOn springs (p + j)) n))
+unfolding needTo maxTo
+need-to-iff w g springs p q j sum sum′ fall zero pos es l hb hq = need-iff w g sum sum′ 0 0 fall 0 j pos (omega arith) es (omega arith)
+need-to-iff w g springs p q j sum sum′ fall (suc n) pos es l hb hq =
+    both-ways w sum′ _ _ j _ _
+    (need-to-iff w g springs p q j sum sum′ fall n pos es l (λ i m. hb i (omega arith)) (λ i m. hq i (omega arith)))
+    (need-iff w g sum sum′ _ _ fall _ j pos (hb n (omega arith)) es (share-line (springs n) p q j (hq n (omega arith)) l))
+
+pub slope-within : (springs : ℕ → Spring) (n p i : ℕ) → i < n → slope (springs i) p ≤ slopeSum springs n p
+unfolding slopeSum
+slope-within springs n p i l = term-le-sum (λ i. slope (springs i) p) n i l
+
+-- where a saturation step is ahead, something falls
+pub something-falls : (springs : ℕ → Spring) (n p q : ℕ) → Next (saturations springs) n p q → 0 < slopeSum springs n p
+something-falls springs n p q x =
+    omega (arith, slope-some (springs (x .by)) p (omega (arith, x .is, x .above)), slope-within springs n p (x .by) (x .by-below))
+
+-- inside a stretch the test holds from the needed step on
+stretch : (w : Weights) → Fair w → (springs : ℕ → Spring) (n p q j : ℕ) → Next (saturations springs) n p q → p + j < q
+    → (needTo w springs p (sumTo (sharesOn springs p) n) (slopeSum springs n p) n ≤ j) ↔ (weighedAt w springs n (p + j) ≡ true)
+unfolding slopeSum weighed
+stretch w g springs n p q j x l =
+    let t : _ ↔ _ =
+    need-to-iff w g springs p q j _ (sumTo (sharesOn springs (p + j)) n) _ n (something-falls springs n p q x)
+    (sum-line _ _ _ j n (λ i m. share-line (springs i) p q j (x .least i m) l)) l
+    (λ i m. slope-within springs n p i m) (x .least) in
+    (λ h. le-leb _ _ (t .0 h), λ h. t .1 (leb-true _ _ h))
+
+-- the test stays once it holds
+pub weighed-rising : (w : Weights) → Fair w → (springs : ℕ → Spring) (n : ℕ) → Rising (weighedAt w springs n)
+unfolding weighed shareOn
+weighed-rising w g springs n j k h t =
+    let falls : (i : ℕ) → i < n → shareOn (springs i) k ≤ shareOn (springs i) j =
+    λ i l. share-falls (springs i .largest) (springs i .least) (springs i .elasticity) j k h in
+    le-leb _ _
+    (test-stays w _ _ _ _ (g .sum-heavier) (sum-le _ _ n falls) (max-falls _ _ n falls) (max-gap _ _ n falls) (leb-true _ _ t))
+
+-- what fails fails at every earlier step
+pub fails-before : (test : ℕ → Bool) → Rising test → (p k : ℕ) → test p ≡ false → k ≤ p → test k ≡ false
+fails-before test up p k f h = false-of _ (λ t. true-false (up k p h t) f)
+
+-- a test that fails up to p, passes at q, and between the two passes from p + N on
+least-by : (test : ℕ → Bool) (K p q N : ℕ) → p < q → q ≤ K → ((k : ℕ) → k ≤ p → test k ≡ false) → test q ≡ true
+    → ((j : ℕ) → p + j < q → (N ≤ j) ↔ (test (p + j) ≡ true)) → LeastAt test K (min q (p + N))
+least-by test K p q N pq qK f t e =
+    by-le q (p + N)
+    (λ h. rw (min-eq-left h) (record { within = qK; passes = t; before = λ k l. fails k l (omega arith) }))
+    (λ h. let h′ : p + N ≤ q = omega arith in
+    rw (min-eq-right h′) (record { within = omega arith; passes = e N h .0 (omega arith); before = λ k l. fails k (omega arith) l }))
+  where
+    fails : (k : ℕ) → k < q → k < p + N → test k ≡ false
+    fails k l m =
+        by-le k p (f k) (λ h.
+        let z : p + (k - p) ≡ k = omega arith in
+        false-of (test k) (λ u. absurd (omega (arith, e (k - p) (omega arith) .1 (rw z u)))))
+
+pub divided-least : (w : Weights) → Fair w → (springs : ℕ → Spring) (n K p q : ℕ) → q ≤ K → Next (saturations springs) n p q
+    → weighedAt w springs n p ≡ false → weighedAt w springs n q ≡ true → LeastAt (weighedAt w springs n) K (divided w springs n p q)
+unfolding divided
+divided-least w g springs n K p q h x f t =
+    least-by (weighedAt w springs n) K p q _ (x .above) h
+    (λ k l. fails-before (weighedAt w springs n) (weighed-rising w g springs n) p k f l) t (λ j l. stretch w g springs n p q j x l)
+
+pub divided-most : (w : Weights) (springs : ℕ → Spring) (n p q : ℕ) → divided w springs n p q ≤ q
+unfolding divided
+divided-most w springs n p q = omega arith
+
+-- the walks of the division, where the code has i + 1
+pub fall-none : (slopes : ℕ → ℕ) → FallIs slopes 0 0
+fall-none slopes = record { is = sym (sum-none slopes); most = omega arith }
+
+pub fall-more : (slopes : ℕ → ℕ) (i fall x : ℕ) → FallIs slopes i fall → x ≡ slopes i → x ≤ greatestElasticity → FallIs slopes (i + 1) (fall + x)
+fall-more slopes i fall x f e h = record { is = omega (arith, sum-more slopes i, f .is); most = omega (arith, f .most) }
+
+pub need-none : (w : Weights) (springs : ℕ → Spring) (p sum fall : ℕ) → needTo w springs p sum fall 0 ≡ need w sum fall 0 0
+unfolding needTo
+need-none w springs p sum fall = refl
+
+pub need-more : (w : Weights) (springs : ℕ → Spring) (p sum fall i : ℕ)
+    → needTo w springs p sum fall (i + 1) ≡ harder w (needTo w springs p sum fall i) (need w sum fall (shareOn (springs i) p) (slope (springs i) p))
+unfolding needTo
+need-more w springs p sum fall i = rw (add-one i)
+
+-- the sum of the slopes by columns is that of the springs
+pub slopes-are : (springs : ℕ → Spring) (elasticity saturation : List ℕ) (n p : ℕ) → ((i : ℕ) → getD elasticity i 0 ≡ springs i .elasticity) → Saturates springs saturation n
+    → sumTo (slopesIn elasticity saturation p) n ≡ slopeSum springs n p
+unfolding slopeSum
+slopes-are springs elasticity saturation n p e s =
+    sum-cong (slopesIn elasticity saturation p) (λ i. slope (springs i) p) n (λ i l. ap₂ (λ (x y : ℕ). slopeOf x y p) (e i) (s i l))
+
+-- the division as the code works it out
+pub divided-worked-out : (w : Weights) (springs : ℕ → Spring) (n p q sum fall more : ℕ) → p < q → sum ≡ sumTo (sharesOn springs p) n → fall ≡ slopeSum springs n p
+    → more ≡ needTo w springs p sum fall n
+    → (more < q - p → p + more ≡ divided w springs n p q) × (q - p ≤ more → q ≡ divided w springs n p q)
+unfolding divided
+divided-worked-out w springs n p q sum fall more l es ef en =
+    let e : more ≡ needTo w springs p (sumTo (sharesOn springs p) n) (slopeSum springs n p) n = cc in (λ h. omega arith, λ h. omega arith)

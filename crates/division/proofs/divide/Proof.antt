@@ -1,0 +1,76 @@
+-- `division::divide` meets its contract. Assumes nothing.
+use mathlib.Core.Path.{_≡_, refl, _∙_}
+use native.Mathlib.Omega.{arith}
+use Rattle.springs.specs.Columns.{springIn}
+use Rattle.division.specs.Division.{slopeSum}
+use Rattle.division.proofs.Stretches.{slopes-are, something-falls, slope-within, divided-worked-out}
+use borrow.Author.Needs.{needs}
+use Rattle.division.proofs.divide.Statement.{statement}
+use Rattle.division.proofs.divide.Tie as tie
+
+-- the sum of the slopes
+fallen : (c : tie.After-slope-sum) → let a = c .before .args in c .slope-sum .result ≡ slopeSum (springIn (a .largest .now) (a .least .now) (a .elasticity .now)) (a .n) (a .p)
+fallen c =
+    let b = c .before in
+    let a = b .args in
+    c .slope-sum .ensures .is ∙ slopes-are (springIn (a .largest .now) (a .least .now) (a .elasticity .now)) (a .elasticity .now) (a .saturation .now) (a .n) (a .p) (λ i. refl) (b .pre .2 .saturates)
+
+slope-sum-requires : tie.Need-slope-sum-requires
+slope-sum-requires c κs = let s = c .pre .2 in (s .few, λ i l. s .within i l .elasticity-most)
+
+need-over-requires : tie.Need-need-over-requires
+need-over-requires c κs =
+    let b = c .before in
+    let s = b .pre .2 in
+    let a = b .args in
+    let springs = springIn (a .largest .now) (a .least .now) (a .elasticity .now) in
+    let e = fallen c in (
+      b .pre .0,
+      b .pre .1,
+      record {
+        few = s .few;
+        within = s .within;
+        saturates = s .saturates;
+        sum-most = omega (arith, b .pre .3 .most, s .few);
+        fall-some = omega (arith, e, something-falls springs _ _ _ (s .next));
+        fall-most = omega (arith, c .slope-sum .ensures .most, s .few);
+        slopes = λ i l. omega (arith, e, slope-within springs (a .n) (a .p) i l);
+      },
+    )
+
+sub-if1 : tie.Need-sub-if1
+sub-if1 c = search needs
+
+cast-if1 : tie.Need-cast-if1
+cast-if1 c = search needs
+
+cast-result : tie.Need-cast-result
+cast-result c = search needs
+
+add-result : tie.Need-add-result
+add-result c = search needs
+
+returns : tie.Need-returns
+returns c =
+    let b = c .before .before in
+    let s = b .before in
+    divided-worked-out _ (springIn (s .args .largest .now) (s .args .least .now) (s .args .elasticity .now)) _ _ _ _ _ _ (s .pre .2 .next .above) (s .pre .3 .is) (fallen b) (c .before .need-over .ensures) .0 (c .if1 .taken)
+
+returns-2 : tie.Need-returns-2
+returns-2 c =
+    let b = c .before .before in
+    let s = b .before in
+    divided-worked-out _ (springIn (s .args .largest .now) (s .args .least .now) (s .args .elasticity .now)) _ _ _ _ _ _ (s .pre .2 .next .above) (s .pre .3 .is) (fallen b) (c .before .need-over .ensures) .1 (c .if1 .left)
+
+pub divide-spec : {M : Type 1} → statement M
+divide-spec =
+    tie.close
+    (tie.spec
+    slope-sum-requires
+    need-over-requires
+    sub-if1
+    cast-if1
+    cast-result
+    add-result
+    returns
+    returns-2)

@@ -1,0 +1,117 @@
+-- `division::need_over` meets its contract. Assumes nothing.
+use Prim.Native.Nat.{_-_, _≤_}
+use mathlib.Core.Path.{_≡_, sym, ap₂, _∙_}
+use native.Mathlib.Omega.{arith}
+use lib.ListN.{getD}
+use Rattle.springs.specs.Spring.{shareOn}
+use Rattle.springs.specs.Columns.{springIn}
+use Rattle.division.specs.Division.{slopeOf, harder, needTo, LineIs, NeedIs}
+use Rattle.division.proofs.Lines.{need-line}
+use Rattle.division.proofs.Stretches.{need-none, need-more}
+use Rattle.division.proofs.need_over.Statement.{statement}
+use Rattle.division.proofs.need_over.Tie as tie
+
+abbrev Inv-loop : tie.InvT-loop
+Inv-loop w largest least elasticity saturation n p sum fall hardest₀ i₀ hardest i = (i ≤ n) × NeedIs (needTo w (springIn largest least elasticity) p sum fall i) hardest
+
+abbrev μ-loop : tie.MeasureT-loop
+μ-loop w largest least elasticity saturation n p sum fall hardest₀ i₀ hardest i = n - i
+
+line-of-requires : tie.Need-line-of-requires Inv-loop μ-loop
+line-of-requires c κs = let f = c .pre .2 in (c .pre .0, c .pre .1, f .sum-most, omega arith, f .fall-some, f .fall-most, omega arith, omega arith)
+
+need-of-requires : tie.Need-need-of-requires Inv-loop μ-loop
+need-of-requires c κs = c .line-of .ensures .falling
+
+loop-holds : tie.Need-loop-holds Inv-loop μ-loop
+loop-holds c =
+    let n = c .need-of .ensures in
+    (omega arith, record { is = n .is ∙ (need-line _ _ _ _ _ _ (c .before .line-of .ensures) ∙ sym (need-none _ _ _ _ _)); most = n .most })
+
+mul-line-of-task : tie.Need-mul-line-of-task Inv-loop μ-loop
+mul-line-of-task c = omega arith
+
+element-copy-out-line-of-task : tie.Need-element-copy-out-line-of-task Inv-loop μ-loop
+element-copy-out-line-of-task c = omega arith
+
+mul-line-of-task-2 : tie.Need-mul-line-of-task-2 Inv-loop μ-loop
+mul-line-of-task-2 c = omega arith
+
+element-copy-out-line-of-task-2 : tie.Need-element-copy-out-line-of-task-2 Inv-loop μ-loop
+element-copy-out-line-of-task-2 c = omega arith
+
+mul-line-of-task-3 : tie.Need-mul-line-of-task-3 Inv-loop μ-loop
+mul-line-of-task-3 c = omega arith
+
+element-copy-out-line-of-task-3 : tie.Need-element-copy-out-line-of-task-3 Inv-loop μ-loop
+element-copy-out-line-of-task-3 c = omega arith
+
+mul-line-of-task-4 : tie.Need-mul-line-of-task-4 Inv-loop μ-loop
+mul-line-of-task-4 c = omega arith
+
+element-copy-out-line-of-task-4 : tie.Need-element-copy-out-line-of-task-4 Inv-loop μ-loop
+element-copy-out-line-of-task-4 c = omega arith
+
+line-of-task-requires : tie.Need-line-of-task-requires Inv-loop μ-loop
+line-of-task-requires c κs =
+    let t = c .before .before .before .before in
+    let i = t .before .loop .i in
+    let p = t .before .before .before .before .pre in
+    let f = p .2 in
+    let w = f .within i (t .loop-test .taken) in
+    (p .0, p .1, w .largest-most, omega (arith, w .least-largest, w .largest-most), w .elasticity-most, f .sum-most, f .fall-some, f .fall-most, rw (f .saturates i (t .loop-test .taken)) (f .slopes i (t .loop-test .taken)))
+
+harder-of-requires : tie.Need-harder-of-requires Inv-loop μ-loop
+harder-of-requires c κs = (c .line-of-task .ensures .falling, c .before .before .before .before .before .before .loop .inv .1 .most)
+
+add-i : tie.Need-add-i Inv-loop μ-loop
+add-i c = omega arith
+
+loop-less : tie.Need-loop-less Inv-loop μ-loop
+loop-less c = omega arith
+
+loop-again : tie.Need-loop-again Inv-loop μ-loop
+unfolding shareOn
+loop-again c =
+    let k = c .before in
+    let t = k .before .before .before .before .before in
+    let l = t .before in
+    let b = l .before .before .before in
+    let a = b .args in
+    let springs = springIn (a .largest .now) (a .least .now) (a .elasticity .now) in
+    let s = b .pre .2 .saturates (l .loop .i) (t .loop-test .taken) in
+    let e : LineIs (a .w) (a .sum) (a .fall) (shareOn (springs (l .loop .i)) (a .p)) (slopeOf (getD (a .elasticity .now) (l .loop .i) 0) _ (a .p)) (k .line-of-task .result) = rw s at (k .line-of-task .ensures) in
+    let h = c .harder-of .ensures in (
+      omega arith,
+      record {
+        is = h .is ∙ (ap₂ (harder (a .w)) (l .loop .inv .1 .is) (need-line _ _ _ _ _ _ e) ∙ sym (need-more (a .w) springs (a .p) (a .sum) (a .fall) (l .loop .i)));
+        most = h .most;
+      },
+    )
+
+returns : tie.Need-returns Inv-loop μ-loop
+returns c = let e : c .before .loop .i ≡ c .before .before .before .before .args .n = omega arith in rw e at (c .before .loop .inv .1 .is)
+
+pub need-over-spec : {M : Type 1} → statement M
+need-over-spec =
+    tie.close
+    (tie.spec
+    Inv-loop
+    μ-loop
+    line-of-requires
+    need-of-requires
+    loop-holds
+    mul-line-of-task
+    element-copy-out-line-of-task
+    mul-line-of-task-2
+    element-copy-out-line-of-task-2
+    mul-line-of-task-3
+    element-copy-out-line-of-task-3
+    mul-line-of-task-4
+    element-copy-out-line-of-task-4
+    line-of-task-requires
+    harder-of-requires
+    add-i
+    loop-less
+    loop-again
+    returns)

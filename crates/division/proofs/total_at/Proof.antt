@@ -1,0 +1,106 @@
+-- `division::total_at` meets its contract. Assumes nothing.
+use Prim.Native.Nat.{_-_, _≤_}
+use mathlib.Core.Path.{_≡_}
+use native.Mathlib.Omega.{arith}
+use Rattle.kinds.specs.Limits.{scale}
+use Rattle.policy.specs.Sides.{TotalIs}
+use Rattle.policy.proofs.Totals.{total-none, total-more}
+use Rattle.springs.specs.Spring.{shareOn, sharesOn}
+use Rattle.springs.specs.Columns.{springIn}
+use Rattle.springs.proofs.Carried.{share-most}
+use Rattle.division.proofs.total_at.Statement.{statement}
+use Rattle.division.proofs.total_at.Tie as tie
+
+abbrev Inv-loop : tie.InvT-loop
+Inv-loop largest least elasticity n k sum₀ max₀ i₀ sum max i = (i ≤ n) × TotalIs (sharesOn (springIn largest least elasticity) k) i sum max
+
+abbrev μ-loop : tie.MeasureT-loop
+μ-loop largest least elasticity n k sum₀ max₀ i₀ sum max i = n - i
+
+-- the share of task i, within the scale
+shared : (c : tie.After-share-at Inv-loop μ-loop)
+    → let l = c .before .before .before .before .before .before .before in
+    let a = l .before .args in
+    (c .share-at .result ≡ shareOn (springIn (a .largest .now) (a .least .now) (a .elasticity .now) (l .loop .i)) (a .k)) × (c .share-at .result ≤ scale)
+unfolding shareOn
+shared c =
+    let l = c .before .before .before .before .before .before .before in
+    let a = l .before .args in
+    let e : c .share-at .result ≡ shareOn (springIn (a .largest .now) (a .least .now) (a .elasticity .now) (l .loop .i)) (a .k) =
+    rw (c .before .before .before .before .wide .ensures, c .before .before .wide2 .ensures) at (c .share-at .ensures) in
+    (e, omega (arith, share-most (springIn (a .largest .now) (a .least .now) (a .elasticity .now) (l .loop .i)) (a .k) (l .before .pre .1 (l .loop .i) (c .before .before .before .before .before .before .loop-test .taken))))
+
+loop-holds : tie.Need-loop-holds Inv-loop μ-loop
+loop-holds c = (omega arith, total-none _)
+
+mul-wide : tie.Need-mul-wide Inv-loop μ-loop
+mul-wide c = omega arith
+
+element-copy-out-wide : tie.Need-element-copy-out-wide Inv-loop μ-loop
+element-copy-out-wide c = omega arith
+
+wide-requires : tie.Need-wide-requires Inv-loop μ-loop
+wide-requires c κs = tt
+
+mul-wide-2 : tie.Need-mul-wide-2 Inv-loop μ-loop
+mul-wide-2 c = omega arith
+
+element-copy-out-wide-2 : tie.Need-element-copy-out-wide-2 Inv-loop μ-loop
+element-copy-out-wide-2 c = omega arith
+
+wide-requires-2 : tie.Need-wide-requires-2 Inv-loop μ-loop
+wide-requires-2 c κs = tt
+
+mul-share-at : tie.Need-mul-share-at Inv-loop μ-loop
+mul-share-at c = omega arith
+
+element-copy-out-share-at : tie.Need-element-copy-out-share-at Inv-loop μ-loop
+element-copy-out-share-at c = omega arith
+
+share-at-requires : tie.Need-share-at-requires Inv-loop μ-loop
+share-at-requires c κs = tt
+
+add-sum : tie.Need-add-sum Inv-loop μ-loop
+add-sum c = omega (arith, shared c .1)
+
+larger-requires : tie.Need-larger-requires Inv-loop μ-loop
+larger-requires c κs = tt
+
+add-i : tie.Need-add-i Inv-loop μ-loop
+add-i c = omega arith
+
+loop-less : tie.Need-loop-less Inv-loop μ-loop
+loop-less c = omega arith
+
+loop-again : tie.Need-loop-again Inv-loop μ-loop
+loop-again c =
+    let s = c .before in
+    let l = s .before .before .before .before .before .before .before in
+    let a = l .before .args in
+    (omega arith, total-more (sharesOn (springIn (a .largest .now) (a .least .now) (a .elasticity .now)) (a .k)) _ _ _ _ _ (l .loop .inv .1) (shared s .0) (shared s .1) (c .larger .ensures))
+
+returns : tie.Need-returns Inv-loop μ-loop
+returns c = let e : c .before .loop .i ≡ c .before .before .args .n = omega arith in rw e at (c .before .loop .inv .1)
+
+pub total-at-spec : {M : Type 1} → statement M
+total-at-spec =
+    tie.close
+    (tie.spec
+    Inv-loop
+    μ-loop
+    loop-holds
+    mul-wide
+    element-copy-out-wide
+    wide-requires
+    mul-wide-2
+    element-copy-out-wide-2
+    wide-requires-2
+    mul-share-at
+    element-copy-out-share-at
+    share-at-requires
+    add-sum
+    larger-requires
+    add-i
+    loop-less
+    loop-again
+    returns)

@@ -1,0 +1,27 @@
+-- `policy::passes_summed` meets its contract. Assumes nothing.
+use mathlib.Core.Path.{sym}
+use native.Mathlib.Omega.{arith}
+use Rattle.fit.specs.Fit.{loadIn}
+use Rattle.policy.proofs.Tests.{too-much}
+use borrow.Author.Needs.{needs}
+use Rattle.policy.proofs.passes_summed.Statement.{statement}
+use Rattle.policy.proofs.passes_summed.Tie as tie
+
+mul-if1 : tie.Need-mul-if1
+mul-if1 c = search needs
+
+returns : tie.Need-returns
+returns c =
+    let s = c .before in
+    let a = s .args in
+    let p = s .pre in
+    sym (too-much (a .policy) (a .m) (loadIn (a .loads .now)) (a .n) (p .1) (p .2) (omega (arith, p .3)))
+
+passes-requires : tie.Need-passes-requires
+passes-requires c κs = search needs
+
+returns-2 : tie.Need-returns-2
+returns-2 c = search needs
+
+pub passes-summed-spec : {M : Type 1} → statement M
+passes-summed-spec = tie.close (tie.spec mul-if1 returns passes-requires returns-2)

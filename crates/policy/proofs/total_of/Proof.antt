@@ -1,0 +1,74 @@
+-- `policy::total_of` meets its contract. Assumes nothing.
+use Prim.Native.Nat.{_-_, _≤_}
+use mathlib.Core.Path.{_≡_, refl}
+use native.Mathlib.Omega.{arith}
+use Rattle.fit.specs.Fit.{loadIn}
+use Rattle.policy.specs.Sides.{TotalIs}
+use Rattle.policy.proofs.Totals.{total-none, total-more}
+use Rattle.policy.proofs.total_of.Statement.{statement}
+use Rattle.policy.proofs.total_of.Tie as tie
+
+abbrev Inv-loop : tie.InvT-loop
+Inv-loop loads n sum₀ max₀ i₀ sum max i = (i ≤ n) × TotalIs (loadIn loads) i sum max
+
+abbrev μ-loop : tie.MeasureT-loop
+μ-loop loads n sum₀ max₀ i₀ sum max i = n - i
+
+loop-holds : tie.Need-loop-holds Inv-loop μ-loop
+loop-holds c = (omega arith, total-none _)
+
+mul-load : tie.Need-mul-load Inv-loop μ-loop
+mul-load c = omega arith
+
+element-copy-out-load : tie.Need-element-copy-out-load Inv-loop μ-loop
+element-copy-out-load c = omega arith
+
+add-sum : tie.Need-add-sum Inv-loop μ-loop
+add-sum c =
+    let t = c .before in
+    omega (arith, t .before .before .pre .most _ (t .loop-test .taken))
+
+later-requires : tie.Need-later-requires Inv-loop μ-loop
+later-requires c κs = tt
+
+add-i : tie.Need-add-i Inv-loop μ-loop
+add-i c = omega arith
+
+loop-less : tie.Need-loop-less Inv-loop μ-loop
+loop-less c = omega arith
+
+loop-again : tie.Need-loop-again Inv-loop μ-loop
+loop-again c =
+    let t = c .before .before in
+    let s = t .before .before in
+    (omega arith, total-more (loadIn (s .args .loads .now)) _ _ _ _ _ (t .before .loop .inv .1) refl (s .pre .most _ (t .loop-test .taken)) (c .later .ensures))
+
+wide-requires : tie.Need-wide-requires Inv-loop μ-loop
+wide-requires c κs = tt
+
+wide-requires-2 : tie.Need-wide-requires-2 Inv-loop μ-loop
+wide-requires-2 c κs = tt
+
+returns : tie.Need-returns Inv-loop μ-loop
+returns c =
+    let l = c .before .before .before in
+    let e : l .loop .i ≡ l .before .args .n = omega arith in
+    rw (c .before .wide .ensures, c .wide2 .ensures) (rw e at (l .loop .inv .1))
+
+pub total-of-spec : {M : Type 1} → statement M
+total-of-spec =
+    tie.close
+    (tie.spec
+    Inv-loop
+    μ-loop
+    loop-holds
+    mul-load
+    element-copy-out-load
+    add-sum
+    later-requires
+    add-i
+    loop-less
+    loop-again
+    wide-requires
+    wide-requires-2
+    returns)

@@ -1,0 +1,56 @@
+-- `springs::full_compression` meets its contract. Assumes nothing.
+use Prim.Native.Nat.{ℕ, _-_, _≤_}
+use mathlib.Core.Path.{_≡_, sym}
+use native.Mathlib.Omega.{arith}
+use lib.ListN.{getD}
+use Rattle.ground.specs.Folds.{maxTo}
+use Rattle.ground.proofs.Folds.{max-none, max-more}
+use Rattle.springs.proofs.full_compression.Statement.{statement}
+use Rattle.springs.proofs.full_compression.Tie as tie
+
+abbrev Inv-loop : tie.InvT-loop
+Inv-loop saturation n greatest₀ i₀ greatest i = (i ≤ n) × (greatest ≡ maxTo (λ (j : ℕ). getD saturation j 0) i)
+
+abbrev μ-loop : tie.MeasureT-loop
+μ-loop saturation n greatest₀ i₀ greatest i = n - i
+
+loop-holds : tie.Need-loop-holds Inv-loop μ-loop
+loop-holds c = (omega arith, sym (max-none _))
+
+mul-later : tie.Need-mul-later Inv-loop μ-loop
+mul-later c = omega arith
+
+element-copy-out-later : tie.Need-element-copy-out-later Inv-loop μ-loop
+element-copy-out-later c = omega arith
+
+later-requires : tie.Need-later-requires Inv-loop μ-loop
+later-requires c κs = tt
+
+add-i : tie.Need-add-i Inv-loop μ-loop
+add-i c = omega arith
+
+loop-less : tie.Need-loop-less Inv-loop μ-loop
+loop-less c = omega arith
+
+loop-again : tie.Need-loop-again Inv-loop μ-loop
+loop-again c =
+    let l = c .before .before .before in
+    (omega arith, omega (arith, c .later .ensures, l .loop .inv .1, max-more (λ (j : ℕ). getD (l .before .args .saturation .now) j 0) (l .loop .i)))
+
+returns : tie.Need-returns Inv-loop μ-loop
+returns c = let e : c .before .loop .i ≡ c .before .before .args .n = omega arith in rw e at (c .before .loop .inv .1)
+
+pub full-compression-spec : {M : Type 1} → statement M
+full-compression-spec =
+    tie.close
+    (tie.spec
+    Inv-loop
+    μ-loop
+    loop-holds
+    mul-later
+    element-copy-out-later
+    later-requires
+    add-i
+    loop-less
+    loop-again
+    returns)

@@ -1,0 +1,117 @@
+-- `springs::springs_of` meets its contract. Assumes nothing.
+use Prim.Native.Nat.{ℕ, _-_, _≤_, _<_}
+use mathlib.Core.Bool.{false, not}
+use mathlib.Core.Path.{_≡_}
+use native.Mathlib.Omega.{arith}
+use Rattle.kinds.specs.Task.{at, isGood}
+use Rattle.share.proofs.Tables.{bad-here, bad-more, bad-none}
+use Rattle.springs.specs.Columns.{columns, Sprung}
+use Rattle.springs.proofs.Columns.{sprung-none, sprung-more, found-good, good-within}
+use Rattle.springs.proofs.springs_of.Statement.{statement}
+use Rattle.springs.proofs.springs_of.Tie as tie
+
+abbrev Inv-loop : tie.InvT-loop
+Inv-loop largest₀ least₀ elasticity₀ saturation₀ table n i₀ largest least elasticity saturation i =
+    (i ≤ n) × ((j : ℕ) → j < i → not (isGood (at (table .rows) j)) ≡ false) × Sprung (table .rows) i (columns largest least elasticity saturation)
+
+abbrev μ-loop : tie.MeasureT-loop
+μ-loop largest₀ least₀ elasticity₀ saturation₀ table n i₀ largest least elasticity saturation i = n - i
+
+loop-holds : tie.Need-loop-holds Inv-loop μ-loop
+loop-holds c = (omega arith, λ j l. absurd (omega arith), sprung-none _ _ (c .pre .1))
+
+mul-task : tie.Need-mul-task Inv-loop μ-loop
+mul-task c = omega arith
+
+element-copy-out-task : tie.Need-element-copy-out-task Inv-loop μ-loop
+element-copy-out-task c = omega arith
+
+good-requires : tie.Need-good-requires Inv-loop μ-loop
+good-requires c κs = tt
+
+returns : tie.Need-returns Inv-loop μ-loop
+returns c =
+    let l = c .before .before .before .before in
+    record {
+      first = bad-here _ _ _ (l .loop .inv .1) (c .before .before .before .loop-test .taken) _ (c .before .good2 .ensures) (c .if1 .taken);
+      sprung = l .loop .inv .2;
+    }
+
+spring-of-requires : tie.Need-spring-of-requires Inv-loop μ-loop
+spring-of-requires c κs = found-good _ _ (c .before .good2 .ensures) (c .if1 .left)
+
+mul-largest : tie.Need-mul-largest Inv-loop μ-loop
+mul-largest c = omega arith
+
+element-write-largest : tie.Need-element-write-largest Inv-loop μ-loop
+element-write-largest c = omega arith
+
+mul-least : tie.Need-mul-least Inv-loop μ-loop
+mul-least c = omega arith
+
+element-write-least : tie.Need-element-write-least Inv-loop μ-loop
+element-write-least c = omega arith
+
+mul-elasticity : tie.Need-mul-elasticity Inv-loop μ-loop
+mul-elasticity c = omega arith
+
+element-write-elasticity : tie.Need-element-write-elasticity Inv-loop μ-loop
+element-write-elasticity c = omega arith
+
+saturation-on-requires : tie.Need-saturation-on-requires Inv-loop μ-loop
+saturation-on-requires c κs = rw (c .spring-of .ensures) (good-within _ (found-good _ _ (c .before .before .good2 .ensures) (c .before .if1 .left)))
+
+mul-saturation : tie.Need-mul-saturation Inv-loop μ-loop
+mul-saturation c = omega arith
+
+element-write-saturation : tie.Need-element-write-saturation Inv-loop μ-loop
+element-write-saturation c = omega arith
+
+add-i : tie.Need-add-i Inv-loop μ-loop
+add-i c = omega arith
+
+loop-less : tie.Need-loop-less Inv-loop μ-loop
+loop-less c = omega arith
+
+loop-again : tie.Need-loop-again Inv-loop μ-loop
+loop-again c =
+    let f = c .before in
+    let i = f .before in
+    let g = i .before in
+    let l = g .before .before .before in
+    let t = l .before .args .t1 in (
+      omega arith,
+      bad-more (t .rows) (t .n) _ (l .loop .inv .1) _ (g .good2 .ensures) (i .if1 .left),
+      sprung-more _ _ _ _ _ (l .loop .inv .2) (omega arith) (f .spring-of .ensures) (c .saturation-on .ensures),
+    )
+
+returns-2 : tie.Need-returns-2 Inv-loop μ-loop
+returns-2 c =
+    let e : c .before .loop .i ≡ c .before .before .args .t1 .n = omega arith in
+    record { first = bad-none _ _ _ (c .before .loop .inv .1) e; sprung = rw e at (c .before .loop .inv .2) }
+
+pub springs-of-spec : {M : Type 1} → statement M
+springs-of-spec =
+    tie.close
+    (tie.spec
+    Inv-loop
+    μ-loop
+    loop-holds
+    mul-task
+    element-copy-out-task
+    good-requires
+    returns
+    spring-of-requires
+    mul-largest
+    element-write-largest
+    mul-least
+    element-write-least
+    mul-elasticity
+    element-write-elasticity
+    saturation-on-requires
+    mul-saturation
+    element-write-saturation
+    add-i
+    loop-less
+    loop-again
+    returns-2)

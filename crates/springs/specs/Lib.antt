@@ -1,0 +1,2 @@
+pub mod Spring
+pub mod Columns

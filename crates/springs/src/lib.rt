@@ -1,0 +1,147 @@
+// The springs of a table in lent columns of numbers, worked out once for a call; the shares of a step and the periods come from them.
+// Contracts cite `specs/Spring`, of one spring, and `specs/Columns`.
+use kinds::Table;
+use kinds::Task;
+ghost use mathlib.Core.Path.{_≡_};
+ghost use Prim.Native.Nat.{ℕ, _-_, _≤_, max};
+ghost use lib.ListN.{length, getD};
+ghost use Rattle.ground.specs.Folds.{maxTo};
+ghost use Rattle.kinds.specs.Limits.{scale, greatestElasticity, mostTasks};
+ghost use Rattle.kinds.specs.Task.{Good};
+ghost use Rattle.rule.specs.Rule.{shareOf, periodOf};
+ghost use Rattle.share.specs.Share.{costOf, leastOf};
+ghost use Rattle.springs.specs.Spring.{springOf, saturationOn, Within, AllWithin, SumIs};
+ghost use Rattle.springs.specs.Columns.{columns, springIn, Roomy, SprungUntil, SharesAre};
+
+// All that a task's shares depend on.
+pub struct Spring {
+    pub largest: u32,
+    pub least: u32,
+    pub elasticity: u32,
+}
+
+// The spring of a task.
+pub fn spring_of(task: Task) -> Spring
+    requires { ⌜ Good task ⌝ }
+    ensures { λ r. ⌜ r ≡ springOf task ⌝ }
+{
+    let largest = share::largest(task);
+    let least = share::least(task);
+    Spring {
+        largest: largest.parts as u32,
+        least: least.parts as u32,
+        elasticity: task.e,
+    }
+}
+
+// The saturation step of a spring; 0 where the elasticity is 0.
+pub fn saturation_on(spring: Spring) -> u32
+    requires { ⌜ Within spring ⌝ }
+    ensures { λ r. ⌜ r ≡ saturationOn spring ⌝ }
+{
+    let largest = ground::wide(spring.largest);
+    let least = ground::wide(spring.least);
+    rule::saturation(largest, least, spring.elasticity) as u32
+}
+
+// The springs of a table and their saturation steps, worked out once for a call into four lent columns, up to the first record that is
+// not good. Returns the number of that record, or how many there are.
+pub fn springs_of(
+    table: Table,
+    largest: &mut [u32; Table::MOST_TASKS],
+    least: &mut [u32; Table::MOST_TASKS],
+    elasticity: &mut [u32; Table::MOST_TASKS],
+    saturation: &mut [u32; Table::MOST_TASKS],
+) -> usize
+    requires { ⌜ (table .n ≤ mostTasks) × Roomy (columns (now largest) (now least) (now elasticity) (now saturation)) ⌝ }
+    ensures { λ r. ⌜ SprungUntil (table .rows) (table .n) r (columns (now (largest .exit)) (now (least .exit)) (now (elasticity .exit)) (now (saturation .exit))) ⌝ }
+{
+    let n = table.n;
+    for i in 0..n {
+        let task = table.rows[i];
+        if !task.good() {
+            return i;
+        }
+        let spring = spring_of(task);
+        largest[i] = spring.largest;
+        least[i] = spring.least;
+        elasticity[i] = spring.elasticity;
+        saturation[i] = saturation_on(spring);
+    }
+    n
+}
+
+// What a share comes to one step later.
+pub fn let_down(share: u32, least: u32, elasticity: u32) -> u32
+    requires { ⌜ (least ≤ scale) × (elasticity ≤ greatestElasticity) ⌝ }
+    ensures { λ r. ⌜ r ≡ max least (share - elasticity) ⌝ }
+{
+    if share < least + elasticity {
+        least
+    } else {
+        share - elasticity
+    }
+}
+
+// Lets a column of shares down by one step, and returns the sum of what they then are. 32 bits hold it, and are twice as fast as 64.
+pub fn next_shares(
+    shares: &mut [u32; Table::MOST_TASKS],
+    least: &[u32; Table::MOST_TASKS],
+    elasticity: &[u32; Table::MOST_TASKS],
+    n: usize,
+) -> u64
+    requires { ⌜ (n ≤ mostTasks) × (length (now shares) ≡ mostTasks) × AllWithin (springIn (now shares) (now least) (now elasticity)) n ⌝ }
+    ensures { λ r. ⌜ SharesAre (springIn (now (shares .entry)) (now (least .entry)) (now (elasticity .entry))) n 1 (now (shares .exit)) × SumIs (springIn (now (shares .entry)) (now (least .entry)) (now (elasticity .entry))) n 1 r ⌝ }
+{
+    let mut sum: u32 = 0;
+    for i in 0..n {
+        let share = let_down(shares[i], least[i], elasticity[i]);
+        shares[i] = share;
+        sum += share;
+    }
+    ground::wide(sum)
+}
+
+// The share at step k of a spring.
+pub fn share_on(largest: u32, least: u32, elasticity: u32, k: u32) -> u32
+    requires { ⌜ (largest ≤ scale) × (least ≤ largest) ⌝ }
+    ensures { λ r. ⌜ r ≡ shareOf largest least elasticity k ⌝ }
+{
+    rule::share_at(ground::wide(largest), ground::wide(least), elasticity, k) as u32
+}
+
+// Lets a column of largest shares down to those of step k.
+pub fn shares_at(
+    shares: &mut [u32; Table::MOST_TASKS],
+    least: &[u32; Table::MOST_TASKS],
+    elasticity: &[u32; Table::MOST_TASKS],
+    n: usize,
+    k: u32,
+)
+    requires { ⌜ (n ≤ mostTasks) × (length (now shares) ≡ mostTasks) × AllWithin (springIn (now shares) (now least) (now elasticity)) n ⌝ }
+    ensures { λ _. ⌜ SharesAre (springIn (now (shares .entry)) (now (least .entry)) (now (elasticity .entry))) n k (now (shares .exit)) ⌝ }
+{
+    for i in 0..n {
+        shares[i] = share_on(shares[i], least[i], elasticity[i], k);
+    }
+}
+
+// The period that a share allows a task.
+pub fn period_on(task: Task, share: u32) -> u32
+    requires { ⌜ Good task × (leastOf task ≤ share) ⌝ }
+    ensures { λ r. ⌜ r ≡ periodOf (costOf task) (task .tmin) share ⌝ }
+{
+    rule::period(share::cost(task), task.tmin, ground::wide(share)) as u32
+}
+
+// Document 01: "Full compression K: the greatest saturation step, 0 if there is none."
+pub fn full_compression(saturation: &[u32; Table::MOST_TASKS], n: usize) -> u32
+    requires { ⌜ n ≤ mostTasks ⌝ }
+    ensures { λ r. ⌜ r ≡ maxTo (λ (i : ℕ). getD (now (saturation .entry)) i 0) n ⌝ }
+{
+    let mut greatest: u32 = 0;
+    for i in 0..n {
+        greatest = ground::later(greatest, saturation[i]);
+    }
+    greatest
+}

@@ -1,4 +1,0 @@
-pub mod Columns
-pub mod Nexts
-pub mod Lines
-pub mod Stretches

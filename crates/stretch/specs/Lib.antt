@@ -1,3 +1,0 @@
-pub mod Spring
-pub mod Next
-pub mod Division

@@ -1,0 +1,15 @@
+/* Both finders in C, to compare with: the same promises, the same algorithms, written as one would for speed. */
+#ifndef REFERENCE_H
+#define REFERENCE_H
+#include "eelbasket.h"
+
+typedef struct eelbasket_told finder(const struct eelbasket_task *rows, size_t tasks, struct eelbasket_station station, uint32_t *periods,
+                                     size_t periods_len, uint16_t *processors, size_t processors_len);
+
+/* The plain finder. Each divides once for a call; the shares of a step are multiplied out of the springs, or carried from the step
+   before, in a select or a maximum. */
+finder reference_multiplied, reference_select, reference_max;
+
+/* The quick finder. */
+finder reference_quick;
+#endif
