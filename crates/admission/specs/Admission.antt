@@ -4,44 +4,52 @@ use Prim.Native.Nat.{ℕ}
 use mathlib.Core.Bool.{Bool, not}
 use mathlib.Core.List.{List}
 use lib.Dec.{ltb}
-use Rattle.ground.specs.Choice.{pick, both, either}
+use Rattle.ground.specs.Choice.{both, either}
 use Rattle.kinds.specs.declared.Task.{Task}
+use Rattle.kinds.specs.declared.Policy.{Policy}
 use Rattle.kinds.specs.declared.Settings.{Settings}
-use Rattle.kinds.specs.declared.Refusal.{Refusal}
 use Rattle.kinds.specs.declared.Refusal.the-variants.{NoSuchPolicy, NoSuchProcessors, TooManyTasks, PolicyNotServed, OutputTooShort, BadRecord}
+use Rattle.kinds.specs.declared.Verdict.{Verdict}
+use Rattle.kinds.specs.declared.Verdict.the-variants.{Accepted, Refused}
 use Rattle.kinds.specs.Limits.{mostTasks, mostProcessors}
 use Rattle.kinds.specs.Policy.{meant, isFirstFit, isFurther}
+use Rattle.kinds.specs.Answer.{check}
 use Rattle.share.specs.Table.{firstBad}
-use Rattle.admission.specs.declared.Admission.{Admission}
-use Rattle.admission.specs.declared.Admission.the-variants.{Admitted, Refused}
 
--- refused where the test holds, else by what comes after
-abbrev pub check : Bool → Refusal → Admission → Admission
-check test r rest = pick test (Refused r) rest
-
--- 1 to 5 for any kind of table: an unknown policy, m, more tasks than there may be, a policy that the call does not serve, a short output
-unfoldable pub gate : Bool → ℕ → ℕ → Bool → ℕ → Admission
-gate unknown m n unserved room =
-    check unknown NoSuchPolicy
-    (check (either (ltb m 1) (ltb mostProcessors m)) NoSuchProcessors
-    (check (ltb mostTasks n) (TooManyTasks n)
-    (check unserved PolicyNotServed
-    (check (ltb room n) (OutputTooShort n)
-    Admitted))))
-
--- what comes after an admission
-abbrev pub andThen : Admission → Admission → Admission
-andThen Admitted rest = rest
+-- what comes after a verdict
+abbrev pub andThen : Verdict → Verdict → Verdict
+andThen Accepted rest = rest
 andThen (Refused r) rest = Refused r
 
--- 1 to 5 of a call on n tasks that serves policy 4, or does not; the room is that of the shortest lent output
-abbrev pub gateOf : Bool → Settings → ℕ → ℕ → Admission
+-- 1, the policy's own refusal: it is none of those numbered
+abbrev pub knows : Policy → Verdict
+knows p = check (isFurther p) (Refused NoSuchPolicy) Accepted
+
+-- what 2 is given for: m is 0 or above the most
+abbrev pub misset : ℕ → Bool
+misset m = either (ltb m 1) (ltb mostProcessors m)
+
+-- 2 and 3, for any kind of table: something is misset, more tasks than there may be
+unfoldable pub gate : Bool → ℕ → Verdict
+gate misset n = check misset (Refused NoSuchProcessors) (check (ltb mostTasks n) (Refused (TooManyTasks n)) Accepted)
+
+-- 4: policy 4 is asked of a call that does not serve it
+abbrev pub served : Bool → Policy → Verdict
+served serves p = check (both (isFirstFit p) (not serves)) (Refused PolicyNotServed) Accepted
+
+-- 5: the shortest lent output holds fewer entries than there are tasks
+abbrev pub roomy : ℕ → ℕ → Verdict
+roomy n room = check (ltb room n) (Refused (OutputTooShort n)) Accepted
+
+-- 1 to 5 of a call on n tasks that serves policy 4, or does not
+abbrev pub gateOf : Bool → Settings → ℕ → ℕ → Verdict
 gateOf serves s n room =
-    gate (isFurther (meant (s .policy))) (s .m) n (both (isFirstFit (meant (s .policy))) (not serves)) room
+    let p = meant (s .policy) in
+    andThen (knows p) (andThen (gate (misset (s .m)) n) (andThen (served serves p) (roomy n room)))
 
 -- 6
-abbrev pub recordsGood : List Task → ℕ → Admission
-recordsGood rows n = check (ltb (firstBad rows n) n) (BadRecord (firstBad rows n)) Admitted
+abbrev pub recordsGood : List Task → ℕ → Verdict
+recordsGood rows n = check (ltb (firstBad rows n) n) (Refused (BadRecord (firstBad rows n))) Accepted
 
-unfoldable pub admission : Bool → Settings → List Task → ℕ → ℕ → Admission
+unfoldable pub admission : Bool → Settings → List Task → ℕ → ℕ → Verdict
 admission serves s rows n room = andThen (gateOf serves s n room) (recordsGood rows n)

@@ -7,11 +7,11 @@ use mathlib.Core.Path.{_≡_}
 use Rattle.kinds.specs.declared.Task.{Task}
 use Rattle.kinds.specs.declared.Settings.{Settings}
 use Rattle.springs.specs.Columns.{Columns, Sprung}
-use Rattle.admission.specs.declared.Admission.{Admission}
-use Rattle.admission.specs.declared.Admission.the-variants.{Admitted}
+use Rattle.kinds.specs.declared.Verdict.{Verdict}
+use Rattle.kinds.specs.declared.Verdict.the-variants.{Accepted}
 use Rattle.admission.specs.Admission.{admission}
 
 -- the admission, and where it admits the springs
-pub record AdmittedSprung (serves : Bool) (s : Settings) (rows : List Task) (n room : ℕ) (a : Admission) (springs : Columns) : Type 0 where
+pub record AdmittedSprung (serves : Bool) (s : Settings) (rows : List Task) (n room : ℕ) (a : Verdict) (springs : Columns) : Type 0 where
   pub is : a ≡ admission serves s rows n room
-  pub sprung : a ≡ Admitted → Sprung rows n springs
+  pub sprung : a ≡ Accepted → Sprung rows n springs

@@ -3,44 +3,94 @@ use kinds::Policy;
 use kinds::Refusal;
 use kinds::Settings;
 use kinds::Table;
+use kinds::Verdict;
 ghost use mathlib.Core.Bool.{not};
 ghost use mathlib.Core.Path.{_≡_};
 ghost use Rattle.ground.specs.Choice.{both};
 ghost use Rattle.kinds.specs.Policy.{isFirstFit};
 ghost use Rattle.springs.specs.Columns.{columns, Roomy};
-ghost use Rattle.admission.specs.Admission.{gate, gateOf};
+ghost use Rattle.admission.specs.Admission.{andThen, knows, misset, gate, served, roomy, gateOf};
 ghost use Rattle.admission.specs.Sprung.{AdmittedSprung};
 
-// What the admission answers.
-pub enum Admission {
-    Admitted,
-    Refused(Refusal),
+// Refusal 1, the policy's own: it is none of those numbered.
+pub fn knows(policy: Policy) -> Verdict
+    ensures { λ r. ⌜ r ≡ knows policy ⌝ }
+{
+    if policy.is_further() {
+        return Verdict::Refused(Refusal::NoSuchPolicy);
+    }
+    Verdict::Accepted
 }
 
-// Refusals 1 to 5, for any kind of table: whether the policy is none of those numbered, m, the count n, whether the policy is not served
-// by the call, and the room of the shortest lent output.
-pub fn gate(unknown: bool, m: u16, n: usize, unserved: bool, room: usize) -> Admission
-    ensures { λ r. ⌜ r ≡ gate unknown m n unserved room ⌝ }
+// Whether there are no processors, or more than the most.
+pub fn misset(m: u16) -> bool
+    ensures { λ r. ⌜ r ≡ misset m ⌝ }
 {
-    if unknown {
-        return Admission::Refused(Refusal::NoSuchPolicy);
-    }
     if m < 1 {
-        return Admission::Refused(Refusal::NoSuchProcessors);
+        return true;
     }
-    if Settings::MOST_PROCESSORS < m {
-        return Admission::Refused(Refusal::NoSuchProcessors);
+    Settings::MOST_PROCESSORS < m
+}
+
+// Refusals 2 and 3, for any kind of table: something is misset, and the count n.
+pub fn gate(misset: bool, n: usize) -> Verdict
+    ensures { λ r. ⌜ r ≡ gate misset n ⌝ }
+{
+    if misset {
+        return Verdict::Refused(Refusal::NoSuchProcessors);
     }
     if Table::MOST_TASKS < n {
-        return Admission::Refused(Refusal::TooManyTasks(n));
+        return Verdict::Refused(Refusal::TooManyTasks(n));
     }
-    if unserved {
-        return Admission::Refused(Refusal::PolicyNotServed);
-    }
+    Verdict::Accepted
+}
+
+// Refusal 5: the room of the shortest lent output.
+pub fn roomy(n: usize, room: usize) -> Verdict
+    ensures { λ r. ⌜ r ≡ roomy n room ⌝ }
+{
     if room < n {
-        return Admission::Refused(Refusal::OutputTooShort(n));
+        return Verdict::Refused(Refusal::OutputTooShort(n));
     }
-    Admission::Admitted
+    Verdict::Accepted
+}
+
+// Whether policy 4 is asked of a call that does not serve it.
+fn unserved(policy: Policy, serves: bool) -> bool
+    ensures { λ r. ⌜ r ≡ both (isFirstFit policy) (not serves) ⌝ }
+{
+    policy.is_first_fit() && !serves
+}
+
+// Refusal 4.
+fn served(policy: Policy, serves: bool) -> Verdict
+    ensures { λ r. ⌜ r ≡ served serves policy ⌝ }
+{
+    if unserved(policy, serves) {
+        return Verdict::Refused(Refusal::PolicyNotServed);
+    }
+    Verdict::Accepted
+}
+
+// A verdict that comes first, else the rest.
+pub fn and_then(first: Verdict, rest: Verdict) -> Verdict
+    ensures { λ r. ⌜ r ≡ andThen first rest ⌝ }
+{
+    match first {
+        Verdict::Accepted => rest,
+        Verdict::Refused(refusal) => Verdict::Refused(refusal),
+    }
+}
+
+// Refusals 1 to 5 of a call on n tasks that serves policy 4, or does not.
+pub fn gate_of(settings: Settings, serves: bool, n: usize, room: usize) -> Verdict
+    ensures { λ r. ⌜ r ≡ gateOf serves settings n room ⌝ }
+{
+    let asked = settings.policy;
+    let policy = asked.meant();
+    let last = and_then(served(policy, serves), roomy(n, room));
+    let from_two = and_then(gate(misset(settings.m), n), last);
+    and_then(knows(policy), from_two)
 }
 
 // Refusals 1 to 6 of a call that serves policy 4, or does not. The walk that judges the records works their springs out into four lent
@@ -54,40 +104,18 @@ pub fn admit(
     least: &mut [u32; Table::MOST_TASKS],
     elasticity: &mut [u32; Table::MOST_TASKS],
     saturation: &mut [u32; Table::MOST_TASKS],
-) -> Admission
+) -> Verdict
     requires { ⌜ Roomy (columns (now largest) (now least) (now elasticity) (now saturation)) ⌝ }
     ensures { λ r. ⌜ AdmittedSprung serves settings (table .rows) (table .n) room r (columns (now (largest .exit)) (now (least .exit)) (now (elasticity .exit)) (now (saturation .exit))) ⌝ }
 {
     let n = table.n;
     let gate = gate_of(settings, serves, n, room);
-    let Admission::Admitted = gate else {
+    let Verdict::Accepted = gate else {
         return gate;
     };
     let bad = springs::springs_of(table, largest, least, elasticity, saturation);
     if bad < n {
-        return Admission::Refused(Refusal::BadRecord(bad));
+        return Verdict::Refused(Refusal::BadRecord(bad));
     }
-    Admission::Admitted
-}
-
-// Refusals 1 to 5 of a call on n tasks.
-fn gate_of(settings: Settings, serves: bool, n: usize, room: usize) -> Admission
-    ensures { λ r. ⌜ r ≡ gateOf serves settings n room ⌝ }
-{
-    let asked = settings.policy;
-    let policy = asked.meant();
-    gate(
-        policy.is_further(),
-        settings.m,
-        n,
-        unserved(policy, serves),
-        room,
-    )
-}
-
-// Whether policy 4 is asked of a call that does not serve it.
-fn unserved(policy: Policy, serves: bool) -> bool
-    ensures { λ r. ⌜ r ≡ both (isFirstFit policy) (not serves) ⌝ }
-{
-    policy.is_first_fit() && !serves
+    Verdict::Accepted
 }

@@ -10,7 +10,7 @@ use borrow.Author.Tests.{leb-true, le-leb, lt-ltb, le-ltb}
 use Rattle.ground.specs.First.{IsFirst}
 use Rattle.ground.specs.Folds.{listTo}
 use Rattle.ground.proofs.Cases.{by-bool, by-le, true-false, both-true}
-use Rattle.ground.proofs.First.{first-is, first-here, first-more, first-none}
+use Rattle.ground.proofs.First.{first-is}
 use Rattle.ground.proofs.Buffer.{list-long, list-at}
 use Rattle.kinds.specs.declared.Refusal.the-variants.{TooManyTasks, BadPeriod}
 use Rattle.kinds.specs.Answer.{Handed, accepted, refused}
@@ -34,19 +34,6 @@ fair ticks e =
 pub first-bad-is : (ps : List ℕ) → IsFirst (λ i. not (isPeriod (every ps i))) (length ps) (firstBad ps)
 unfolding firstBad
 first-bad-is ps = first-is (λ i. not (isPeriod (every ps i))) (length ps)
-
--- the walk that finds it
-module _ (ps : List ℕ) (i : ℕ) (h : (j : ℕ) → j < i → not (isPeriod (every ps j)) ≡ false) where
-  pub bad-here : i < length ps → (b : Bool) → b ≡ isPeriod (every ps i) → not b ≡ true → i ≡ firstBad ps
-  unfolding firstBad
-  bad-here l b e t = first-here (λ j. not (isPeriod (every ps j))) (length ps) i h l (ap not (sym e) ∙ t)
-
-  pub bad-more : (b : Bool) → b ≡ isPeriod (every ps i) → not b ≡ false → (j : ℕ) → j < i + 1 → not (isPeriod (every ps j)) ≡ false
-  bad-more b e t = first-more (λ j. not (isPeriod (every ps j))) (length ps) i h (ap not (sym e) ∙ t)
-
-  pub bad-none : i ≡ length ps → length ps ≡ firstBad ps
-  unfolding firstBad
-  bad-none e = sym e ∙ first-none (λ j. not (isPeriod (every ps j))) (length ps) i h e
 
 -- periods that a clock starts with
 pub record Whole (ps : List ℕ) : Type 0 where

@@ -5,11 +5,11 @@ use mathlib.Core.Bool.{Bool, not}
 use mathlib.Core.List.{List, _++_}
 use lib.Dec.{leb, ltb}
 use lib.ListN.{length, getD, drop, replicate}
-use Rattle.ground.specs.Choice.{pick, both}
+use Rattle.ground.specs.Choice.{both}
 use Rattle.ground.specs.First.{firstBelow}
 use Rattle.ground.specs.Folds.{listTo}
 use Rattle.kinds.specs.declared.Refusal.the-variants.{TooManyTasks, BadPeriod}
-use Rattle.kinds.specs.Answer.{Handed, accepted, refused, handedWith}
+use Rattle.kinds.specs.Answer.{Handed, accepted, refused, check, handedWith}
 use Rattle.kinds.specs.Limits.{longestPeriod, mostTasks}
 use Rattle.clock.specs.declared.Clock.{Clock}
 use Rattle.clock.specs.declared.Started.{Started}
@@ -41,8 +41,8 @@ clockFrom periods tick = record { periods = padded (every periods) (length perio
 -- Ask 12: more than 32 tasks "are refused by 3; at the start then the first period that is 0 or above 1,000,000,000 by 17 at its task"
 unfoldable pub started : List ℕ → ℕ → Handed Clock
 started periods tick =
-    pick (ltb mostTasks (length periods)) (refused noClock (TooManyTasks (length periods)))
-    (pick (ltb (firstBad periods) (length periods)) (refused noClock (BadPeriod (firstBad periods)))
+    check (ltb mostTasks (length periods)) (refused noClock (TooManyTasks (length periods)))
+    (check (ltb (firstBad periods) (length periods)) (refused noClock (BadPeriod (firstBad periods)))
     (accepted (clockFrom periods tick)))
 
 -- a start in document 01's numbers, with the clock beside its verdict

@@ -1,8 +1,8 @@
 -- The computed first number is the first in words, and no other number is.
 -- Assumes nothing.
 use Prim.Native.Nat.{ℕ, zero, suc, _+_, _<_}
-use mathlib.Core.Bool.{Bool, true, false}
-use mathlib.Core.Path.{_≡_, sym, _∙_}
+use mathlib.Core.Bool.{Bool, true, false, not}
+use mathlib.Core.Path.{_≡_, sym, ap, _∙_}
 use native.Mathlib.Omega.{arith}
 use Rattle.ground.specs.First.{firstFrom, firstBelow, IsFirst}
 use Rattle.ground.proofs.Cases.{by-bool, by-le, true-false, below-next}
@@ -38,6 +38,17 @@ module _ (test : ℕ → Bool) (n i : ℕ) (h : (j : ℕ) → j < i → test j �
 
   pub first-more : test i ≡ false → (j : ℕ) → j < i + 1 → test j ≡ false
   first-more t j l = below-next (λ x. test x ≡ false) i h t j (omega arith)
+
+-- a walk over what is good or not, which has come to i without meeting what is not, as it asks
+module _ (good : ℕ → Bool) (n i : ℕ) (h : (j : ℕ) → j < i → not (good j) ≡ false) where
+  pub bad-here : i < n → (b : Bool) → b ≡ good i → not b ≡ true → i ≡ firstBelow (λ j. not (good j)) n
+  bad-here l b e t = first-here (λ j. not (good j)) n i h l (ap not (sym e) ∙ t)
+
+  pub bad-more : (b : Bool) → b ≡ good i → not b ≡ false → (j : ℕ) → j < i + 1 → not (good j) ≡ false
+  bad-more b e t = first-more (λ j. not (good j)) n i h (ap not (sym e) ∙ t)
+
+  pub bad-none : i ≡ n → n ≡ firstBelow (λ j. not (good j)) n
+  bad-none e = sym e ∙ first-none (λ j. not (good j)) n i h e
 
 pub first-cong : (f g : ℕ → Bool) (n : ℕ) → ((i : ℕ) → i < n → f i ≡ g i) → firstBelow f n ≡ firstBelow g n
 first-cong f g n e =

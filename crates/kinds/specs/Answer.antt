@@ -1,7 +1,7 @@
 -- What a call hands back, in document 01's numbers: number 0 is acceptance.
 -- Assumes nothing.
 use Prim.Native.Nat.{ℕ}
-use mathlib.Core.Bool.{Bool, true, false}
+use mathlib.Core.Bool.{Bool, true, false, not}
 use mathlib.Core.List.{List, _++_}
 use lib.Dec.{eqb}
 use lib.IntN.{ℤ, pos}
@@ -29,9 +29,13 @@ accepted v = record { number = 0; place = 0; value = v }
 abbrev pub refused : {A : Type 0} → A → Refusal → Handed A
 refused nothing r = record { number = numberOf r; place = placeOf r; value = nothing }
 
--- one check in a chain of refusals: the rest where the test holds, else the refusal
+-- one check in a chain of refusals: where the test of a number holds that number's refusal is handed back, else the rest
+abbrev pub check : {A : Type 0} → Bool → A → A → A
+check test refusal rest = pick test refusal rest
+
+-- the same where something has to hold
 abbrev pub judged : {A : Type 0} → A → Bool → Refusal → Handed A → Handed A
-judged nothing test refusal rest = pick test rest (refused nothing refusal)
+judged nothing test refusal rest = check (not test) (refused nothing refusal) rest
 
 -- a refusal that comes first, with nothing for its value, else what comes of the value
 abbrev pub unrefused : {A B : Type 0} → B → Handed A → (A → Handed B) → Handed B

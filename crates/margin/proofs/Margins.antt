@@ -19,8 +19,8 @@ use Rattle.share.specs.Share.{shareAt}
 use Rattle.share.specs.Table.{shares}
 use Rattle.policy.specs.Sides.{marginOf}
 use Rattle.policy.proofs.Tests.{margin-same}
-use Rattle.admission.specs.declared.Admission.{Admission}
-use Rattle.admission.specs.declared.Admission.the-variants.{Admitted, Refused}
+use Rattle.kinds.specs.declared.Verdict.{Verdict}
+use Rattle.kinds.specs.declared.Verdict.the-variants.{Accepted, Refused}
 use Rattle.admission.specs.Admission.{admission}
 use Rattle.admission.proofs.Chain.{admitted, admission-same, admission-many}
 use Rattle.margin.specs.Margin.{reported, marginHanded}
@@ -30,8 +30,8 @@ pub no-second-margin : (s : Settings) (rows : List Task) (n k : ℕ) (x y : Marg
 no-second-margin s rows n k x y p q = margin-one x y (p ∙ sym q)
 
 -- a call that is not admitted is refused, whatever the margin
-reported-apart : (a : Admission) (x y : ℤ) → (a ≡ Admitted → ⊥) → reported a x ≡ reported a y
-reported-apart Admitted x y h = absurd (h refl)
+reported-apart : (a : Verdict) (x y : ℤ) → (a ≡ Accepted → ⊥) → reported a x ≡ reported a y
+reported-apart Accepted x y h = absurd (h refl)
 reported-apart (Refused r) x y h = refl
 
 pub margin-handed-same : (s : Settings) (xs ys : List Task) (n k : ℕ) → (n ≤ mostTasks → (i : ℕ) → i < n → at xs i ≡ at ys i)
@@ -42,5 +42,5 @@ margin-handed-same s xs ys n k same =
     (λ few. ap₂ reported (admission-same false s xs ys n n (same few))
     (margin-same (meant (s .policy)) (s .m) (shares xs k) (shares ys k) n (λ i l. ap (λ (t : Task). shareAt t k) (same few i l))))
     (λ many.
-    ap (λ (a : Admission). reported a (marginOf (meant (s .policy)) (s .m) (shares xs k) n)) (admission-many false s xs ys n n many)
+    ap (λ (a : Verdict). reported a (marginOf (meant (s .policy)) (s .m) (shares xs k) n)) (admission-many false s xs ys n n many)
     ∙ reported-apart (admission false s ys n n) _ _ (λ e. omega (arith, admitted false s ys n n e .passed .few)))

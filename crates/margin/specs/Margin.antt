@@ -10,14 +10,14 @@ use Rattle.kinds.specs.Answer.{Handed, accepted, refused}
 use Rattle.kinds.specs.Policy.{meant}
 use Rattle.share.specs.Table.{shares}
 use Rattle.policy.specs.Sides.{marginOf}
-use Rattle.admission.specs.declared.Admission.{Admission}
-use Rattle.admission.specs.declared.Admission.the-variants.{Admitted, Refused}
+use Rattle.kinds.specs.declared.Verdict.{Verdict}
+use Rattle.kinds.specs.declared.Verdict.the-variants.{Accepted, Refused}
 use Rattle.admission.specs.Admission.{admission}
 
 -- an admitted call is answered by the margin
-abbrev pub reported : Admission → ℤ → Handed ℤ
+abbrev pub reported : Verdict → ℤ → Handed ℤ
 reported (Refused r) x = refused (pos 0) r
-reported Admitted x = accepted x
+reported Accepted x = accepted x
 
 -- at step k, of the first n of some records. Nothing is lent, so refusal 5 is never given; policy 4 is not served
 unfoldable pub marginHanded : Settings → List Task → ℕ → ℕ → Handed ℤ

@@ -1,8 +1,8 @@
 // The margin of a step: by how much a table passes or fails the test of policies 1 to 3. Contracts cite `specs/Margin`.
-use admission::Admission;
 use kinds::Margin;
 use kinds::Settings;
 use kinds::Table;
+use kinds::Verdict;
 ghost use mathlib.Core.Path.{_≡_};
 ghost use Rattle.kinds.specs.Answer.{handedMargin};
 ghost use Rattle.margin.specs.Margin.{marginHanded};
@@ -26,7 +26,7 @@ pub fn margin_at(table: Table, settings: Settings, step: u32) -> Margin
         &mut elasticity,
         &mut saturation,
     );
-    let Admission::Refused(refusal) = admission else {
+    let Verdict::Refused(refusal) = admission else {
         let asked = settings.policy;
         springs::shares_at(&mut shares, &least, &elasticity, n, step);
         return Margin::Is(policy::margin_of(asked.meant(), settings.m, &shares, n));

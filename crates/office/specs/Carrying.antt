@@ -5,14 +5,13 @@ use mathlib.Core.List.{List, []}
 use mathlib.Core.Path.{_≡_}
 use lib.Dec.{ltb}
 use lib.ListN.{length}
-use Rattle.ground.specs.Choice.{pick}
 use Rattle.kinds.specs.declared.Task.{Task}
 use Rattle.kinds.specs.declared.Table.{Table}
 use Rattle.kinds.specs.declared.Refusal.{Refusal}
 use Rattle.kinds.specs.declared.Refusal.the-variants.{TooManyTasks, OutputTooShort}
 use Rattle.kinds.specs.Limits.{mostTasks}
 use Rattle.kinds.specs.Task.{noTask}
-use Rattle.kinds.specs.Answer.{Handed, accepted, refused, handedCount, after}
+use Rattle.kinds.specs.Answer.{Handed, accepted, refused, check, handedCount, after}
 use Rattle.walk.specs.Padded.{padded}
 use Rattle.kinds.specs.declared.Counted.{Counted}
 use Rattle.kinds.specs.declared.Counted.the-variants.{Refused}
@@ -22,7 +21,7 @@ use Rattle.office.specs.Reading.{Reading, Rows, Not, readText, rowsOf}
 
 -- "Short outputs are refused by 5, last."
 abbrev pub carry : ℕ → ℕ → Handed ℕ
-carry needed room = pick (ltb room needed) (refused 0 (OutputTooShort needed)) (accepted needed)
+carry needed room = check (ltb room needed) (refused 0 (OutputTooShort needed)) (accepted needed)
 
 abbrev pub carryRows : Reading → ℕ → Handed ℕ
 carryRows (Rows rows) room = carry (length rows) room
@@ -35,7 +34,7 @@ importHanded text room = carryRows (readText text) room
 -- an export of the first n rows into an output with room for so many bytes: "Export refuses more than 32 tasks by 3."
 unfoldable pub exportHanded : List Task → ℕ → ℕ → Handed ℕ
 exportHanded rows n room =
-    pick (ltb mostTasks n) (refused 0 (TooManyTasks n)) (carry (length (textTo rows n)) room)
+    check (ltb mostTasks n) (refused 0 (TooManyTasks n)) (carry (length (textTo rows n)) room)
 
 -- the output after a call: what was carried over and then what stood there
 abbrev pub afterCarry : {A : Type 0} → Handed ℕ → List A → List A → List A

@@ -6,12 +6,12 @@ use mathlib.Core.Path.{_≡_}
 use native.Mathlib.Omega.{arith}
 use borrow.Author.Tests.{le-ltb}
 use Rattle.kinds.specs.declared.Sheet.{Sheet}
-use Rattle.admission.specs.Admission.{gate, admission}
+use Rattle.admission.specs.Admission.{admission}
 use Rattle.plan.specs.Plan.{found}
 use Rattle.plain.specs.Asked.{asked}
 
 pub asked-roomy : (x : Sheet) (room : ℕ) → x .table .n ≤ room → found true (x .settings) (x .table .rows) (x .table .n) room ≡ asked x
-unfolding asked found admission gate
+unfolding asked found admission
 asked-roomy x room h =
     let n = x .table .n in
     rw (le-ltb room n h, le-ltb n n (omega arith))

@@ -1,12 +1,12 @@
 // The plain finder: it tests the policy at step 0, 1, 2, … to full compression. The springs are worked out once for a call, and the
 // shares stand in a column that is let down from step to step. Contracts cite `specs/Steps`; the promise of `find` is `outcome true` of
 // `plan`.
-use admission::Admission;
 use ground::Step;
 use kinds::Answer;
 use kinds::Policy;
 use kinds::Settings;
 use kinds::Table;
+use kinds::Verdict;
 ghost use mathlib.Core.Bool.{true};
 ghost use mathlib.Core.Path.{_≡_};
 ghost use Prim.Native.Nat.{_≤_};
@@ -79,7 +79,7 @@ fn decide_in(
         elasticity,
         saturation,
     );
-    let Admission::Admitted = admission else {
+    let Verdict::Accepted = admission else {
         return plan::decide(admission, Step::Nothing);
     };
     let asked = settings.policy;

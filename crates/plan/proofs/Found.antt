@@ -23,26 +23,26 @@ use Rattle.share.proofs.Tables.{good-table}
 use Rattle.springs.specs.Columns.{SharesOf}
 use Rattle.policy.specs.Passing.{leastStep}
 use Rattle.policy.proofs.Demand.{step-at}
-use Rattle.admission.specs.declared.Admission as adm
+use Rattle.kinds.specs.declared.Verdict as verdict
 use Rattle.admission.specs.Admission.{admission}
 use Rattle.admission.proofs.Chain.{Ready, admitted, not-admitted}
 use Rattle.plan.specs.Plan.{decided, found, outcome, Meets, Leaves, Grantable, MayGrant}
 
 -- an acceptance was admitted, and its step is the least that passes
-pub decided-accepted : (a : adm.Admission) (step : Step) (k : ℕ) → accepted k ≡ decided a step → (a ≡ adm.the-variants.Admitted) × (step ≡ At k)
-decided-accepted (adm.the-variants.Refused r) step k e = not-refused k 0 r e
-decided-accepted adm.the-variants.Admitted (At j) k e = (refl, ap At (sym (ap (λ (h : Handed ℕ). h .value) e)))
-decided-accepted adm.the-variants.Admitted Nothing k e = not-refused k 0 NoStepPasses e
+pub decided-accepted : (a : verdict.Verdict) (step : Step) (k : ℕ) → accepted k ≡ decided a step → (a ≡ verdict.the-variants.Accepted) × (step ≡ At k)
+decided-accepted (verdict.the-variants.Refused r) step k e = not-refused k 0 r e
+decided-accepted verdict.the-variants.Accepted (At j) k e = (refl, ap At (sym (ap (λ (h : Handed ℕ). h .value) e)))
+decided-accepted verdict.the-variants.Accepted Nothing k e = not-refused k 0 NoStepPasses e
 
 -- the step of an acceptance is the one that was found
-pub answered-at : (answer : Answer) (a : adm.Admission) (step : Step) → handed answer ≡ decided a step → isAccepted answer ≡ true
+pub answered-at : (answer : Answer) (a : verdict.Verdict) (step : Step) → handed answer ≡ decided a step → isAccepted answer ≡ true
     → step ≡ At (stepOf answer)
 answered-at (Accepted k) a step e t = decided-accepted a step k e .1
 answered-at (Refused r) a step e t = true-false t refl
 
 -- a refused admission is no acceptance
-pub refused-held : {A : Type 0} (answer : Answer) (a : adm.Admission) (step : Step) (r : Refusal) → handed answer ≡ decided a step
-    → a ≡ adm.the-variants.Refused r → isAccepted answer ≡ true → A
+pub refused-held : {A : Type 0} (answer : Answer) (a : verdict.Verdict) (step : Step) (r : Refusal) → handed answer ≡ decided a step
+    → a ≡ verdict.the-variants.Refused r → isAccepted answer ≡ true → A
 refused-held (Accepted k) a step r e q t = not-admitted a q (decided-accepted a step k e .0)
 refused-held (Refused x) a step r e q t = true-false t refl
 
@@ -75,8 +75,8 @@ may-grant serves (Accepted k) s t shares a b e h =
         }
 
 -- as a finder works it out: without a step where the admission refuses, else with the least one
-module _ (serves : Bool) (s : Settings) (rows : List Task) (n room : ℕ) (a : adm.Admission) (is : a ≡ admission serves s rows n room) where
-  pub refused-found : (r : Refusal) (step : Step) → a ≡ adm.the-variants.Refused r → decided a step ≡ found serves s rows n room
+module _ (serves : Bool) (s : Settings) (rows : List Task) (n room : ℕ) (a : verdict.Verdict) (is : a ≡ admission serves s rows n room) where
+  pub refused-found : (r : Refusal) (step : Step) → a ≡ verdict.the-variants.Refused r → decided a step ≡ found serves s rows n room
   unfolding found
   refused-found r step e = rw (← is, e)
 

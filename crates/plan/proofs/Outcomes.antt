@@ -16,7 +16,7 @@ use Rattle.kinds.specs.declared.Task.{Task}
 use Rattle.kinds.specs.declared.Policy.{Policy}
 use Rattle.kinds.specs.declared.Settings.{Settings}
 use Rattle.kinds.specs.declared.Answer.{Answer}
-use Rattle.kinds.specs.Answer.{Handed}
+use Rattle.kinds.specs.Answer.{Handed, after}
 use Rattle.kinds.specs.Limits.{mostTasks}
 use Rattle.kinds.specs.Policy.{meant, isFirstFit}
 use Rattle.kinds.specs.Task.{at}
@@ -28,10 +28,10 @@ use Rattle.share.proofs.Tables.{periods-same}
 use Rattle.fit.proofs.Placing.{place-same}
 use Rattle.policy.specs.Passing.{leastStep}
 use Rattle.policy.proofs.Demand.{step-same}
-use Rattle.admission.specs.declared.Admission as adm
+use Rattle.kinds.specs.declared.Verdict as verdict
 use Rattle.admission.specs.Admission.{admission}
 use Rattle.admission.proofs.Chain.{admitted, admission-same, admission-many, admission-serves}
-use Rattle.plan.specs.Plan.{processorAt, processorsAt, decided, written, Outcome, found, outcome, Meets}
+use Rattle.plan.specs.Plan.{processorAt, processorsAt, decided, Outcome, found, outcome, Meets}
 
 -- two answers, with their outputs, that meet one outcome are equal
 pub no-second-answer : (o : Outcome) (a b : Answer) (ps qs ps′ qs′ : List ℕ) → Meets o a ps qs → Meets o b ps′ qs′ → (a ≡ b) × (ps ≡ ps′) × (qs ≡ qs′)
@@ -39,27 +39,27 @@ no-second-answer o a b ps qs ps′ qs′ x y =
     (handed-one a b (x .answers ∙ sym (y .answers)), x .grants ∙ sym (y .grants), x .places ∙ sym (y .places))
 
 -- a call that is not admitted is refused, whatever the step
-decided-refused : (a : adm.Admission) (x : Step) → (a ≡ adm.the-variants.Admitted → ⊥) → decided a x .number ≡ 0 → ⊥
-decided-refused adm.the-variants.Admitted x h e = h refl
-decided-refused (adm.the-variants.Refused r) x h e = omega (arith, refusal-numbered r)
+decided-refused : (a : verdict.Verdict) (x : Step) → (a ≡ verdict.the-variants.Accepted → ⊥) → decided a x .number ≡ 0 → ⊥
+decided-refused verdict.the-variants.Accepted x h e = h refl
+decided-refused (verdict.the-variants.Refused r) x h e = omega (arith, refusal-numbered r)
 
-decided-apart : (a : adm.Admission) (x y : Step) → (a ≡ adm.the-variants.Admitted → ⊥) → decided a x ≡ decided a y
-decided-apart adm.the-variants.Admitted x y h = absurd (h refl)
-decided-apart (adm.the-variants.Refused r) x y h = refl
+decided-apart : (a : verdict.Verdict) (x y : Step) → (a ≡ verdict.the-variants.Accepted → ⊥) → decided a x ≡ decided a y
+decided-apart verdict.the-variants.Accepted x y h = absurd (h refl)
+decided-apart (verdict.the-variants.Refused r) x y h = refl
 
 -- what would have been written is of no account where the call is refused
-pub keeps : (h : Handed ℕ) (f g : List ℕ) (n : ℕ) (old : List ℕ) → (h .number ≡ 0 → ⊥) → written h f n old ≡ written h g n old
+pub keeps : (h : Handed ℕ) (f g : List ℕ) (n : ℕ) (old : List ℕ) → (h .number ≡ 0 → ⊥) → after h f n old ≡ after h g n old
 keeps h f g n old d = rw (ne-eqb (h .number) 0 d)
 
 module _ (serves : Bool) (s : Settings) (xs ys : List Task) (n : ℕ) where
   -- too many tasks: no record is looked at
-  not-admitted : (rows : List Task) (room : ℕ) → mostTasks < n → admission serves s rows n room ≡ adm.the-variants.Admitted → ⊥
+  not-admitted : (rows : List Task) (room : ℕ) → mostTasks < n → admission serves s rows n room ≡ verdict.the-variants.Accepted → ⊥
   not-admitted rows room h e = omega (arith, admitted serves s rows n room e .passed .few)
 
   found-many : (room : ℕ) → mostTasks < n → found serves s xs n room ≡ found serves s ys n room
   unfolding found
   found-many room h =
-      ap (λ (a : adm.Admission). decided a (leastStep (meant (s .policy)) (s .m) xs n)) (admission-many serves s xs ys n room h)
+      ap (λ (a : verdict.Verdict). decided a (leastStep (meant (s .policy)) (s .m) xs n)) (admission-many serves s xs ys n room h)
       ∙ decided-apart (admission serves s ys n room) _ _ (not-admitted ys room h)
 
   refused-many : (room : ℕ) → mostTasks < n → found serves s ys n room .number ≡ 0 → ⊥

@@ -13,15 +13,15 @@ use Rattle.kinds.specs.declared.Policy.{Policy}
 use Rattle.kinds.specs.declared.Settings.{Settings}
 use Rattle.kinds.specs.declared.Answer.{Answer}
 use Rattle.kinds.specs.declared.Answer.the-variants.{Accepted, Refused}
-use Rattle.kinds.specs.Answer.{handed, isAccepted, stepOf}
+use Rattle.kinds.specs.Answer.{handed, isAccepted, stepOf, after}
 use Rattle.kinds.specs.Policy.{meant}
 use Rattle.kinds.specs.Refusal.{numberOf}
 use Rattle.kinds.proofs.Refusals.{refusal-numbered}
 use Rattle.share.specs.Table.{periodsAt}
-use Rattle.plan.specs.Plan.{processorsAt, written, Leaves}
+use Rattle.plan.specs.Plan.{processorsAt, Leaves}
 
 -- a refused call writes nothing
-pub written-kept : (a : Answer) (front : List ℕ) (n : ℕ) (old : List ℕ) → isAccepted a ≡ false → written (handed a) front n old ≡ old
+pub written-kept : (a : Answer) (front : List ℕ) (n : ℕ) (old : List ℕ) → isAccepted a ≡ false → after (handed a) front n old ≡ old
 written-kept (Accepted k) front n old e = true-false refl e
 written-kept (Refused r) front n old e = rw (ne-eqb (numberOf r) 0 (λ z. omega (arith, refusal-numbered r)))
 

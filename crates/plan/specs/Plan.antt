@@ -2,10 +2,9 @@
 -- Assumes nothing.
 use Prim.Native.Nat.{ℕ, _+_, _≤_, min}
 use mathlib.Core.Bool.{Bool, true}
-use mathlib.Core.List.{List, _++_}
+use mathlib.Core.List.{List}
 use mathlib.Core.Path.{_≡_}
-use lib.Dec.{eqb}
-use lib.ListN.{length, drop}
+use lib.ListN.{length}
 use Rattle.ground.specs.declared.Step.{Step}
 use Rattle.ground.specs.declared.Step.the-variants.{At, Nothing}
 use Rattle.ground.specs.Choice.{pick}
@@ -16,15 +15,15 @@ use Rattle.kinds.specs.declared.Policy.{Policy}
 use Rattle.kinds.specs.declared.Settings.{Settings}
 use Rattle.kinds.specs.declared.Refusal.the-variants.{NoStepPasses}
 use Rattle.kinds.specs.declared.Answer.{Answer}
-use Rattle.kinds.specs.Answer.{Handed, accepted, refused, handed, isAccepted, stepOf}
+use Rattle.kinds.specs.Answer.{Handed, accepted, refused, after, handed, isAccepted, stepOf}
 use Rattle.kinds.specs.Limits.{mostProcessors}
 use Rattle.kinds.specs.Policy.{meant, isFirstFit}
 use Rattle.share.specs.Table.{GoodTable, shares, periodsAt}
 use Rattle.springs.specs.Columns.{SharesOf}
 use Rattle.fit.specs.Fit.{loadIn, Loads, placeAt}
 use Rattle.policy.specs.Passing.{passes, passesAt, leastStep}
-use Rattle.admission.specs.declared.Admission.{Admission}
-use Rattle.admission.specs.declared.Admission.the-variants.{Admitted, Refused}
+use Rattle.kinds.specs.declared.Verdict.{Verdict}
+use Rattle.kinds.specs.declared.Verdict.the-variants.{Accepted, Refused}
 use Rattle.admission.specs.Admission.{admission}
 
 -- the processor of task i with these loads
@@ -39,21 +38,17 @@ unfoldable pub processorsAt : Policy → ℕ → List Task → ℕ → ℕ → L
 processorsAt p m rows n k = listTo (processorAt p m rows k) n
 
 -- an admitted call is answered by the least passing step, or refused by 7
-abbrev pub decided : Admission → Step → Handed ℕ
+abbrev pub decided : Verdict → Step → Handed ℕ
 decided (Refused r) step = refused 0 r
-decided Admitted (At k) = accepted k
-decided Admitted Nothing = refused 0 NoStepPasses
-
--- "An accepted call writes an output up to the entries needed and no further"; in a refusal "lent buffers keep their bytes"
-abbrev pub written : Handed ℕ → List ℕ → ℕ → List ℕ → List ℕ
-written h front n old = pick (eqb (h .number) 0) (front ++ drop n old) old
+decided Accepted (At k) = accepted k
+decided Accepted Nothing = refused 0 NoStepPasses
 
 -- what stands in the two outputs after a call on the first n of some records
 abbrev pub periodsAfter : Handed ℕ → List Task → ℕ → List ℕ → List ℕ
-periodsAfter h rows n old = written h (periodsAt rows n (h .value)) n old
+periodsAfter h rows n old = after h (periodsAt rows n (h .value)) n old
 
 abbrev pub processorsAfter : Handed ℕ → Settings → List Task → ℕ → List ℕ → List ℕ
-processorsAfter h s rows n old = written h (processorsAt (meant (s .policy)) (s .m) rows n (h .value)) n old
+processorsAfter h s rows n old = after h (processorsAt (meant (s .policy)) (s .m) rows n (h .value)) n old
 
 -- number, place and step, and the two outputs as the call leaves them
 pub record Outcome : Type 0 where

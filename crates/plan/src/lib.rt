@@ -1,12 +1,12 @@
 // What an accepted plan grants: each task's period and processor, written to the two lent outputs. Contracts cite `specs/Plan`, which
 // settles a finder's call whole.
-use admission::Admission;
 use ground::Step;
 use kinds::Answer;
 use kinds::Policy;
 use kinds::Refusal;
 use kinds::Settings;
 use kinds::Table;
+use kinds::Verdict;
 ghost use mathlib.Core.List.{_++_};
 ghost use mathlib.Core.Path.{_≡_};
 ghost use Prim.Native.Nat.{ℕ, _≤_, _<_};
@@ -22,10 +22,10 @@ ghost use Rattle.fit.specs.Fit.{loadIn};
 ghost use Rattle.plan.specs.Plan.{decided, processorOn, Placeable, MayGrant, Leaves};
 
 // What an admission and the search for a step come to.
-pub fn decide(admission: Admission, step: Step) -> Answer
+pub fn decide(admission: Verdict, step: Step) -> Answer
     ensures { λ r. ⌜ handed r ≡ decided admission step ⌝ }
 {
-    let Admission::Refused(refusal) = admission else {
+    let Verdict::Refused(refusal) = admission else {
         return stepped(step);
     };
     Answer::Refused(refusal)
@@ -33,7 +33,7 @@ pub fn decide(admission: Admission, step: Step) -> Answer
 
 // The answer of an admitted call.
 fn stepped(step: Step) -> Answer
-    ensures { λ r. ⌜ handed r ≡ decided Admission.Admitted step ⌝ }
+    ensures { λ r. ⌜ handed r ≡ decided Verdict.Accepted step ⌝ }
 {
     match step {
         Step::At(k) => Answer::Accepted(k),

@@ -18,7 +18,7 @@ use Rattle.policy.specs.Looks.{looksOf}
 use Rattle.policy.specs.Passing.{leastStep}
 use Rattle.policy.proofs.Demand.{step-same}
 use Rattle.policy.proofs.LookCount.{looks-same}
-use Rattle.admission.specs.declared.Admission as adm
+use Rattle.kinds.specs.declared.Verdict as verdict
 use Rattle.admission.specs.Admission.{admission}
 use Rattle.admission.proofs.Chain.{admitted, admission-same, admission-many}
 use Rattle.plan.specs.Plan.{outcome, Meets}
@@ -43,9 +43,9 @@ module _ (s : Settings) (rows : List Task) (n : ℕ) (periods processors : List 
   as-plain f r ps qs x = rw (outcome-serves s rows n periods processors f) (x .meets)
 
 -- a call that is not admitted has no looks, whatever a search would make
-after-apart : (a : adm.Admission) (j k : ℕ) → (a ≡ adm.the-variants.Admitted → ⊥) → looksAfter a j ≡ looksAfter a k
-after-apart adm.the-variants.Admitted j k h = absurd (h refl)
-after-apart (adm.the-variants.Refused r) j k h = refl
+after-apart : (a : verdict.Verdict) (j k : ℕ) → (a ≡ verdict.the-variants.Accepted → ⊥) → looksAfter a j ≡ looksAfter a k
+after-apart verdict.the-variants.Accepted j k h = absurd (h refl)
+after-apart (verdict.the-variants.Refused r) j k h = refl
 
 module _ (s : Settings) (xs ys : List Task) (n : ℕ) (same : n ≤ mostTasks → (i : ℕ) → i < n → at xs i ≡ at ys i) where
   pub looks-agree : (room : ℕ) → looks s xs n room ≡ looks s ys n room
@@ -55,7 +55,7 @@ module _ (s : Settings) (xs ys : List Task) (n : ℕ) (same : n ≤ mostTasks �
       (λ few. ap₂ looksAfter (admission-same false s xs ys n room (same few))
       (ap (looksOf xs n) (step-same (meant (s .policy)) (s .m) xs ys n (same few)) ∙ looks-same xs ys n (same few) _))
       (λ many.
-      ap (λ (a : adm.Admission). looksAfter a (looksOf xs n (leastStep (meant (s .policy)) (s .m) xs n))) (admission-many false s xs ys n room many)
+      ap (λ (a : verdict.Verdict). looksAfter a (looksOf xs n (leastStep (meant (s .policy)) (s .m) xs n))) (admission-many false s xs ys n room many)
       ∙ after-apart (admission false s ys n room) _ _ (λ e. omega (arith, admitted false s ys n room e .passed .few)))
 
   pub meets-looked-same : (periods processors : List ℕ) (r : Looked) (ps qs : List ℕ) → MeetsLooked s xs n periods processors r ps qs → MeetsLooked s ys n periods processors r ps qs

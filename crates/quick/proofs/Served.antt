@@ -25,7 +25,7 @@ use Rattle.policy.specs.Looks.{looksFor, looksOf}
 use Rattle.policy.specs.Passing.{passesAt, leastStep}
 use Rattle.policy.proofs.LookCount.{for-same, looks-bound}
 use Rattle.policy.proofs.Tests.{passes-weighed, passes-same}
-use Rattle.admission.specs.declared.Admission as adm
+use Rattle.kinds.specs.declared.Verdict as verdict
 use Rattle.admission.specs.Admission.{admission}
 use Rattle.springs.specs.Spring.{sharesOn, saturations}
 use Rattle.springs.specs.Columns.{Columns, springsIn, Sprung}
@@ -76,19 +76,19 @@ module _ (p : Policy) (m : ℕ) (rows : List Task) (n : ℕ) (s : Columns) (w : 
       record { least = step; count = e .count ∙ (looks-are (r .step) ∙ ap (looksOf rows n) step) }
 
 -- the looks of a call, as the code has them
-module _ (s : Settings) (rows : List Task) (n room : ℕ) (a : adm.Admission) (is : a ≡ admission false s rows n room) where
-  pub no-looks : {r : _} → a ≡ adm.the-variants.Refused r → 0 ≡ looks s rows n room
+module _ (s : Settings) (rows : List Task) (n room : ℕ) (a : verdict.Verdict) (is : a ≡ admission false s rows n room) where
+  pub no-looks : {r : _} → a ≡ verdict.the-variants.Refused r → 0 ≡ looks s rows n room
   unfolding looks
   no-looks e = rw (← is, e)
 
-  pub some-looks : (k : ℕ) → a ≡ adm.the-variants.Admitted → k ≡ looksOf rows n (leastStep (meant (s .policy)) (s .m) rows n) → k ≡ looks s rows n room
+  pub some-looks : (k : ℕ) → a ≡ verdict.the-variants.Accepted → k ≡ looksOf rows n (leastStep (meant (s .policy)) (s .m) rows n) → k ≡ looks s rows n room
   unfolding looks
   some-looks k e q = rw (← is, e) q
 
 -- demand 3: at most tasks + 1
-after-few : (a : adm.Admission) (k n : ℕ) → k ≤ n + 1 → looksAfter a k ≤ n + 1
-after-few adm.the-variants.Admitted k n h = h
-after-few (adm.the-variants.Refused r) k n h = omega arith
+after-few : (a : verdict.Verdict) (k n : ℕ) → k ≤ n + 1 → looksAfter a k ≤ n + 1
+after-few verdict.the-variants.Accepted k n h = h
+after-few (verdict.the-variants.Refused r) k n h = omega arith
 
 pub looks-few : (s : Settings) (rows : List Task) (n room : ℕ) → looks s rows n room ≤ n + 1
 unfolding looks

@@ -11,16 +11,16 @@ use Rattle.kinds.specs.Answer.{handed}
 use Rattle.kinds.specs.Policy.{meant}
 use Rattle.policy.specs.Looks.{looksOf}
 use Rattle.policy.specs.Passing.{leastStep}
-use Rattle.admission.specs.declared.Admission.{Admission}
-use Rattle.admission.specs.declared.Admission.the-variants.{Admitted, Refused}
+use Rattle.kinds.specs.declared.Verdict.{Verdict}
+use Rattle.kinds.specs.declared.Verdict.the-variants.{Accepted, Refused}
 use Rattle.admission.specs.Admission.{admission}
 use Rattle.plan.specs.Plan.{found, outcome, Meets}
 use Rattle.quick.specs.declared.Looked.{Looked}
 
 -- "Refusals before 7 report 0."
-abbrev pub looksAfter : Admission → ℕ → ℕ
+abbrev pub looksAfter : Verdict → ℕ → ℕ
 looksAfter (Refused r) looks = 0
-looksAfter Admitted looks = looks
+looksAfter Accepted looks = looks
 
 -- the looks of a call on the first n of some records
 unfoldable pub looks : Settings → List Task → ℕ → ℕ → ℕ

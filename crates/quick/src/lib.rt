@@ -1,11 +1,11 @@
 // The quick finder: it looks at step 0, then at each distinct saturation step above 0 in rising order, until one passes; the step inside
 // the last stretch comes by division. Contracts cite `specs/Search`; the promise of `find` is `outcome false` of `plan` with the looks of
 // `specs/Looked`.
-use admission::Admission;
 use ground::Step;
 use kinds::Answer;
 use kinds::Settings;
 use kinds::Table;
+use kinds::Verdict;
 use policy::Weights;
 ghost use mathlib.Core.Path.{_≡_};
 ghost use Prim.Native.Nat.{_≤_};
@@ -106,7 +106,7 @@ fn decide_in(
         elasticity,
         saturation,
     );
-    let Admission::Admitted = admission else {
+    let Verdict::Accepted = admission else {
         let looks = 0;
         return Looked {
             answer: plan::decide(admission, Step::Nothing),

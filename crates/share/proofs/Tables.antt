@@ -7,7 +7,7 @@ use mathlib.Core.Path.{_≡_, sym, ap, _∙_}
 use native.Mathlib.Omega.{arith}
 use Rattle.ground.specs.First.{IsFirst}
 use Rattle.ground.proofs.Cases.{by-bool, true-false}
-use Rattle.ground.proofs.First.{first-is, first-here, first-more, first-none, first-cong}
+use Rattle.ground.proofs.First.{first-is, first-cong}
 use Rattle.ground.proofs.Folds.{le-max-to, max-to-le, max-cong}
 use Rattle.ground.proofs.Buffer.{list-cong}
 use Rattle.kinds.specs.declared.Task.{Task}
@@ -43,19 +43,6 @@ not-bad t e = good-is t (by-bool (isGood t) (λ g. g) (λ g. true-false (rw g) e
 
 pub all-good : (rows : List Task) (n : ℕ) → n ≤ firstBad rows n → (i : ℕ) → i < n → Good (at rows i)
 all-good rows n h i l = not-bad (at rows i) (first-bad-is rows n .before i (omega arith))
-
--- the walk that finds it
-module _ (rows : List Task) (n i : ℕ) (h : (j : ℕ) → j < i → not (isGood (at rows j)) ≡ false) where
-  pub bad-here : i < n → (b : Bool) → b ≡ isGood (at rows i) → not b ≡ true → i ≡ firstBad rows n
-  unfolding firstBad
-  bad-here l b e t = first-here (λ j. not (isGood (at rows j))) n i h l (ap not (sym e) ∙ t)
-
-  pub bad-more : (b : Bool) → b ≡ isGood (at rows i) → not b ≡ false → (j : ℕ) → j < i + 1 → not (isGood (at rows j)) ≡ false
-  bad-more b e t = first-more (λ j. not (isGood (at rows j))) n i h (ap not (sym e) ∙ t)
-
-  pub bad-none : i ≡ n → n ≡ firstBad rows n
-  unfolding firstBad
-  bad-none e = sym e ∙ first-none (λ j. not (isGood (at rows j))) n i h e
 
 -- a table whose records are all good
 pub good-table : (t : Table) → t .n ≤ mostTasks → t .n ≤ firstBad (t .rows) (t .n) → GoodTable t

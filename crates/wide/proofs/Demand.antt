@@ -10,7 +10,7 @@ use Rattle.ground.specs.Least.{LeastAt}
 use Rattle.ground.proofs.Buffer.{list-at, list-past}
 use Rattle.kinds.specs.declared.Answer.the-variants.{Accepted}
 use Rattle.rule.specs.Rule.{Shortest}
-use Rattle.admission.specs.declared.Admission.the-variants.{Admitted}
+use Rattle.kinds.specs.declared.Verdict.the-variants as verdict
 use Rattle.plan.specs.Plan.{Meets}
 use Rattle.wide.specs.declared.WideTask.{WideTask}
 use Rattle.wide.specs.declared.WideTable.{WideTable}
@@ -53,10 +53,10 @@ accepted-granted m t k oldPeriods oldCores periods cores x =
 -- refusal 7 is given exactly when the call is admitted and no step from 0 to K passes
 module _ (m : ℕ) (rows : List WideTask) (n room : ℕ) where
   pub seven-none : found m rows n room .number ≡ 7
-      → (admission m rows n room ≡ Admitted) × ((k : ℕ) → k ≤ fullCompression rows n → passesAt m rows n k ≡ false)
+      → (admission m rows n room ≡ verdict.Accepted) × ((k : ℕ) → k ≤ fullCompression rows n → passesAt m rows n k ≡ false)
   seven-none e = let s = refused-seven m rows n room e in (s .0, step-nothing m rows n (s .1))
 
-  pub none-seven : admission m rows n room ≡ Admitted → ((k : ℕ) → k ≤ fullCompression rows n → passesAt m rows n k ≡ false)
+  pub none-seven : admission m rows n room ≡ verdict.Accepted → ((k : ℕ) → k ≤ fullCompression rows n → passesAt m rows n k ≡ false)
       → found m rows n room .number ≡ 7
   unfolding found
   none-seven a h = let e = nothing-passes m rows n h in rw (a, e)

@@ -10,18 +10,17 @@ use lib.ListN.{length}
 use borrow.Author.Tests.{ltb-false}
 use Rattle.ground.specs.declared.Step.{Step}
 use Rattle.ground.specs.declared.Step.the-variants.{At, Nothing}
-use Rattle.ground.specs.Choice.{either}
 use Rattle.ground.proofs.Cases.{true-false}
 use Rattle.kinds.specs.declared.Answer.{Answer}
 use Rattle.kinds.specs.declared.Answer.the-variants.{Accepted, Refused}
 use Rattle.kinds.specs.declared.Refusal.{Refusal}
-use Rattle.kinds.specs.declared.Refusal.the-variants.{NoSuchPolicy, NoSuchProcessors, TooManyTasks, PolicyNotServed, OutputTooShort, BadRecord}
-use Rattle.kinds.specs.Answer.{accepted, handed}
-use Rattle.kinds.specs.Limits.{mostTasks, mostProcessors}
+use Rattle.kinds.specs.declared.Refusal.the-variants.{NoSuchProcessors, TooManyTasks, OutputTooShort, BadRecord}
+use Rattle.kinds.specs.Answer.{accepted, check, handed}
+use Rattle.kinds.specs.Limits.{mostTasks}
 use Rattle.kinds.specs.Refusal.{numberOf}
-use Rattle.admission.specs.declared.Admission as adm
-use Rattle.admission.specs.Admission.{check, gate, andThen}
-use Rattle.admission.proofs.Chain.{Passed, unchecked, gate-passed, then-admitted}
+use Rattle.kinds.specs.declared.Verdict as verdict
+use Rattle.admission.specs.Admission.{andThen, misset, gate}
+use Rattle.admission.proofs.Chain.{Few, unchecked, gate-passed, roomy-passed, then-admitted}
 use Rattle.plan.specs.Plan.{decided, Meets}
 use Rattle.plan.proofs.Found.{decided-accepted}
 use Rattle.wide.specs.declared.WideTask.{WideTask}
@@ -33,22 +32,30 @@ use Rattle.wide.proofs.Passing.{cores-fit, step-at}
 
 -- what an admitted call has passed
 pub record Ready (m : ℕ) (rows : List WideTask) (n room : ℕ) : Type 0 where
-  pub passed : Passed false m n false room
+  pub passed : Few m n
+  pub roomy : n ≤ room
   pub none-bad : n ≤ firstBad rows n
 
-pub admitted : (m : ℕ) (rows : List WideTask) (n room : ℕ) → admission m rows n room ≡ adm.the-variants.Admitted → Ready m rows n room
+pub admitted : (m : ℕ) (rows : List WideTask) (n room : ℕ) → admission m rows n room ≡ verdict.the-variants.Accepted → Ready m rows n room
 unfolding admission
 admitted m rows n room e =
     let a = then-admitted _ _ e in
-    record { passed = gate-passed _ _ _ _ _ (a .0); none-bad = ltb-false _ _ (unchecked _ _ _ (a .1) .0) }
+    let b = then-admitted _ _ (a .0) in
+    record { passed = gate-passed m n (b .0); roomy = roomy-passed n room (b .1); none-bad = ltb-false _ _ (unchecked _ _ _ (a .1) .0) }
 
 -- an admission refuses by 6 at most
-abbrev numbered : adm.Admission → ℕ
-numbered adm.the-variants.Admitted = 0
-numbered (adm.the-variants.Refused r) = numberOf r
+abbrev numbered : verdict.Verdict → ℕ
+numbered verdict.the-variants.Accepted = 0
+numbered (verdict.the-variants.Refused r) = numberOf r
 
 six : (a b c d : Bool) (n bad : ℕ)
-    → numbered (andThen (check false NoSuchPolicy (check a NoSuchProcessors (check b (TooManyTasks n) (check false PolicyNotServed (check c (OutputTooShort n) adm.the-variants.Admitted))))) (check d (BadRecord bad) adm.the-variants.Admitted)) ≤ 6
+    → numbered
+    (andThen
+    (andThen
+    (check a (verdict.the-variants.Refused NoSuchProcessors) (check b (verdict.the-variants.Refused (TooManyTasks n)) verdict.the-variants.Accepted))
+    (check c (verdict.the-variants.Refused (OutputTooShort n)) verdict.the-variants.Accepted))
+    (check d (verdict.the-variants.Refused (BadRecord bad)) verdict.the-variants.Accepted))
+    ≤ 6
 six true b c d n bad = lit≤ tt
 six false true c d n bad = lit≤ tt
 six false false true d n bad = lit≤ tt
@@ -58,16 +65,16 @@ six false false false false n bad = lit≤ tt
 admission-six : (m : ℕ) (rows : List WideTask) (n room : ℕ) → numbered (admission m rows n room) ≤ 6
 unfolding admission gate
 admission-six m rows n room =
-    six (either (ltb m 1) (ltb mostProcessors m)) (ltb mostTasks n) (ltb room n) (ltb (firstBad rows n) n) n (firstBad rows n)
+    six (misset m) (ltb mostTasks n) (ltb room n) (ltb (firstBad rows n) n) n (firstBad rows n)
 
 -- so 7 comes from the search for a step
-decided-seven : (a : adm.Admission) (step : Step) → numbered a ≤ 6 → decided a step .number ≡ 7 → (a ≡ adm.the-variants.Admitted) × (step ≡ Nothing)
-decided-seven (adm.the-variants.Refused r) step h e = absurd (omega arith)
-decided-seven adm.the-variants.Admitted (At j) h e = absurd (omega arith)
-decided-seven adm.the-variants.Admitted Nothing h e = (refl, refl)
+decided-seven : (a : verdict.Verdict) (step : Step) → numbered a ≤ 6 → decided a step .number ≡ 7 → (a ≡ verdict.the-variants.Accepted) × (step ≡ Nothing)
+decided-seven (verdict.the-variants.Refused r) step h e = absurd (omega arith)
+decided-seven verdict.the-variants.Accepted (At j) h e = absurd (omega arith)
+decided-seven verdict.the-variants.Accepted Nothing h e = (refl, refl)
 
 pub refused-seven : (m : ℕ) (rows : List WideTask) (n room : ℕ) → found m rows n room .number ≡ 7
-    → (admission m rows n room ≡ adm.the-variants.Admitted) × (leastStep m rows n ≡ Nothing)
+    → (admission m rows n room ≡ verdict.the-variants.Accepted) × (leastStep m rows n ≡ Nothing)
 unfolding found
 refused-seven m rows n room e = decided-seven _ _ (admission-six m rows n room) e
 
@@ -88,14 +95,14 @@ may-grant m (Accepted k) t a b e x =
     let p = g .ready .passed in
     record {
       table = good-table t (p .few) (g .ready .none-bad);
-      roomy = omega (arith, p .roomy);
-      roomy-cores = omega (arith, p .roomy);
+      roomy = omega (arith, g .ready .roomy);
+      roomy-cores = omega (arith, g .ready .roomy);
       fits = omega (arith, p .m-most, cores-fit m (t .rows) (t .n) k (step-at m (t .rows) (t .n) k (g .step) .passes));
     }
 
 -- as the finder works it out: without a step where the admission refuses, else with the least one
-module _ (m : ℕ) (rows : List WideTask) (n room : ℕ) (a : adm.Admission) (is : a ≡ admission m rows n room) where
-  pub refused-found : (r : Refusal) (step : Step) → a ≡ adm.the-variants.Refused r → decided a step ≡ found m rows n room
+module _ (m : ℕ) (rows : List WideTask) (n room : ℕ) (a : verdict.Verdict) (is : a ≡ admission m rows n room) where
+  pub refused-found : (r : Refusal) (step : Step) → a ≡ verdict.the-variants.Refused r → decided a step ≡ found m rows n room
   unfolding found
   refused-found r step e = rw (← is, e)
 

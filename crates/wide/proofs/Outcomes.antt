@@ -2,7 +2,6 @@
 -- `no-second-answer`, which is said of any outcome.
 -- Assumes nothing.
 use Prim.Native.Nat.{ℕ, _≤_, _<_, min}
-use mathlib.Core.Bool.{false}
 use mathlib.Core.List.{List}
 use mathlib.Core.Path.{_≡_, refl, ap₂}
 use native.Mathlib.Omega.{arith}
@@ -12,9 +11,9 @@ use Rattle.ground.proofs.Cases.{by-le}
 use Rattle.kinds.specs.declared.Answer.{Answer}
 use Rattle.kinds.specs.Limits.{mostTasks}
 use Rattle.kinds.proofs.Refusals.{refusal-numbered}
-use Rattle.admission.specs.declared.Admission as adm
-use Rattle.admission.specs.Admission.{gate, andThen}
-use Rattle.admission.proofs.Chain.{gate-passed}
+use Rattle.kinds.specs.declared.Verdict as verdict
+use Rattle.admission.specs.Admission.{andThen, misset, gate, roomy}
+use Rattle.admission.proofs.Chain.{gate-passed, then-admitted}
 use Rattle.plan.specs.Plan.{decided, Meets}
 use Rattle.plan.proofs.Outcomes as plan
 use Rattle.wide.specs.declared.WideTask.{WideTask}
@@ -31,16 +30,16 @@ no-second-answer m rows n periods cores a b ps cs ps′ cs′ x y =
 
 -- a gate that refuses settles the call, whatever the records and the step
 module _ (m : ℕ) (xs ys : List WideTask) (n room : ℕ) where
-  shut : (a : adm.Admission) (x y : Step) (p q : adm.Admission) → (a ≡ adm.the-variants.Admitted → ⊥)
+  shut : (a : verdict.Verdict) (x y : Step) (p q : verdict.Verdict) → (a ≡ verdict.the-variants.Accepted → ⊥)
       → (decided (andThen a p) x ≡ decided (andThen a q) y) × (1 ≤ decided (andThen a q) y .number)
-  shut adm.the-variants.Admitted x y p q h = absurd (h refl)
-  shut (adm.the-variants.Refused r) x y p q h = (refl, refusal-numbered r)
+  shut verdict.the-variants.Accepted x y p q h = absurd (h refl)
+  shut (verdict.the-variants.Refused r) x y p q h = (refl, refusal-numbered r)
 
   found-many : mostTasks < n → (found m xs n room ≡ found m ys n room) × (1 ≤ found m ys n room .number)
   unfolding found admission
   found-many h =
-      shut (gate false m n false room) (leastStep m xs n) (leastStep m ys n) (recordsGood xs n) (recordsGood ys n)
-      (λ e. omega (arith, gate-passed _ _ _ _ _ e .few))
+      shut (andThen (gate (misset m) n) (roomy n room)) (leastStep m xs n) (leastStep m ys n) (recordsGood xs n) (recordsGood ys n)
+      (λ e. omega (arith, gate-passed m n (then-admitted _ _ e .0) .few))
 
 module _ (m : ℕ) (xs ys : List WideTask) (n : ℕ) (periods cores : List ℕ) where
   outcome-many : mostTasks < n → outcome m xs n periods cores ≡ outcome m ys n periods cores

@@ -10,7 +10,7 @@ use Rattle.ground.specs.First.{IsFirst}
 use Rattle.ground.specs.Least.{leastUpTo}
 use Rattle.ground.proofs.Buffer.{list-cong}
 use Rattle.ground.proofs.Cases.{by-bool, true-false}
-use Rattle.ground.proofs.First.{first-is, first-here, first-more, first-none, first-cong}
+use Rattle.ground.proofs.First.{first-is, first-cong}
 use Rattle.ground.proofs.Folds.{sum-none, sum-more, sum-cong, max-none, max-more, max-to-le, max-cong}
 use Rattle.ground.proofs.Least.{least-cong}
 use Rattle.kinds.specs.Limits.{mostTasks}
@@ -62,19 +62,6 @@ first-bad-is rows n = first-is (λ i. not (isGood (at rows i))) n
 
 not-bad : (t : WideTask) → not (isGood t) ≡ false → Good t
 not-bad t e = good-is t (by-bool (isGood t) (λ g. g) (λ g. true-false (rw g) e))
-
--- the walk that finds it
-module _ (rows : List WideTask) (n i : ℕ) (h : (j : ℕ) → j < i → not (isGood (at rows j)) ≡ false) where
-  pub bad-here : i < n → (b : Bool) → b ≡ isGood (at rows i) → not b ≡ true → i ≡ firstBad rows n
-  unfolding firstBad
-  bad-here l b e t = first-here (λ j. not (isGood (at rows j))) n i h l (ap not (sym e) ∙ t)
-
-  pub bad-more : (b : Bool) → b ≡ isGood (at rows i) → not b ≡ false → (j : ℕ) → j < i + 1 → not (isGood (at rows j)) ≡ false
-  bad-more b e t = first-more (λ j. not (isGood (at rows j))) n i h (ap not (sym e) ∙ t)
-
-  pub bad-none : i ≡ n → n ≡ firstBad rows n
-  unfolding firstBad
-  bad-none e = sym e ∙ first-none (λ j. not (isGood (at rows j))) n i h e
 
 -- a table whose records are all good
 pub good-table : (t : WideTable) → t .n ≤ mostTasks → t .n ≤ firstBad (t .rows) (t .n) → GoodTable t

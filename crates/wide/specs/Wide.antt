@@ -2,30 +2,30 @@
 -- every input.
 -- Assumes nothing.
 use Prim.Native.Nat.{ℕ, _≤_, min}
-use mathlib.Core.Bool.{true, false}
+use mathlib.Core.Bool.{true}
 use mathlib.Core.List.{List}
 use mathlib.Core.Path.{_≡_}
 use lib.Dec.{ltb}
 use lib.ListN.{length}
 use Rattle.kinds.specs.declared.Answer.{Answer}
 use Rattle.kinds.specs.declared.Refusal.the-variants.{BadRecord}
-use Rattle.kinds.specs.Answer.{Handed, isAccepted, stepOf}
+use Rattle.kinds.specs.Answer.{Handed, check, after, isAccepted, stepOf}
 use Rattle.kinds.specs.Limits.{mostProcessors}
-use Rattle.admission.specs.declared.Admission.{Admission}
-use Rattle.admission.specs.declared.Admission.the-variants.{Admitted}
-use Rattle.admission.specs.Admission.{check, gate, andThen}
-use Rattle.plan.specs.Plan.{decided, written, Outcome}
+use Rattle.kinds.specs.declared.Verdict.{Verdict}
+use Rattle.kinds.specs.declared.Verdict.the-variants.{Accepted, Refused}
+use Rattle.admission.specs.Admission.{andThen, misset, gate, roomy}
+use Rattle.plan.specs.Plan.{decided, Outcome}
 use Rattle.wide.specs.declared.WideTask.{WideTask}
 use Rattle.wide.specs.declared.WideTable.{WideTable}
 use Rattle.wide.specs.Table.{firstBad, coresSum, leastStep, periodsAt, coreCountsAt, GoodTable}
 
 -- 6
-abbrev pub recordsGood : List WideTask → ℕ → Admission
-recordsGood rows n = check (ltb (firstBad rows n) n) (BadRecord (firstBad rows n)) Admitted
+abbrev pub recordsGood : List WideTask → ℕ → Verdict
+recordsGood rows n = check (ltb (firstBad rows n) n) (Refused (BadRecord (firstBad rows n))) Accepted
 
--- Ask 4: "refusals 2, 3, 5, 6, 7 in that order": no policy is asked here, so the gate gives neither 1 nor 4
-unfoldable pub admission : ℕ → List WideTask → ℕ → ℕ → Admission
-admission m rows n room = andThen (gate false m n false room) (recordsGood rows n)
+-- Ask 4: "refusals 2, 3, 5, 6, 7 in that order"
+unfoldable pub admission : ℕ → List WideTask → ℕ → ℕ → Verdict
+admission m rows n room = andThen (andThen (gate (misset m) n) (roomy n room)) (recordsGood rows n)
 
 -- the admission, and the least passing step where it admits
 unfoldable pub found : ℕ → List WideTask → ℕ → ℕ → Handed ℕ
@@ -33,10 +33,10 @@ found m rows n room = decided (admission m rows n room) (leastStep m rows n)
 
 -- what stands in the two outputs after a call on the first n of some records
 abbrev pub periodsAfter : Handed ℕ → List WideTask → ℕ → List ℕ → List ℕ
-periodsAfter h rows n old = written h (periodsAt rows n (h .value)) n old
+periodsAfter h rows n old = after h (periodsAt rows n (h .value)) n old
 
 abbrev pub coresAfter : Handed ℕ → List WideTask → ℕ → List ℕ → List ℕ
-coresAfter h rows n old = written h (coreCountsAt rows n (h .value)) n old
+coresAfter h rows n old = after h (coreCountsAt rows n (h .value)) n old
 
 -- the finder's call, with the two outputs as they are lent; the second is of processors by their count
 unfoldable pub outcome : ℕ → List WideTask → ℕ → List ℕ → List ℕ → Outcome

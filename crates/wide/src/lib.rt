@@ -1,12 +1,12 @@
 // Ask 4: jobs that need several cores. The second kind of task, its rules by the leaf functions of `rule`, and its finder, which halves
 // the range of steps. The promise of `find` is `outcome` of `specs/Wide`.
-use admission::Admission;
 use ground::Step;
 use kinds::Answer;
 use kinds::Refusal;
 use kinds::Share;
 use kinds::Table;
 use kinds::Task;
+use kinds::Verdict;
 ghost use mathlib.Core.Bool.{false};
 ghost use mathlib.Core.List.{_++_};
 ghost use mathlib.Core.Path.{_≡_};
@@ -206,19 +206,20 @@ fn least_step(m: u16, table: WideTable) -> Step
 }
 
 // Refusals 2, 3, 5 and 6, for outputs of which the shorter has so much room.
-fn admit(table: WideTable, m: u16, room: usize) -> Admission
+fn admit(table: WideTable, m: u16, room: usize) -> Verdict
     ensures { λ r. ⌜ r ≡ admission m (table .rows) (table .n) room ⌝ }
 {
     let n = table.n;
-    let gate = admission::gate(false, m, n, false, room);
-    let Admission::Admitted = gate else {
+    let few = admission::gate(admission::misset(m), n);
+    let gate = admission::and_then(few, admission::roomy(n, room));
+    let Verdict::Accepted = gate else {
         return gate;
     };
     let bad = first_bad(table);
     if bad < n {
-        return Admission::Refused(Refusal::BadRecord(bad));
+        return Verdict::Refused(Refusal::BadRecord(bad));
     }
-    Admission::Admitted
+    Verdict::Accepted
 }
 
 // The answer, for outputs of which the shorter has so much room.
@@ -226,7 +227,7 @@ pub fn decide(table: WideTable, m: u16, room: usize) -> Answer
     ensures { λ r. ⌜ handed r ≡ found m (table .rows) (table .n) room ⌝ }
 {
     let admission = admit(table, m, room);
-    let Admission::Admitted = admission else {
+    let Verdict::Accepted = admission else {
         return plan::decide(admission, Step::Nothing);
     };
     let step = least_step(m, table);

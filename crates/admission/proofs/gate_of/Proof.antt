@@ -6,22 +6,58 @@ use Rattle.admission.proofs.gate_of.Tie as tie
 meant-requires : tie.Need-meant-requires
 meant-requires c κs = search needs
 
-is-further-requires : tie.Need-is-further-requires
-is-further-requires c κs = search needs
+served-requires : tie.Need-served-requires
+served-requires c κs = search needs
 
-unserved-requires : tie.Need-unserved-requires
-unserved-requires c κs = search needs
+roomy-requires : tie.Need-roomy-requires
+roomy-requires c κs = search needs
+
+and-then-requires : tie.Need-and-then-requires
+and-then-requires c κs = search needs
+
+misset-requires : tie.Need-misset-requires
+misset-requires c κs = search needs
 
 gate-requires : tie.Need-gate-requires
 gate-requires c κs = search needs
 
+and-then-requires-2 : tie.Need-and-then-requires-2
+and-then-requires-2 c κs = search needs
+
+knows-requires : tie.Need-knows-requires
+knows-requires c κs = search needs
+
+and-then-requires-3 : tie.Need-and-then-requires-3
+and-then-requires-3 c κs = search needs
+
 returns : tie.Need-returns
 returns c =
-    let u = c .before in
-    let f = u .before in
-    let p = f .before in
-    rw (← p .meant .ensures, ← f .is-further .ensures, ← u .unserved .ensures) (c .gate .ensures)
+    let two = c .before .before in
+    let last = two .before .before .before in
+    let p = last .before .before .before in
+    rw (
+      c .and-then3 .ensures,
+      c .before .knows .ensures,
+      two .and-then2 .ensures,
+      two .before .gate .ensures,
+      two .before .before .misset .ensures,
+      last .and-then .ensures,
+      last .before .roomy .ensures,
+      last .before .before .served .ensures,
+      p .meant .ensures,
+    )
 
 pub gate-of-spec : {M : Type 1} → statement M
 gate-of-spec =
-    tie.close (tie.spec meant-requires is-further-requires unserved-requires gate-requires returns)
+    tie.close
+    (tie.spec
+    meant-requires
+    served-requires
+    roomy-requires
+    and-then-requires
+    misset-requires
+    gate-requires
+    and-then-requires-2
+    knows-requires
+    and-then-requires-3
+    returns)

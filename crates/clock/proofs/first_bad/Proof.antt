@@ -4,8 +4,8 @@ use mathlib.Core.Bool.{false, not}
 use mathlib.Core.Path.{_≡_}
 use native.Mathlib.Omega.{arith}
 use lib.ListN.{length}
-use Rattle.clock.specs.Start.{every, isPeriod}
-use Rattle.clock.proofs.Starts.{bad-here, bad-more, bad-none}
+use Rattle.ground.proofs.First.{bad-here, bad-more, bad-none}
+use Rattle.clock.specs.Start.{every, isPeriod, firstBad}
 use Rattle.clock.proofs.first_bad.Statement.{statement}
 use Rattle.clock.proofs.first_bad.Tie as tie
 
@@ -28,9 +28,11 @@ is-period-requires : tie.Need-is-period-requires Inv-loop μ-loop
 is-period-requires c κs = tt
 
 returns : tie.Need-returns Inv-loop μ-loop
+unfolding firstBad
 returns c =
     let b = c .before .before .before .before in
-    bad-here (b .before .before .args .periods .now) (b .loop .i) (b .loop .inv .1) (omega arith) _ (c .before .is-period .ensures) (c .if1 .taken)
+    let periods = b .before .before .args .periods .now in
+    bad-here (λ j. isPeriod (every periods j)) (length periods) (b .loop .i) (b .loop .inv .1) (omega arith) _ (c .before .is-period .ensures) (c .if1 .taken)
 
 add-i : tie.Need-add-i Inv-loop μ-loop
 add-i c = omega arith
@@ -41,10 +43,14 @@ loop-less c = omega arith
 loop-again : tie.Need-loop-again Inv-loop μ-loop
 loop-again c =
     let b = c .before .before .before .before in
-    (omega arith, bad-more (b .before .before .args .periods .now) (b .loop .i) (b .loop .inv .1) _ (c .before .is-period .ensures) (c .if1 .left))
+    let periods = b .before .before .args .periods .now in
+    (omega arith, bad-more (λ j. isPeriod (every periods j)) (length periods) (b .loop .i) (b .loop .inv .1) _ (c .before .is-period .ensures) (c .if1 .left))
 
 returns-2 : tie.Need-returns-2 Inv-loop μ-loop
-returns-2 c = bad-none _ _ (c .before .loop .inv .1) (omega arith)
+unfolding firstBad
+returns-2 c =
+    let periods = c .before .before .before .args .periods .now in
+    bad-none (λ j. isPeriod (every periods j)) (length periods) _ (c .before .loop .inv .1) (omega arith)
 
 pub first-bad-spec : {M : Type 1} → statement M
 first-bad-spec =

@@ -3,8 +3,9 @@ use Prim.Native.Nat.{ℕ, _-_, _≤_, _<_}
 use mathlib.Core.Bool.{false, not}
 use mathlib.Core.Path.{_≡_}
 use native.Mathlib.Omega.{arith}
+use Rattle.ground.proofs.First.{bad-here, bad-more, bad-none}
 use Rattle.kinds.specs.Task.{at, isGood}
-use Rattle.share.proofs.Tables.{bad-here, bad-more, bad-none}
+use Rattle.share.specs.Table.{firstBad}
 use Rattle.springs.specs.Columns.{columns, Sprung}
 use Rattle.springs.proofs.Columns.{sprung-none, sprung-more, found-good, good-within}
 use Rattle.springs.proofs.springs_of.Statement.{statement}
@@ -30,10 +31,12 @@ good-requires : tie.Need-good-requires Inv-loop μ-loop
 good-requires c κs = tt
 
 returns : tie.Need-returns Inv-loop μ-loop
+unfolding firstBad
 returns c =
     let l = c .before .before .before .before in
+    let rows = l .before .args .t1 .rows in
     record {
-      first = bad-here _ _ _ (l .loop .inv .1) (c .before .before .before .loop-test .taken) _ (c .before .good2 .ensures) (c .if1 .taken);
+      first = bad-here (λ j. isGood (at rows j)) _ _ (l .loop .inv .1) (c .before .before .before .loop-test .taken) _ (c .before .good2 .ensures) (c .if1 .taken);
       sprung = l .loop .inv .2;
     }
 
@@ -81,14 +84,16 @@ loop-again c =
     let l = g .before .before .before in
     let t = l .before .args .t1 in (
       omega arith,
-      bad-more (t .rows) (t .n) _ (l .loop .inv .1) _ (g .good2 .ensures) (i .if1 .left),
+      bad-more (λ j. isGood (at (t .rows) j)) (t .n) _ (l .loop .inv .1) _ (g .good2 .ensures) (i .if1 .left),
       sprung-more _ _ _ _ _ (l .loop .inv .2) (omega arith) (f .spring-of .ensures) (c .saturation-on .ensures),
     )
 
 returns-2 : tie.Need-returns-2 Inv-loop μ-loop
+unfolding firstBad
 returns-2 c =
-    let e : c .before .loop .i ≡ c .before .before .args .t1 .n = omega arith in
-    record { first = bad-none _ _ _ (c .before .loop .inv .1) e; sprung = rw e at (c .before .loop .inv .2) }
+    let t = c .before .before .args .t1 in
+    let e : c .before .loop .i ≡ t .n = omega arith in
+    record { first = bad-none (λ j. isGood (at (t .rows) j)) _ _ (c .before .loop .inv .1) e; sprung = rw e at (c .before .loop .inv .2) }
 
 pub springs-of-spec : {M : Type 1} → statement M
 springs-of-spec =

@@ -1,14 +1,31 @@
 -- `wide::admit` meets its contract. Assumes nothing.
-use mathlib.Core.Path.{sym, _∙_}
-use borrow.Author.Tests.{lt-ltb, le-ltb}
-use Rattle.admission.proofs.Chain.{gate-passed}
-use Rattle.wide.specs.Wide.{admission}
+use mathlib.Core.Path.{_≡_, sym, _∙_}
 use borrow.Author.Needs.{needs}
+use borrow.Author.Tests.{lt-ltb, le-ltb}
+use Rattle.admission.specs.Admission.{andThen, misset, gate, roomy}
+use Rattle.admission.proofs.Chain.{gate-passed, then-admitted}
+use Rattle.wide.specs.Wide.{admission}
 use Rattle.wide.proofs.admit.Statement.{statement}
 use Rattle.wide.proofs.admit.Tie as tie
 
+-- 2, 3 and 5
+gate-is : (c : tie.After-and-then) → let a = c .before .before .before .before .args in
+    c .and-then .result ≡ andThen (gate (misset (a .m)) (a .table .n)) (roomy (a .table .n) (a .room))
+gate-is c =
+    let g = c .before .before in
+    rw (c .before .roomy .ensures, g .gate .ensures, g .before .misset .ensures) at (c .and-then .ensures)
+
+misset-requires : tie.Need-misset-requires
+misset-requires c κs = search needs
+
 gate-requires : tie.Need-gate-requires
 gate-requires c κs = search needs
+
+roomy-requires : tie.Need-roomy-requires
+roomy-requires c κs = search needs
+
+and-then-requires : tie.Need-and-then-requires
+and-then-requires c κs = search needs
 
 enum-told : tie.Need-enum-told
 enum-told c = search needs
@@ -18,28 +35,35 @@ enum-told-2 c = search needs
 
 returns : tie.Need-returns
 unfolding admission
-returns c = rw (← c .before .before .gate .ensures, c .enum-told2 .given .1)
+returns c = rw (← gate-is (c .before .before), c .enum-told2 .given .1)
 
 first-bad-requires : tie.Need-first-bad-requires
-first-bad-requires c κs = gate-passed _ _ _ _ _ (sym (c .before .before .gate .ensures) ∙ c .enum-told .given .1) .few
+first-bad-requires c κs =
+    let a = c .before .before .before .before .before .before .args in
+    let n = a .table .n in
+    let accepted = sym (gate-is (c .before .before)) ∙ c .enum-told .given .1 in
+    gate-passed (a .m) n (then-admitted (gate (misset (a .m)) n) (roomy n (a .room)) accepted .0) .few
 
 returns-2 : tie.Need-returns-2
 unfolding admission
 returns-2 c =
     let b = c .before in
-    rw (← b .before .before .before .gate .ensures, b .before .enum-told .given .1, ← b .first-bad .ensures, lt-ltb _ _ (c .if1 .taken))
+    rw (← gate-is (b .before .before .before), b .before .enum-told .given .1, ← b .first-bad .ensures, lt-ltb _ _ (c .if1 .taken))
 
 returns-3 : tie.Need-returns-3
 unfolding admission
 returns-3 c =
     let b = c .before in
-    rw (← b .before .before .before .gate .ensures, b .before .enum-told .given .1, ← b .first-bad .ensures, le-ltb _ _ (c .if1 .left))
+    rw (← gate-is (b .before .before .before), b .before .enum-told .given .1, ← b .first-bad .ensures, le-ltb _ _ (c .if1 .left))
 
 pub admit-spec : {M : Type 1} → statement M
 admit-spec =
     tie.close
     (tie.spec
+    misset-requires
     gate-requires
+    roomy-requires
+    and-then-requires
     enum-told
     enum-told-2
     returns

@@ -3,8 +3,9 @@ use Prim.Native.Nat.{ℕ, _-_, _≤_, _<_}
 use mathlib.Core.Bool.{false, not}
 use mathlib.Core.Path.{_≡_}
 use native.Mathlib.Omega.{arith}
+use Rattle.ground.proofs.First.{bad-here, bad-more, bad-none}
 use Rattle.wide.specs.WideTask.{at, isGood}
-use Rattle.wide.proofs.Tables.{bad-here, bad-more, bad-none}
+use Rattle.wide.specs.Table.{firstBad}
 use Rattle.wide.proofs.first_bad.Statement.{statement}
 use Rattle.wide.proofs.first_bad.Tie as tie
 
@@ -27,7 +28,11 @@ good-requires : tie.Need-good-requires Inv-loop μ-loop
 good-requires c κs = tt
 
 returns : tie.Need-returns Inv-loop μ-loop
-returns c = bad-here _ _ _ (c .before .before .before .before .loop .inv .1) (c .before .before .before .loop-test .taken) _ (c .before .good2 .ensures) (c .if1 .taken)
+unfolding firstBad
+returns c =
+    let l = c .before .before .before .before in
+    let rows = l .before .args .t1 .rows in
+    bad-here (λ j. isGood (at rows j)) _ _ (l .loop .inv .1) (c .before .before .before .loop-test .taken) _ (c .before .good2 .ensures) (c .if1 .taken)
 
 add-i : tie.Need-add-i Inv-loop μ-loop
 add-i c = omega arith
@@ -36,10 +41,16 @@ loop-less : tie.Need-loop-less Inv-loop μ-loop
 loop-less c = omega arith
 
 loop-again : tie.Need-loop-again Inv-loop μ-loop
-loop-again c = (omega arith, let t = c .before .before .before .before .before .args .t1 in bad-more (t .rows) (t .n) _ (c .before .before .before .before .loop .inv .1) _ (c .before .good2 .ensures) (c .if1 .left))
+loop-again c =
+    let l = c .before .before .before .before in
+    let t = l .before .args .t1 in
+    (omega arith, bad-more (λ j. isGood (at (t .rows) j)) (t .n) _ (l .loop .inv .1) _ (c .before .good2 .ensures) (c .if1 .left))
 
 returns-2 : tie.Need-returns-2 Inv-loop μ-loop
-returns-2 c = bad-none _ _ _ (c .before .loop .inv .1) (omega arith)
+unfolding firstBad
+returns-2 c =
+    let rows = c .before .before .args .t1 .rows in
+    bad-none (λ j. isGood (at rows j)) _ _ (c .before .loop .inv .1) (omega arith)
 
 pub first-bad-spec : {M : Type 1} → statement M
 first-bad-spec =
