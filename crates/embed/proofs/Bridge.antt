@@ -14,10 +14,10 @@ use Rattle.quick.proofs.Promises.{looks-agree}
 use Rattle.rows.specs.Gathered.{tableOf}
 use Rattle.rows.proofs.Bridge.{table-at, outcome-over}
 use Rattle.office.proofs.Answers.{handed-same, after-same}
-use Rattle.embed.specs.declared.Told.{Told}
-use Rattle.embed.specs.declared.sheets.ToldCount.{ToldCount}
-use Rattle.embed.specs.Told.{ToldMeets, ToldLooked}
-use Rattle.embed.specs.Texts.{ToldExports}
+use Rattle.told.specs.declared.Told.{Told}
+use Rattle.told_sheets.specs.declared.ToldCount.{ToldCount}
+use Rattle.told.specs.Told.{ToldMeets, ToldLooked}
+use Rattle.told_sheets.specs.Texts.{ToldExports}
 
 module _ (s : Settings) (rows : List Task) (periods processors : List ℕ) (r : Told) (ps qs : List ℕ) where
   pub told-meets-over : ToldMeets (outcome true s (tableOf rows .rows) (length rows) periods processors) r ps qs

@@ -2,14 +2,14 @@
 -- Assumes nothing.
 use mathlib.Core.Path.{refl}
 use Rattle.walk.proofs.Thin.{Valued, of-struct}
-use Rattle.embed.proofs.Station as S
-use Rattle.embed.proofs.Station.Laws as S′
-use Rattle.embed.proofs.Told as T
-use Rattle.embed.proofs.Told.Laws as T′
-use Rattle.embed.proofs.ToldMargin as M
-use Rattle.embed.proofs.ToldMargin.Laws as M′
-use Rattle.embed.proofs.sheets.ToldCount as N
-use Rattle.embed.proofs.sheets.ToldCount.Laws as N′
+use Rattle.told.proofs.Station as S
+use Rattle.told.proofs.Station.Laws as S′
+use Rattle.told.proofs.Told as T
+use Rattle.told.proofs.Told.Laws as T′
+use Rattle.told.proofs.ToldMargin as M
+use Rattle.told.proofs.ToldMargin.Laws as M′
+use Rattle.told_sheets.proofs.ToldCount as N
+use Rattle.told_sheets.proofs.ToldCount.Laws as N′
 
 abbrev pub station : Valued S.the-row
 station = of-struct S.the-type S′.the-laws S′.lowers S′.the-plain (λ x f. refl)

@@ -1,49 +1,17 @@
-// The release clock for C and Rust: the clock table crosses by value, both ways.
+// The release clock, exported. Contracts cite the definitions of `told`.
 use clock::Clock;
-use clock::Release;
-use kinds::Verdict;
+use told::clocked::ToldCall;
+use told::clocked::ToldStart;
 ghost use mathlib.Core.Path.{_≡_};
 ghost use Rattle.clock.specs.Start.{started};
-ghost use Rattle.embed.specs.Clocked.{toldStart, ToldCallIs};
-
-// Number, place and the clock that is started, of zeros where the start is refused.
-#[repr(C)]
-pub struct ToldStart {
-    pub number: u32,
-    pub place: usize,
-    pub clock: Clock,
-}
-
-// Number and place, how many tasks are handed back (1 or 0) and which (0 for none), and the clock after the call.
-#[repr(C)]
-pub struct ToldCall {
-    pub number: u32,
-    pub due: u32,
-    pub task: usize,
-    pub place: usize,
-    pub clock: Clock,
-}
+ghost use Rattle.told.specs.Clocked.{toldStart, ToldCallIs};
 
 // Starts a clock for these periods at a tick.
 #[no_mangle]
 pub extern "C" fn eelbasket_clock_start(periods: &[u32], tick: u32) -> ToldStart
     ensures { λ r. ⌜ toldStart r ≡ started (now (periods .entry)) tick ⌝ }
 {
-    let begun = clock::start(periods, tick);
-    let answer = begun.answer;
-    let clock = begun.clock;
-    match answer {
-        Verdict::Accepted => ToldStart {
-            number: 0,
-            place: 0,
-            clock,
-        },
-        Verdict::Refused(refusal) => ToldStart {
-            number: refusal.number() as u32,
-            place: refusal.place(),
-            clock,
-        },
-    }
+    told::clocked::clock_start_told(periods, tick)
 }
 
 // A call with the present tick.
@@ -51,30 +19,5 @@ pub extern "C" fn eelbasket_clock_start(periods: &[u32], tick: u32) -> ToldStart
 pub extern "C" fn eelbasket_clock_call(clock: Clock, present: u32) -> ToldCall
     ensures { λ r. ⌜ ToldCallIs clock present r ⌝ }
 {
-    let called = clock::call(clock, present);
-    let answer = called.answer;
-    let after = called.clock;
-    match answer {
-        Release::Of(task) => ToldCall {
-            number: 0,
-            due: 1,
-            task,
-            place: 0,
-            clock: after,
-        },
-        Release::NoneDue => ToldCall {
-            number: 0,
-            due: 0,
-            task: 0,
-            place: 0,
-            clock: after,
-        },
-        Release::Refused(refusal) => ToldCall {
-            number: refusal.number() as u32,
-            due: 0,
-            task: 0,
-            place: refusal.place(),
-            clock: after,
-        },
-    }
+    told::clocked::clock_call_told(clock, present)
 }

@@ -1,127 +1,21 @@
-// The library for C and Rust. An enum does not cross, so a policy comes as its number, and an answer goes as document 01's numbers: 0 for
-// an acceptance. A slice is a pointer and then a length. Contracts cite `specs/Told`, which reads the numbers as the calls' own promises.
+// The library for C and Rust: the calls of `told` and those over lent records, exported. A slice is a pointer and then a length. Contracts
+// cite the definitions of `told`, which read the numbers that cross as the calls' own promises.
 mod clocked;
 mod sheets;
 mod texts;
 
-use kinds::Answer;
-use kinds::Margin;
-use kinds::Policy;
-use kinds::Settings;
-use kinds::Table;
 use kinds::Task;
-use quick::Looked;
-use wide::WideTable;
+use told::Station;
+use told::Told;
+use told::ToldMargin;
 use wide::WideTask;
 ghost use mathlib.Core.Bool.{true};
 ghost use mathlib.Core.Path.{_≡_};
 ghost use lib.ListN.{length};
-ghost use Rattle.kinds.specs.Answer.{handed, handedMargin};
 ghost use Rattle.plan.specs.Plan.{outcome};
 ghost use Rattle.margin.specs.Margin.{marginHanded};
 ghost use Rattle.wide.specs.Wide as wide;
-ghost use Rattle.embed.specs.Told.{settingsOf, toldHanded, toldMargin, ToldMeets, ToldLooked};
-
-// The settings as two numbers.
-#[repr(C)]
-pub struct Station {
-    pub policy: u16,
-    pub m: u16,
-}
-
-// Number, step, looks and place. A refusal's step is 0; the plain finder makes no looks.
-#[repr(C)]
-pub struct Told {
-    pub number: u32,
-    pub step: u32,
-    pub looks: u32,
-    pub place: usize,
-}
-
-// Number, place and margin. A refusal's margin is 0.
-#[repr(C)]
-pub struct ToldMargin {
-    pub number: u32,
-    pub place: usize,
-    pub margin: i64,
-}
-
-// The settings that two numbers stand for.
-fn settings_of(station: Station) -> Settings
-    ensures { λ r. ⌜ r ≡ settingsOf station ⌝ }
-{
-    Settings {
-        policy: Policy::of(station.policy),
-        m: station.m,
-    }
-}
-
-// An answer in numbers, with its looks.
-fn tell(answer: Answer, looks: u32) -> Told
-    ensures { λ r. ⌜ (toldHanded r ≡ handed answer) × (r .looks ≡ looks) ⌝ }
-{
-    match answer {
-        Answer::Accepted(step) => Told {
-            number: 0,
-            step,
-            looks,
-            place: 0,
-        },
-        Answer::Refused(refusal) => Told {
-            number: refusal.number() as u32,
-            step: 0,
-            looks,
-            place: refusal.place(),
-        },
-    }
-}
-
-// The plain finder on a table by value.
-pub fn plain_told(
-    table: Table,
-    station: Station,
-    periods: &mut [u32],
-    processors: &mut [u16],
-) -> Told
-    ensures { λ r. ⌜ ToldMeets (outcome true (settingsOf station) (table .rows) (table .n) (now (periods .entry)) (now (processors .entry))) r (now (periods .exit)) (now (processors .exit)) ⌝ }
-{
-    tell(
-        plain::find(table, settings_of(station), periods, processors),
-        0,
-    )
-}
-
-// The quick finder on a table by value.
-pub fn quick_told(
-    table: Table,
-    station: Station,
-    periods: &mut [u32],
-    processors: &mut [u16],
-) -> Told
-    ensures { λ r. ⌜ ToldLooked (settingsOf station) (table .rows) (table .n) (now (periods .entry)) (now (processors .entry)) r (now (periods .exit)) (now (processors .exit)) ⌝ }
-{
-    let looked = quick::find(table, settings_of(station), periods, processors);
-    let answer = looked.answer;
-    tell(answer, looked.looks)
-}
-
-// The margin on a table by value.
-pub fn margin_told(table: Table, station: Station, step: u32) -> ToldMargin
-    ensures { λ r. ⌜ toldMargin r ≡ marginHanded (settingsOf station) (table .rows) (table .n) step ⌝ }
-{
-    match margin::margin_at(table, settings_of(station), step) {
-        Margin::Is(margin) => ToldMargin {
-            number: 0,
-            place: 0,
-            margin,
-        },
-        Margin::Refused(refusal) => ToldMargin {
-            number: refusal.number() as u32,
-            place: refusal.place(),
-            margin: 0,
-        },
-    }
-}
+ghost use Rattle.told.specs.Told.{settingsOf, toldMargin, ToldMeets, ToldLooked};
 
 // The plain finder over lent records.
 #[no_mangle]
@@ -133,7 +27,7 @@ pub extern "C" fn eelbasket_plain(
 ) -> Told
     ensures { λ r. ⌜ ToldMeets (outcome true (settingsOf station) (now (rows .entry)) (length (now (rows .entry))) (now (periods .entry)) (now (processors .entry))) r (now (periods .exit)) (now (processors .exit)) ⌝ }
 {
-    plain_told(rows::gather(rows), station, periods, processors)
+    told::plain_told(rows::gather(rows), station, periods, processors)
 }
 
 // The quick finder over lent records, with its looks.
@@ -146,7 +40,7 @@ pub extern "C" fn eelbasket_quick(
 ) -> Told
     ensures { λ r. ⌜ ToldLooked (settingsOf station) (now (rows .entry)) (length (now (rows .entry))) (now (periods .entry)) (now (processors .entry)) r (now (periods .exit)) (now (processors .exit)) ⌝ }
 {
-    quick_told(rows::gather(rows), station, periods, processors)
+    told::quick_told(rows::gather(rows), station, periods, processors)
 }
 
 // The margin over lent records, at any step.
@@ -154,17 +48,10 @@ pub extern "C" fn eelbasket_quick(
 pub extern "C" fn eelbasket_margin(rows: &[Task], station: Station, step: u32) -> ToldMargin
     ensures { λ r. ⌜ toldMargin r ≡ marginHanded (settingsOf station) (now (rows .entry)) (length (now (rows .entry))) step ⌝ }
 {
-    margin_told(rows::gather(rows), station, step)
+    told::margin_told(rows::gather(rows), station, step)
 }
 
-// The finder for tasks that need several cores, on a table by value.
-pub fn wide_told(table: WideTable, m: u16, periods: &mut [u32], cores: &mut [u16]) -> Told
-    ensures { λ r. ⌜ ToldMeets (wide.outcome m (table .rows) (table .n) (now (periods .entry)) (now (cores .entry))) r (now (periods .exit)) (now (cores .exit)) ⌝ }
-{
-    tell(wide::find(table, m, periods, cores), 0)
-}
-
-// The same over lent records.
+// The finder for tasks that need several cores, over lent records.
 #[no_mangle]
 pub extern "C" fn eelbasket_wide(
     rows: &[WideTask],
@@ -174,5 +61,5 @@ pub extern "C" fn eelbasket_wide(
 ) -> Told
     ensures { λ r. ⌜ ToldMeets (wide.outcome m (now (rows .entry)) (length (now (rows .entry))) (now (periods .entry)) (now (cores .entry))) r (now (periods .exit)) (now (cores .exit)) ⌝ }
 {
-    wide_told(wide_rows::gather(rows), m, periods, cores)
+    told::wide_told(wide_rows::gather(rows), m, periods, cores)
 }

@@ -1,4 +1,4 @@
--- `embed::eelbasket_wide` meets its contract: the law of shape vmm, at the core `embed::wide_told`, m, and two outputs.
+-- `embed::eelbasket_wide` meets its contract: the law of shape vmm, at the core `told::wide_told`, m, and two outputs.
 -- Assumes nothing.
 use mathlib.Core.Path.{subst}
 use Rattle.walk.proofs.Thin.{id⊢, w16, w32, of-uint, fact-to}
@@ -6,11 +6,11 @@ use Rattle.walk.proofs.ThinVmm.{thin}
 use Rattle.plan.specs.Plan.{Outcome}
 use Rattle.wide_rows.proofs.Bridge.{outcome-over}
 use Rattle.wide_rows.proofs.Lent.{gathered}
-use Rattle.embed.specs.Told.{ToldMeets}
+use Rattle.told.specs.Told.{ToldMeets}
 use Rattle.embed.proofs.Values as values
-use Rattle.embed.proofs.wide_told as core
-use Rattle.embed.proofs.wide_told.Symbol as core-def
-use Rattle.embed.proofs.wide_told.Met as core-thm
+use Rattle.told.proofs.wide_told as core
+use Rattle.told.proofs.wide_told.Symbol as core-def
+use Rattle.told.proofs.wide_told.Met as core-thm
 use Rattle.embed.proofs.eelbasket_wide as eelbasket-wide
 use Rattle.embed.proofs.eelbasket_wide.Key as key
 use Rattle.embed.proofs.eelbasket_wide.Statement as stated
@@ -21,7 +21,7 @@ unfolding code.routine
 eelbasket-wide-spec 𝓤 H 𝓜 𝓖 𝓡 =
     thin (gathered 𝓤 H 𝓜 𝓖 𝓡) values.told (of-uint w16) w32 w16
     core-def.name core-def.routine (core.clauses 𝓤 H (𝓖 .A) (𝓜 .mem) (𝓡 .run)) (core-thm.met 𝓤 H 𝓜 𝓖 𝓡)
-    code.env key.name (code.unfolded 𝓤 H 𝓜 𝓡) code.calls-wide-rows·gather code.calls-embed·wide-told (eelbasket-wide.clauses 𝓤 H (𝓖 .A) (𝓜 .mem) (𝓡 .run))
+    code.env key.name (code.unfolded 𝓤 H 𝓜 𝓡) code.calls-wide-rows·gather code.calls-told·wide-told (eelbasket-wide.clauses 𝓤 H (𝓖 .A) (𝓜 .mem) (𝓡 .run))
     (record {
       ghost = λ κ κ₁ κ₂ x m y z g. tt;
       asks = λ κ κ₁ κ₂ x m y z g. id⊢ 𝓤 _;

@@ -3,7 +3,7 @@
 --     exits        from what is had at exit to the `post` of `walkOf`
 -- Contexts are written as comments. With k locals, local j stands at 2 · (k − 1 − j), and each entry put in front moves all by one.
 -- Assumes nothing.
-use mathlib.Core.Path.{_≡_, refl, _∙_}
+use mathlib.Core.Path.{_≡_, refl}
 use Prim.Native.Nat.{ℕ}
 use mathlib.Core.List.{List, [], _∷_}
 use lib.ListN.{length}
@@ -51,15 +51,16 @@ use Rattle.office_rows.proofs.import.Symbol as core-def
 use Rattle.office_rows.proofs.import.Symbol.{name as #office-rows·import}
 use Rattle.office_rows.proofs.import.Met as core-thm
 use Rattle.walk.proofs.Gets.{Asks}
-use Rattle.embed.specs.declared.sheets.ToldCount.{ToldCount}
-use Rattle.embed.specs.Sheets.{toldCount}
-use Rattle.embed.specs.Texts.{ToldImports}
-use Rattle.embed.proofs.sheets.ToldCount as R
-use Rattle.embed.proofs.sheets.ToldCount.Laws as R′
-use Rattle.embed.proofs.texts.tell_carried as tell
-use Rattle.embed.proofs.texts.tell_carried.Symbol as tell-def
-use Rattle.embed.proofs.texts.tell_carried.Symbol.{name as #texts·tell-carried}
-use Rattle.embed.proofs.texts.tell_carried.Met as tell-thm
+use Rattle.told_sheets.specs.declared.ToldCount.{ToldCount}
+use Rattle.told_sheets.specs.Sheets.{toldCount}
+use Rattle.told_sheets.specs.Texts.{ToldImports}
+use Rattle.told_sheets.proofs.Imports.{told-imports}
+use Rattle.told_sheets.proofs.ToldCount as R
+use Rattle.told_sheets.proofs.ToldCount.Laws as R′
+use Rattle.told_sheets.proofs.tell_count as tell
+use Rattle.told_sheets.proofs.tell_count.Symbol as tell-def
+use Rattle.told_sheets.proofs.tell_count.Symbol.{name as #told-sheets·tell-count}
+use Rattle.told_sheets.proofs.tell_count.Met as tell-thm
 use Rattle.embed.proofs.texts.eelbasket_import.Key.{name as #texts·eelbasket-import}
 use Rattle.embed.proofs.texts.eelbasket_import as call
 use Rattle.embed.proofs.texts.eelbasket_import.Statement as stated
@@ -77,7 +78,7 @@ module _ {M : Type 1} (𝓤 : URA M) (H : Heap 𝓤) (A : Atoms 𝓤) (mem : Mem
   Tell = Asks 𝓤 H A tell.ended (tell.clauses 𝓤 H A mem run)
 
   abbrev Known : Tables 𝓤 H → Type 1
-  Known 𝓣 = Triple 𝓤 (𝓣 .C #office-rows·import) Core × Triple 𝓤 (𝓣 .C #texts·tell-carried) Tell
+  Known 𝓣 = Triple 𝓤 (𝓣 .C #office-rows·import) Core × Triple 𝓤 (𝓣 .C #told-sheets·tell-count) Tell
 
 module _ {M : Type 1} (𝓤 : URA M) (H : Heap 𝓤) (A : Atoms 𝓤) (W : Given 𝓤 H A) (mem : Memory → SProp 𝓤) (run : Routine → Fun 𝓤)
     (κ κ₁ : Lft) (q q₁ : Share) (x : RefT (List ℕ)) (y : RefT (List Task)) where
@@ -161,7 +162,7 @@ module _ {M : Type 1} (𝓤 : URA M) (H : Heap 𝓤) (A : Atoms 𝓤) (W : Given
       -- [the rows' last list; true; the lifetimes; text's]
       move ! (2 ∷ []) $ use1 W (‵ (flft κ q) ⊛ ‵ (flft κ₁ q₁) ⊛ ‵ ftrue) (id⊢ 𝓤 _) $ split ! $ move ! (1 ∷ []) $ split ! $ move ! (1 ∷ []) $ drop ! $
       -- [κ₁; κ; the rows' last list; true; text's]
-      keep ! (1 ∷ 0 ∷ 4 ∷ 2 ∷ []) $ by ! (exits t (ws .1 .0) it (record { answers = e ∙ f .answer; leaves = f .output }) lz)))))))))))
+      keep ! (1 ∷ 0 ∷ 4 ∷ 2 ∷ []) $ by ! (exits t (ws .1 .0) it (told-imports (x .now) (y .now) r t (ws .1 .0) e f) lz)))))))))))
 
 module _ {M : Type 1} (𝓤 : URA M) (H : Heap 𝓤) (A : Atoms 𝓤) (W : Given 𝓤 H A) (mem : Memory → SProp 𝓤) (run : Routine → Fun 𝓤) where
   import-walks : (𝓣 : Tables 𝓤 H) → Known 𝓤 H A mem run 𝓣 → Walks 𝓤 H A call.ended stayed (WpFn 𝓤 H (𝓣 .C) (𝓣 .Λ) code.function) (call.clauses 𝓤 H A mem run)
@@ -182,5 +183,5 @@ eelbasket-import-spec 𝓤 H 𝓜 𝓖 𝓡 =
     (tables 𝓤 H 𝓜 𝓡 code.env .C) (tables 𝓤 H 𝓜 𝓡 code.env .Λ) #texts·eelbasket-import code.function (code.unfolded 𝓤 H 𝓜 𝓡)
     (import-meets 𝓤 H (𝓖 .A) (givenOf 𝓤 H 𝓜 𝓖) (𝓜 .mem) (𝓡 .run) (tablesOf 𝓤 H 𝓜 (tables 𝓤 H 𝓜 𝓡 code.env)) (
       cited 𝓤 H (Core 𝓤 H (𝓖 .A) (𝓜 .mem) (𝓡 .run)) 𝓜 𝓡 code.env #office-rows·import core-def.routine code.calls-office-rows·import (core-thm.met 𝓤 H 𝓜 𝓖 𝓡),
-      cited 𝓤 H (Tell 𝓤 H (𝓖 .A) (𝓜 .mem) (𝓡 .run)) 𝓜 𝓡 code.env #texts·tell-carried tell-def.routine code.calls-embed·texts·tell-carried (tell-thm.met 𝓤 H 𝓜 𝓖 𝓡),
+      cited 𝓤 H (Tell 𝓤 H (𝓖 .A) (𝓜 .mem) (𝓡 .run)) 𝓜 𝓡 code.env #told-sheets·tell-count tell-def.routine code.calls-told-sheets·tell-count (tell-thm.met 𝓤 H 𝓜 𝓖 𝓡),
     ))

@@ -1,4 +1,0 @@
-pub mod Told
-pub mod Clocked
-pub mod Sheets
-pub mod Texts

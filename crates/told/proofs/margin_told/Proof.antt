@@ -1,0 +1,61 @@
+-- `told::margin_told` meets its contract. Assumes nothing.
+use mathlib.Core.Path.{_≡_, sym, ap, _∙_}
+use mir.Syntax.{w64}
+use mir.Val.{toZ, ofZ}
+use Rattle.kinds.specs.Answer.{accepted, handedMargin}
+use Rattle.margin.specs.Margin.{marginHanded}
+use Rattle.told.specs.Told.{settingsOf}
+use borrow.Author.Needs.{needs}
+use Rattle.told.proofs.margin_told.Statement.{statement}
+use Rattle.told.proofs.margin_told.Tie as tie
+
+-- what the margin hands back, for the settings that the numbers stand for
+handed-back : (c : tie.After-margin-at) → let a = c .before .before .args in
+    handedMargin (c .margin-at .result) ≡ marginHanded (settingsOf (a .station)) (a .table .rows) (a .table .n) (a .step)
+handed-back c = rw (c .before .settings-of .ensures) at (c .margin-at .ensures)
+
+settings-of-requires : tie.Need-settings-of-requires
+settings-of-requires c κs = search needs
+
+margin-at-requires : tie.Need-margin-at-requires
+margin-at-requires c κs = search needs
+
+enum-known-margin : tie.Need-enum-known-margin
+enum-known-margin c = search needs
+
+enum-known-refusal : tie.Need-enum-known-refusal
+enum-known-refusal c = search needs
+
+number-requires : tie.Need-number-requires
+number-requires c κs = search needs
+
+cast-t10 : tie.Need-cast-t10
+cast-t10 c = search needs
+
+place-requires : tie.Need-place-requires
+place-requires c κs = search needs
+
+returns : tie.Need-returns
+returns c =
+    let x = c .before .margin .given .0 .0 in
+    let e : toZ w64 (ofZ w64 x) ≡ x = search needs in
+    ap accepted e ∙ (ap handedMargin (sym (c .before .margin .given .1)) ∙ handed-back (c .before .before .before))
+
+returns-2 : tie.Need-returns-2
+returns-2 c =
+    let r = c .before .before .before in
+    rw (c .place .ensures, c .before .number .ensures) (ap handedMargin (sym (r .refusal .given .1)) ∙ handed-back (r .before .before))
+
+pub margin-told-spec : {M : Type 1} → statement M
+margin-told-spec =
+    tie.close
+    (tie.spec
+    settings-of-requires
+    margin-at-requires
+    enum-known-margin
+    enum-known-refusal
+    number-requires
+    cast-t10
+    place-requires
+    returns
+    returns-2)

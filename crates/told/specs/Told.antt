@@ -1,0 +1,41 @@
+-- The numbers that cross to C, read as the calls' own promises.
+-- Assumes nothing.
+use Prim.Native.Nat.{ℕ, _+_, _≤_, min}
+use mathlib.Core.Bool.{false}
+use mathlib.Core.List.{List}
+use mathlib.Core.Path.{_≡_}
+use lib.IntN.{ℤ}
+use lib.ListN.{length}
+use Rattle.kinds.specs.declared.Task.{Task}
+use Rattle.kinds.specs.declared.Settings.{Settings}
+use Rattle.kinds.specs.Answer.{Handed}
+use Rattle.kinds.specs.Policy.{policyOf}
+use Rattle.plan.specs.Plan.{Outcome, outcome}
+use Rattle.quick.specs.Looked.{looks}
+use Rattle.told.specs.declared.Station.{Station}
+use Rattle.told.specs.declared.Told.{Told}
+use Rattle.told.specs.declared.ToldMargin.{ToldMargin}
+
+abbrev pub settingsOf : Station → Settings
+settingsOf s = record { policy = policyOf (s .policy); m = s .m }
+
+abbrev pub toldHanded : Told → Handed ℕ
+toldHanded r = record { number = r .number; place = r .place; value = r .step }
+
+abbrev pub toldMargin : ToldMargin → Handed ℤ
+toldMargin r = record { number = r .number; place = r .place; value = r .margin }
+
+-- the plain finder's promise; it makes no looks
+pub record ToldMeets (o : Outcome) (r : Told) (periods processors : List ℕ) : Type 0 where
+  pub answers : toldHanded r ≡ o .handed
+  pub grants : periods ≡ o .periods
+  pub places : processors ≡ o .processors
+  pub no-looks : r .looks ≡ 0
+
+-- the quick finder's promise
+pub record ToldLooked (s : Settings) (rows : List Task) (n : ℕ) (oldPeriods oldProcessors : List ℕ) (r : Told) (periods processors : List ℕ) : Type 0 where
+  pub answers : toldHanded r ≡ outcome false s rows n oldPeriods oldProcessors .handed
+  pub grants : periods ≡ outcome false s rows n oldPeriods oldProcessors .periods
+  pub places : processors ≡ outcome false s rows n oldPeriods oldProcessors .processors
+  pub count : r .looks ≡ looks s rows n (min (length oldPeriods) (length oldProcessors))
+  pub few : r .looks ≤ n + 1

@@ -1,0 +1,3 @@
+pub mod Imports
+pub mod Once
+pub mod Readings

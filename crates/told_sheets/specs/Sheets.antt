@@ -1,0 +1,55 @@
+-- Station sheets in numbers that cross to C.
+-- Assumes nothing.
+use Prim.Native.Nat.{ℕ}
+use mathlib.Core.List.{List}
+use mathlib.Core.Path.{_≡_}
+use Rattle.kinds.specs.declared.Sheet.{Sheet}
+use Rattle.kinds.specs.Policy.{policyNumber}
+use Rattle.kinds.specs.Answer.{Handed, NumberAndPlace}
+use Rattle.change_over.specs.declared.Which.{Which}
+use Rattle.change_over.specs.declared.Which.the-variants.{Standing, Proposed}
+use Rattle.change_over.specs.declared.Part.{Part}
+use Rattle.told_sheets.specs.declared.StationSheet.{StationSheet}
+use Rattle.told_sheets.specs.declared.ToldReading.{ToldReading}
+use Rattle.told_sheets.specs.declared.ToldCount.{ToldCount}
+use Rattle.told_sheets.specs.declared.ToldVerdict.{ToldVerdict}
+use Rattle.told_sheets.specs.declared.ToldPart.{ToldPart}
+use Rattle.told.specs.Told.{settingsOf}
+
+-- the sheet that the numbers stand for
+abbrev pub sheetOf : StationSheet → Sheet
+sheetOf x = record { settings = settingsOf (x .station); table = x .table; results = x .results }
+
+-- a sheet in numbers
+abbrev pub numbersOf : Sheet → StationSheet
+numbersOf x =
+    record {
+      station = record { policy = policyNumber (x .settings .policy); m = x .settings .m };
+      table = x .table;
+      results = x .results;
+    }
+
+abbrev pub inNumbers : Handed Sheet → Handed StationSheet
+inNumbers h = record { number = h .number; place = h .place; value = numbersOf (h .value) }
+
+abbrev pub toldReading : ToldReading → Handed StationSheet
+toldReading r = record { number = r .number; place = r .place; value = r .sheet }
+
+abbrev pub toldCount : ToldCount → Handed ℕ
+toldCount r = record { number = r .number; place = r .place; value = r .count }
+
+-- what a call that hands rows or bytes over tells, and its output after it
+pub record ToldCounts {A : Type 0} (h : Handed ℕ) (after : List A) (r : ToldCount) (new : List A) : Type 0 where
+  pub answers : toldCount r ≡ h
+  pub leaves : new ≡ after
+
+abbrev pub toldVerdict : ToldVerdict → NumberAndPlace
+toldVerdict r = record { number = r .number; place = r .place; value = tt }
+
+-- the two lent sheets as numbers
+abbrev pub numberOfSheet : Which → ℕ
+numberOfSheet Standing = 0
+numberOfSheet Proposed = 1
+
+abbrev pub toldPart : Part → ToldPart
+toldPart p = record { which = numberOfSheet (p .which); place = p .from; size = p .size }

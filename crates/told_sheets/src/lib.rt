@@ -1,0 +1,181 @@
+// Station sheets in numbers: a sheet crosses as numbers, its policy as the number that it is written as. Contracts cite `specs/Sheets`.
+pub mod texts;
+
+use change_over::Which;
+use fill::LONGEST_SHEET;
+use kinds::Counted;
+use kinds::Results;
+use kinds::Sheet;
+use kinds::Table;
+use kinds::Verdict;
+use told::Station;
+ghost use mathlib.Core.Path.{_≡_};
+ghost use lib.ListN.{length};
+ghost use Rattle.kinds.specs.Answer.{handedVerdict, handedCount};
+ghost use Rattle.sheet.specs.Reading.{readSheet};
+ghost use Rattle.writer.specs.Writing.{writeSheet, afterWrite};
+ghost use Rattle.fill.specs.Fill.{planned, counted, afterFill};
+ghost use Rattle.checked.specs.Checked.{checked};
+ghost use Rattle.change_over.specs.ChangeOver.{changeOver};
+ghost use Rattle.told_sheets.specs.Sheets.{sheetOf, numbersOf, inNumbers, toldReading, toldCount, ToldCounts, toldVerdict, toldPart};
+
+// A sheet in numbers.
+#[repr(C)]
+pub struct StationSheet {
+    pub station: Station,
+    pub table: Table,
+    pub results: Results,
+}
+
+// Number, place and the sheet that was read, of zeros where it is refused.
+#[repr(C)]
+pub struct ToldReading {
+    pub number: u32,
+    pub place: usize,
+    pub sheet: StationSheet,
+}
+
+// Number, place, and how many rows or bytes were handed over, 0 where the call is refused.
+#[repr(C)]
+pub struct ToldCount {
+    pub number: u32,
+    pub place: usize,
+    pub count: usize,
+}
+
+// Number and place.
+#[repr(C)]
+pub struct ToldVerdict {
+    pub number: u32,
+    pub place: usize,
+}
+
+// A part of the standing sheet, 0, or of the proposed one, 1: where it starts, and how many bytes it has.
+#[repr(C)]
+pub struct ToldPart {
+    pub which: u32,
+    pub place: usize,
+    pub size: usize,
+}
+
+// The sheet that the numbers stand for.
+fn sheet_of(x: StationSheet) -> Sheet
+    ensures { λ r. ⌜ r ≡ sheetOf x ⌝ }
+{
+    let station = x.station;
+    let table = x.table;
+    let results = x.results;
+    let settings = told::settings_of(station);
+    Sheet {
+        settings,
+        table,
+        results,
+    }
+}
+
+// A sheet in numbers.
+fn numbers_of(x: Sheet) -> StationSheet
+    ensures { λ r. ⌜ r ≡ numbersOf x ⌝ }
+{
+    let settings = x.settings;
+    let policy = settings.policy;
+    let table = x.table;
+    let results = x.results;
+    let station = Station {
+        policy: policy.number(),
+        m: settings.m,
+    };
+    StationSheet {
+        station,
+        table,
+        results,
+    }
+}
+
+// A count in numbers.
+pub fn tell_count(counted: Counted) -> ToldCount
+    ensures { λ r. ⌜ toldCount r ≡ handedCount counted ⌝ }
+{
+    match counted {
+        Counted::Count(count) => ToldCount {
+            number: 0,
+            place: 0,
+            count,
+        },
+        Counted::Refused(refused) => ToldCount {
+            number: refused.number() as u32,
+            place: refused.place(),
+            count: 0,
+        },
+    }
+}
+
+// A verdict in numbers.
+fn tell_verdict(verdict: Verdict) -> ToldVerdict
+    ensures { λ r. ⌜ toldVerdict r ≡ handedVerdict verdict ⌝ }
+{
+    match verdict {
+        Verdict::Accepted => ToldVerdict {
+            number: 0,
+            place: 0,
+        },
+        Verdict::Refused(refusal) => ToldVerdict {
+            number: refusal.number() as u32,
+            place: refusal.place(),
+        },
+    }
+}
+
+// Reads a station sheet.
+pub fn read_told(bytes: &[u8]) -> ToldReading
+    ensures { λ r. ⌜ toldReading r ≡ inNumbers (readSheet (now (bytes .entry))) ⌝ }
+{
+    let reading = sheet::read(bytes);
+    let verdict = reading.verdict;
+    let x = reading.sheet;
+    let told = tell_verdict(verdict);
+    let sheet = numbers_of(x);
+    ToldReading {
+        number: told.number,
+        place: told.place,
+        sheet,
+    }
+}
+
+// Writes a station sheet into a lent buffer.
+pub fn write_told(sheet: StationSheet, out: &mut [u8]) -> ToldCount
+    ensures { λ r. ⌜ ToldCounts (writeSheet (sheetOf sheet) (length (now (out .entry)))) (afterWrite (sheetOf sheet) (now (out .entry))) r (now (out .exit)) ⌝ }
+{
+    tell_count(writer::write(sheet_of(sheet), out))
+}
+
+// Fills in the sheet that was read, or refuses it; a refusal writes nothing.
+pub fn fill_told(bytes: &[u8], out: &mut [u8; LONGEST_SHEET]) -> ToldCount
+    ensures { λ r. ⌜ ToldCounts (counted (planned (now (bytes .entry)))) (afterFill (planned (now (bytes .entry))) (now (out .entry))) r (now (out .exit)) ⌝ }
+{
+    tell_count(fill::fill_in(bytes, out))
+}
+
+// Whether a filled sheet has the results that the plain finder gives.
+pub fn check_told(bytes: &[u8]) -> ToldVerdict
+    ensures { λ r. ⌜ toldVerdict r ≡ checked (now (bytes .entry)) ⌝ }
+{
+    tell_verdict(checked::check(bytes))
+}
+
+// Which part of which sheet the change-over answers.
+pub fn change_over_told(standing: &[u8], proposed: &[u8]) -> ToldPart
+    ensures { λ r. ⌜ r ≡ toldPart (changeOver (now (standing .entry)) (now (proposed .entry))) ⌝ }
+{
+    let part = change_over::part_of(standing, proposed);
+    let which = part.which;
+    let number = match which {
+        Which::Standing => 0u32,
+        Which::Proposed => 1u32,
+    };
+    ToldPart {
+        which: number,
+        place: part.from,
+        size: part.size,
+    }
+}
