@@ -61,9 +61,6 @@ module _ (f : ℕ → ℕ) (n : ℕ) where
   unfolding latest
   latest-first h = rw (ne-eqb (maxTo f n) 0 (λ e. omega arith))
 
-  pub latest-one : (i : ℕ) → 0 < f i → Most f n i → latest f n ≡ i ∷ []
-  latest-one i h m = latest-first (omega (arith, m .greatest)) ∙ ap (λ (k : ℕ). k ∷ []) (sym (most-first i m))
-
   -- the two cases
   pub by-latest : {X : Type 0} → (latest f n ≡ [] → ((i : ℕ) → i < n → f i ≡ 0) → X)
       → ((i : ℕ) → latest f n ≡ i ∷ [] → 0 < f i → Most f n i → X) → X

@@ -12,10 +12,6 @@ pub sub-is : (r present next : ℕ) → r < turn → next < turn → (r + next) 
 unfolding behind
 sub-is r present next l m e = omega arith
 
-pub behind-less : (present next : ℕ) → behind present next < turn
-unfolding behind
-behind-less present next = omega arith
-
 -- a task that is due, and one that is not
 pub late-due : (present next : ℕ) → behind present next < halfTurn → late present next ≡ suc (behind present next)
 unfolding late

@@ -15,9 +15,8 @@ use Rattle.ground.specs.Folds.{sumTo}
 use Rattle.ground.proofs.Cases.{by-eq}
 use Rattle.ground.proofs.First.{first-is, first-cong}
 use Rattle.ground.proofs.Folds.{sum-most, sum-cong}
-use Rattle.ground.proofs.Buffer.{list-cong}
 use Rattle.kinds.specs.Limits.{scale, mostProcessors}
-use Rattle.fit.specs.Fit.{hasRoom, lowestRoom, loaded, loadsAfter, placeAt, stuckAt, fits, placesTo}
+use Rattle.fit.specs.Fit.{hasRoom, lowestRoom, loaded, loadsAfter, placeAt, stuckAt, fits}
 
 sum-zero : (m : ℕ) → sumTo (λ j. 0) m ≡ 0
 unfolding sumTo
@@ -121,7 +120,3 @@ module _ (m : ℕ) (f g : ℕ → ℕ) where
     fits-same =
         ap (λ (x : ℕ). eqb x n)
         (first-cong (λ i. leb m (placeAt m f i)) (λ i. leb m (placeAt m g i)) n (λ i l. ap (leb m) (place-same i l)))
-
-    pub places-same : placesTo m f n ≡ placesTo m g n
-    unfolding placesTo
-    places-same = list-cong (λ i. placeAt m f i + 1) (λ i. placeAt m g i + 1) n (λ i l. ap (λ (x : ℕ). x + 1) (place-same i l))

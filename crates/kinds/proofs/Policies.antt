@@ -1,12 +1,11 @@
 -- A policy's number, there and back.
 -- Assumes nothing.
 use Prim.Native.Nat.{ℕ}
-use mathlib.Core.Path.{_≡_, ap}
+use mathlib.Core.Path.{_≡_}
 use lib.Dec.{eqb}
 use borrow.Author.Tests.{eqb-true}
 use Rattle.ground.proofs.Cases.{by-bool}
-use Rattle.kinds.specs.declared.Policy.{Policy}
-use Rattle.kinds.specs.Policy.{policyOf, policyNumber, meant}
+use Rattle.kinds.specs.Policy.{policyOf, policyNumber}
 
 -- what is read is written back, whatever the number
 pub number-back : (q : ℕ) → policyNumber (policyOf q) ≡ q
@@ -15,7 +14,3 @@ number-back q =
     (λ a. by-bool (eqb q 2) (λ e. rw (eqb-true q 2 e))
     (λ b. by-bool (eqb q 3) (λ e. rw (eqb-true q 3 e))
     (λ c. by-bool (eqb q 4) (λ e. rw (eqb-true q 4 e)) (λ d. rw (a, b, c, d)))))
-
--- meaning is settled at once
-pub meant-once : (p : Policy) → meant (meant p) ≡ meant p
-meant-once p = ap policyOf (number-back (policyNumber p))

@@ -4,25 +4,19 @@ use Prim.Native.Nat.{ℕ, _≤_, _<_}
 use mathlib.Core.Bool.{false}
 use mathlib.Core.List.{List}
 use mathlib.Core.Path.{_≡_, ap, _∙_}
-use native.Mathlib.Omega.{arith}
 use Rattle.ground.specs.declared.Step.the-variants.{At, Nothing}
-use Rattle.ground.specs.Least.{leastUpTo, LeastAt, IsLeast}
-use Rattle.ground.proofs.Least.{least-is, least-at, least-nothing, least-cong}
+use Rattle.ground.specs.Least.{leastUpTo, LeastAt}
+use Rattle.ground.proofs.Least.{least-at, least-nothing, least-cong}
 use Rattle.kinds.specs.declared.Task.{Task}
 use Rattle.kinds.specs.declared.Policy.{Policy}
-use Rattle.kinds.specs.Limits.{scale}
-use Rattle.kinds.specs.Task.{at, Good}
+use Rattle.kinds.specs.Task.{at}
 use Rattle.share.specs.Share.{shareAt}
 use Rattle.share.specs.Table.{shares, fullCompression}
-use Rattle.share.proofs.Tables.{full-most, full-same}
+use Rattle.share.proofs.Tables.{full-same}
 use Rattle.policy.specs.Passing.{passesAt, leastStep}
 use Rattle.policy.proofs.Tests.{passes-same}
 
 module _ (p : Policy) (m : ℕ) (rows : List Task) (n : ℕ) where
-  pub step-is : IsLeast (passesAt p m rows n) (fullCompression rows n) (leastStep p m rows n)
-  unfolding leastStep
-  step-is = least-is (passesAt p m rows n) (fullCompression rows n)
-
   pub step-at : (k : ℕ) → leastStep p m rows n ≡ At k → LeastAt (passesAt p m rows n) (fullCompression rows n) k
   unfolding leastStep
   step-at k e = least-at (passesAt p m rows n) (fullCompression rows n) k e
@@ -30,9 +24,6 @@ module _ (p : Policy) (m : ℕ) (rows : List Task) (n : ℕ) where
   pub step-nothing : leastStep p m rows n ≡ Nothing → (k : ℕ) → k ≤ fullCompression rows n → passesAt p m rows n k ≡ false
   unfolding leastStep
   step-nothing e = least-nothing (passesAt p m rows n) (fullCompression rows n) e
-
-  pub step-most : (k : ℕ) → leastStep p m rows n ≡ At k → ((i : ℕ) → i < n → Good (at rows i)) → k < scale
-  step-most k e g = omega (arith, step-at k e .within, full-most rows n g)
 
 -- demand 2 looks at the first n records only
 pub step-same : (p : Policy) (m : ℕ) (xs ys : List Task) (n : ℕ) → ((i : ℕ) → i < n → at xs i ≡ at ys i) → leastStep p m xs n ≡ leastStep p m ys n

@@ -6,7 +6,7 @@ use native.Mathlib.Nat.{mul-le-mul}
 use native.Mathlib.Omega.{arith}
 use Rattle.kinds.specs.declared.Policy.{Policy}
 use Rattle.kinds.specs.declared.Policy.the-variants.{Pooled, GlobalEdf, GlobalRm, FirstFit, Further}
-use Rattle.kinds.specs.Limits.{scale, mostProcessors}
+use Rattle.kinds.specs.Limits.{scale}
 use Rattle.policy.specs.declared.Weights.{Weights}
 use Rattle.policy.specs.Sides.{leftSide, rightSide, left, right, weightsOf, Light}
 
@@ -23,13 +23,6 @@ one-right GlobalEdf m max = omega arith
 one-right GlobalRm m max = refl
 one-right FirstFit m max = omega arith
 one-right (Further q) m max = omega arith
-
-pub light : (p : Policy) (m : ℕ) → m ≤ mostProcessors → Light (weightsOf p m)
-light Pooled m h = omega arith
-light GlobalEdf m h = omega arith
-light GlobalRm m h = omega arith
-light FirstFit m h = omega arith
-light (Further q) m h = omega arith
 
 -- the products that the code forms are small
 module _ (w : Weights) (l : Light w) where

@@ -81,6 +81,3 @@ module _ (w : Weights) (g : Fair w) (springs : ℕ → Spring) (n : ℕ) where
       -- each further look leaves fewer
       pub looks-left : looks ≤ n
       looks-left = omega (arith, k .count, below-next (saturations springs) n p q x, below-most (saturations springs) n (q + 1))
-
-    pub looks-most : looks ≤ n + 1
-    looks-most = omega (arith, k .count, below-most (saturations springs) n (p + 1))

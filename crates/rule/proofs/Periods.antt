@@ -26,7 +26,3 @@ period-shortest cost tmin tmax s ht hm p h =
       enough = le-trans v (mul-le-mul-left s (le-max-right tmin q));
       only = λ x l e. max-le l (ceil-least (cost * scale) s x p (omega (arith, mul-comm s x)));
     }
-
--- a share that allows Tmin has it for its period
-pub period-shortest-of-all : (cost tmin s : ℕ) → 1 ≤ s → cost * scale ≤ tmin * s → periodOf cost tmin s ≤ tmin
-period-shortest-of-all cost tmin s p h = omega (arith, ceil-least (cost * scale) s tmin p h)

@@ -5,7 +5,7 @@ use mathlib.Core.Bool.{true, false}
 use mathlib.Core.List.{List}
 use mathlib.Core.Path.{_≡_, sym}
 use native.Mathlib.Omega.{arith}
-use borrow.Author.Tests.{leb-true, leb-false, le-leb, lt-leb}
+use borrow.Author.Tests.{leb-true, le-leb, lt-leb}
 use Rattle.ground.specs.declared.Step.the-variants.{At, Nothing}
 use Rattle.ground.specs.Folds.{sumTo}
 use Rattle.ground.specs.Least.{LeastAt, Rising}
@@ -18,14 +18,10 @@ use Rattle.wide.specs.Cores.{coresAt}
 use Rattle.wide.specs.Table.{fullCompression, coresSum, passesAt, leastStep}
 use Rattle.wide.proofs.Tasks.{cores-two, cores-fall}
 
--- passing says that the cores fit, and failing that they do not
+-- passing says that the cores fit
 pub cores-fit : (m : ℕ) (rows : List WideTask) (n k : ℕ) → passesAt m rows n k ≡ true → coresSum rows n k ≤ m
 unfolding passesAt
 cores-fit m rows n k e = leb-true (coresSum rows n k) m e
-
-pub cores-exceed : (m : ℕ) (rows : List WideTask) (n k : ℕ) → passesAt m rows n k ≡ false → m < coresSum rows n k
-unfolding passesAt
-cores-exceed m rows n k e = leb-false (coresSum rows n k) m e
 
 -- no task alone needs more than all do
 pub cores-within : (rows : List WideTask) (n k i : ℕ) → i < n → coresAt (at rows i) k ≤ coresSum rows n k
