@@ -2,7 +2,6 @@
 use crate::Station;
 use crate::settings_of;
 use change_over::Which;
-use fill::LONGEST_SHEET;
 use kinds::Counted;
 use kinds::Results;
 use kinds::Sheet;
@@ -14,7 +13,7 @@ ghost use Rattle.kinds.specs.Answer.{handedCount, handedVerdict};
 ghost use Rattle.sheet.specs.Reading.{readSheet};
 ghost use Rattle.writer.specs.Writing.{writeSheet, afterWrite};
 ghost use Rattle.fill.specs.Fill.{planned, counted, afterFill};
-ghost use Rattle.checked.specs.Checked.{checked};
+ghost use Rattle.filled_sheet.specs.Checked.{checked};
 ghost use Rattle.change_over.specs.ChangeOver.{changeOver};
 ghost use Rattle.embed.specs.Sheets.{sheetOf, numbersOf, inNumbers, toldReading, toldCount, ToldCounts, toldVerdict, toldPart};
 
@@ -152,7 +151,7 @@ pub extern "C" fn eelbasket_write(sheet: StationSheet, out: &mut [u8]) -> ToldCo
 
 // Fills in the sheet that was read, or refuses it; a refusal writes nothing.
 #[no_mangle]
-pub extern "C" fn eelbasket_fill(bytes: &[u8], out: &mut [u8; LONGEST_SHEET]) -> ToldCount
+pub extern "C" fn eelbasket_fill(bytes: &[u8], out: &mut [u8; sheet::LONGEST]) -> ToldCount
     ensures { λ r. ⌜ ToldCounts (counted (planned (now (bytes .entry)))) (afterFill (planned (now (bytes .entry))) (now (out .entry))) r (now (out .exit)) ⌝ }
 {
     tell_written(fill::fill_in(bytes, out))
@@ -163,7 +162,7 @@ pub extern "C" fn eelbasket_fill(bytes: &[u8], out: &mut [u8; LONGEST_SHEET]) ->
 pub extern "C" fn eelbasket_check(bytes: &[u8]) -> ToldVerdict
     ensures { λ r. ⌜ toldVerdict r ≡ checked (now (bytes .entry)) ⌝ }
 {
-    tell_verdict(checked::check(bytes))
+    tell_verdict(filled_sheet::check(bytes))
 }
 
 // Which part of which sheet the change-over answers.
