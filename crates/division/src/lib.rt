@@ -37,8 +37,8 @@ pub fn total_at(
     let mut max: u64 = 0;
     for i in 0..n {
         let share = rule::share_at(
-            ground::wide(largest[i]),
-            ground::wide(least[i]),
+            ground::widened(largest[i]),
+            ground::widened(least[i]),
             elasticity[i],
             k,
         );
@@ -100,7 +100,7 @@ fn slope_sum(
 {
     let mut fall: u64 = 0;
     for i in 0..n {
-        fall += ground::wide(slope_of(elasticity[i], saturation[i], p));
+        fall += ground::widened(slope_of(elasticity[i], saturation[i], p));
     }
     fall
 }
@@ -131,8 +131,13 @@ fn line_of_task(
     requires { ⌜ Light w × Fair w × (largest ≤ scale) × (least ≤ scale) × (elasticity ≤ greatestElasticity) × (sum ≤ 32000000) × (1 ≤ fall) × (fall ≤ 32000000) × (slopeOf elasticity saturation p ≤ fall) ⌝ }
     ensures { λ r. ⌜ LineIs w sum fall (shareOf largest least elasticity p) (slopeOf elasticity saturation p) r ⌝ }
 {
-    let share = rule::share_at(ground::wide(largest), ground::wide(least), elasticity, p);
-    let slope = ground::wide(slope_of(elasticity, saturation, p));
+    let share = rule::share_at(
+        ground::widened(largest),
+        ground::widened(least),
+        elasticity,
+        p,
+    );
+    let slope = ground::widened(slope_of(elasticity, saturation, p));
     line_of(w, sum, fall, share, slope)
 }
 

@@ -1,5 +1,4 @@
 // Station sheets, exported. Contracts cite the definitions of `told`.
-use fill::LONGEST_SHEET;
 use told_sheets::StationSheet;
 use told_sheets::ToldCount;
 use told_sheets::ToldPart;
@@ -10,7 +9,7 @@ ghost use lib.ListN.{length};
 ghost use Rattle.sheet.specs.Reading.{readSheet};
 ghost use Rattle.writer.specs.Writing.{writeSheet, afterWrite};
 ghost use Rattle.fill.specs.Fill.{planned, counted, afterFill};
-ghost use Rattle.checked.specs.Checked.{checked};
+ghost use Rattle.filled_sheet.specs.Checked.{checked};
 ghost use Rattle.change_over.specs.ChangeOver.{changeOver};
 ghost use Rattle.told_sheets.specs.Sheets.{sheetOf, inNumbers, toldReading, ToldCounts, toldVerdict, toldPart};
 
@@ -32,7 +31,7 @@ pub extern "C" fn eelbasket_write(sheet: StationSheet, out: &mut [u8]) -> ToldCo
 
 // Fills in the sheet that was read, or refuses it; a refusal writes nothing.
 #[no_mangle]
-pub extern "C" fn eelbasket_fill(bytes: &[u8], out: &mut [u8; LONGEST_SHEET]) -> ToldCount
+pub extern "C" fn eelbasket_fill(bytes: &[u8], out: &mut [u8; sheet::LONGEST]) -> ToldCount
     ensures { λ r. ⌜ ToldCounts (counted (planned (now (bytes .entry)))) (afterFill (planned (now (bytes .entry))) (now (out .entry))) r (now (out .exit)) ⌝ }
 {
     told_sheets::fill_told(bytes, out)

@@ -18,8 +18,9 @@ use Rattle.writer.specs.Canonical.{canonical}
 use Rattle.writer.proofs.Forth.{forth}
 use Rattle.writer.proofs.RoundTrip.{canonical-same, same-canonical, read-canonical}
 use Rattle.fill.specs.Results.{resultsOf, withPlan}
-use Rattle.fill.specs.Fill.{refusalLine, filled}
-use Rattle.fill.proofs.Lines.{line-long}
+use Rattle.line.specs.Line.{refusalLine}
+use Rattle.line.proofs.Lines.{line-long}
+use Rattle.fill.specs.Fill.{filled}
 use Rattle.fill.proofs.Plans.{plan-fits}
 use Rattle.fill.proofs.Readings.{filled-unread, filled-planned}
 use Rattle.fill.proofs.Held.{plan-room, plan-unused, planned-held}

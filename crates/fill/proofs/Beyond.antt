@@ -1,32 +1,25 @@
 -- Document 01, "Program", on long inputs: "more than 714 bytes: refused as 11 at 714 if the first 714 read as a sheet of that length, else
--- as the reader says of the whole". 715 bytes tell all.
+-- as the reader says of the whole". The longest sheet's bytes and one more tell all.
 -- Assumes nothing.
 use Prim.Native.Nat.{ℕ, _+_, _<_}
 use mathlib.Core.List.{List, []}
 use mathlib.Core.Path.{_≡_, ap}
 use native.Mathlib.Omega.{arith}
 use lib.ListN.{length, take}
-use lib.Seq.{take-all}
 use borrow.Author.Tests.{ne-eqb}
-use Rattle.ground.proofs.Cases.{by-le}
 use Rattle.kinds.specs.declared.Sheet.{Sheet}
 use Rattle.kinds.specs.declared.Refusal.the-variants.{BytesAfterLast}
 use Rattle.kinds.specs.Answer.{Handed, accepted, unrefused}
+use Rattle.sheet.specs.Sections.{longestSheet}
 use Rattle.sheet.specs.Reading.{noSheet, readSheet}
 use Rattle.sheet.proofs.Lengths.{end-most}
 use Rattle.sheet.proofs.Whole.{whole, few-results}
 use Rattle.sheet.proofs.Numbered.{accepted-by-number}
-use Rattle.sheet.proofs.Beyond.{front-reading}
+use Rattle.sheet.proofs.Beyond.{front-reads}
 use Rattle.sheet.proofs.After.{front-refused}
-use Rattle.fill.specs.Fill.{longestSheet, refusalLine, orLine, plannedSheet, planned, filled}
+use Rattle.line.specs.Line.{refusalLine, orLine}
+use Rattle.fill.specs.Fill.{plannedSheet, planned, filled}
 use Rattle.fill.proofs.Readings.{filled-unread}
-
--- any input reads as its first 715 bytes do
-pub front-reads : (s : List ℕ) → readSheet (take (longestSheet + 1) s) ≡ readSheet s
-front-reads s =
-    by-le (length s) (longestSheet + 1)
-    (λ h. ap readSheet (take-all (longestSheet + 1) s h))
-    (λ h. front-reading s (longestSheet + 1) (omega arith) (omega arith))
 
 front-planned : (s : List ℕ) → planned (take (longestSheet + 1) s) ≡ planned s
 unfolding planned
@@ -38,7 +31,7 @@ front-fills s = ap (λ (h : Handed (List ℕ)). orLine h (λ b. b)) (front-plann
 
 module _ (s : List ℕ) (long : longestSheet < length s) where
   -- "refused as 11 at 714 if the first 714 read as a sheet of that length"
-  pub longest-then-more : (x : Sheet) → readSheet (take longestSheet s) ≡ accepted x → filled s ≡ refusalLine 11 714
+  pub longest-then-more : (x : Sheet) → readSheet (take longestSheet s) ≡ accepted x → filled s ≡ refusalLine 11 longestSheet
   longest-then-more x e = filled-unread s noSheet (BytesAfterLast longestSheet) (front-refused s longestSheet x long e)
 
   -- "else as the reader says of the whole": it always refuses

@@ -19,7 +19,8 @@ use Rattle.sheet.specs.Reading.{settingsIn, sheetIn, readRows, readSheet}
 use Rattle.writer.specs.Encode.{taskBytes, grantedBytes, rowsBytes, settingsBytes, encode}
 use Rattle.numeral.specs.Decimal.{digitsIn, decimal}
 use Rattle.fill.specs.Results.{resultsOf, withPlan}
-use Rattle.fill.specs.Fill.{refusalLine, plannedSheet, planned, filled}
+use Rattle.line.specs.Line.{refusalLine}
+use Rattle.fill.specs.Fill.{plannedSheet, planned, filled}
 
 -- "Output: the same without its last two bytes, then `01 00 0A 00 00 00 00 00`."
 whole-case : filled

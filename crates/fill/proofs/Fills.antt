@@ -13,16 +13,18 @@ use Rattle.kinds.specs.Answer.{Handed, refused}
 use Rattle.kinds.proofs.Refusals.{refusal-numbered}
 use Rattle.kinds.specs.declared.Counted.{Counted}
 use Rattle.kinds.specs.declared.Counted.the-variants.{Count, Refused}
-use Rattle.writer.proofs.Answers.{written-one}
-use Rattle.fill.specs.Fill.{refusalLine, planned, filled, Fills, Fronts}
-use Rattle.fill.proofs.Fronts.{fronts}
+use Rattle.kinds.proofs.Answers.{count-one}
+use Rattle.line.specs.Line.{refusalLine}
+use Rattle.line.specs.Fronts.{Fronts}
+use Rattle.line.proofs.Fronts.{fronts}
+use Rattle.fill.specs.Fill.{planned, filled, Fills}
 
 -- a refusal leaves the buffer as it was
 pub refuses : (h : Handed (List ℕ)) (q : Refusal) → h ≡ refused [] q → (old : List ℕ) → Fills h old (Refused q) old
 refuses h q e old = rw e (record { answer = refl; output = refl; fits = omega arith })
 
 pub fills-one : (h : Handed (List ℕ)) (old : List ℕ) (r q : Counted) (new other : List ℕ) → Fills h old r new → Fills h old q other → (r ≡ q) × (new ≡ other)
-fills-one h old r q new other a b = (written-one r q (a .answer ∙ sym (b .answer)), a .output ∙ sym (b .output))
+fills-one h old r q new other a b = (count-one r q (a .answer ∙ sym (b .answer)), a .output ∙ sym (b .output))
 
 none-long : (bytes old : List ℕ) → length bytes ≡ 0 → bytes ++ drop (length bytes) old ≡ old
 none-long [] old e = refl

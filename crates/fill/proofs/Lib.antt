@@ -1,6 +1,3 @@
-pub mod Copies
-pub mod Fronts
-pub mod Lines
 pub mod Fills
 pub mod Plans
 pub mod Readings

@@ -23,7 +23,7 @@ use Rattle.share.specs.Table.{periodsAt}
 use Rattle.plan.specs.Plan.{processorsAt, periodsAfter, processorsAfter, outcome, Meets}
 use Rattle.plain.specs.Asked.{asked}
 use Rattle.plain.proofs.Asked.{asked-roomy}
-use Rattle.sheet.specs.Sections.{resultsFit}
+use Rattle.sheet.specs.Sections.{longestSheet, resultsFit}
 use Rattle.sheet.specs.Rows.{granted, noGranted, padded}
 use Rattle.sheet.proofs.Padding.{padded-more, padded-cong}
 use Rattle.kinds.specs.declared.Counted.{Counted}
@@ -32,7 +32,7 @@ use Rattle.writer.specs.Writing.{writeSheet, Writes}
 use Rattle.writer.proofs.Rows.{encode-long}
 use Rattle.writer.proofs.Answers.{accepts, write-accepts, accepted-after}
 use Rattle.fill.specs.Results.{entryAt, resultsOf, planPeriods, planProcessors, withPlan}
-use Rattle.fill.specs.Fill.{longestSheet, plannedSheet, Fills}
+use Rattle.fill.specs.Fill.{plannedSheet, Fills}
 
 -- the rows of a results section, one by one
 module _ (periods processors : List ℕ) (rows : List Granted) (i : ℕ) (is : rows ≡ padded noGranted (entryAt periods processors) i) where

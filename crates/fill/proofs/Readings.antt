@@ -1,25 +1,23 @@
 -- What comes of a reading: its refusal, or the filled sheet; and the line that the program writes for a refusal.
 -- Assumes nothing.
-use Prim.Native.Nat.{ℕ, _≤_}
+use Prim.Native.Nat.{ℕ}
 use mathlib.Core.List.{List, []}
 use mathlib.Core.Path.{_≡_, sym, ap, _∙_}
-use native.Mathlib.Omega.{arith}
 use Rattle.kinds.specs.declared.Sheet.{Sheet}
 use Rattle.kinds.specs.declared.Refusal.{Refusal}
-use Rattle.kinds.specs.Limits.{mostTasks}
 use Rattle.kinds.specs.Refusal.{numberOf, placeOf}
-use Rattle.kinds.specs.Answer.{Handed, accepted, refused, handedWith}
+use Rattle.kinds.specs.Answer.{Handed, accepted, refused}
 use Rattle.kinds.proofs.Chain.{comes-first, goes-on}
 use Rattle.plain.specs.Asked.{asked}
-use Rattle.kinds.specs.declared.Verdict.{Verdict}
 use Rattle.kinds.specs.declared.Verdict.the-variants as verdict
 use Rattle.sheet.specs.declared.Reading.{Reading}
-use Rattle.sheet.specs.Reading.{sheetIn, readSheet, handedReading}
-use Rattle.sheet.proofs.Whole.{accepted-whole}
+use Rattle.sheet.specs.Reading.{readSheet, handedReading}
+use Rattle.sheet.proofs.Handed.{handed-as}
 use Rattle.writer.specs.Encode.{encode}
+use Rattle.line.specs.Line.{refusalLine, orLine}
+use Rattle.line.proofs.Lines.{line-of}
 use Rattle.fill.specs.Results.{withPlan}
-use Rattle.fill.specs.Fill.{refusalLine, orLine, plannedSheet, planned, filled}
-use Rattle.fill.proofs.Lines.{line-of}
+use Rattle.fill.specs.Fill.{plannedSheet, planned, filled}
 use Rattle.fill.proofs.Plans.{sheet-planned}
 
 -- as the definitions say it
@@ -44,16 +42,8 @@ filled-planned s x k read e = ap (λ (h : Handed (List ℕ)). orLine h (λ b. b)
 
 -- as the reader hands it back
 module _ (s : List ℕ) (r : Reading) (read : handedReading r ≡ readSheet s) where
-  pub handed-as : (v : Verdict) → r .verdict ≡ v → readSheet s ≡ handedWith v (r .sheet)
-  handed-as v e = sym read ∙ ap (λ (w : Verdict). handedWith w (r .sheet)) e
-
   pub reading-refused : (q : Refusal) → r .verdict ≡ verdict.Refused q → planned s ≡ refused [] q
-  reading-refused q v = planned-refused s (r .sheet) q (handed-as (verdict.Refused q) v)
+  reading-refused q v = planned-refused s (r .sheet) q (handed-as s r read (verdict.Refused q) v)
 
-  module _ (v : r .verdict ≡ verdict.Accepted) where
-    pub reading-accepted : planned s ≡ plannedSheet (r .sheet)
-    reading-accepted = planned-accepted s (r .sheet) (handed-as verdict.Accepted v)
-
-    pub reading-few : r .sheet .table .n ≤ mostTasks
-    unfolding sheetIn
-    reading-few = let w = accepted-whole s r read v in omega (arith, ap (λ (x : Sheet). x .table .n) (w .1), w .0 .few)
+  pub reading-accepted : r .verdict ≡ verdict.Accepted → planned s ≡ plannedSheet (r .sheet)
+  reading-accepted v = planned-accepted s (r .sheet) (handed-as s r read verdict.Accepted v)

@@ -1,41 +1,17 @@
 -- Document 01, "Program": the bytes that the program writes for the bytes that it reads.
 -- Assumes nothing.
 use Prim.Native.Nat.{ℕ, _≤_}
-use mathlib.Core.List.{List, [], _∷_, _++_}
+use mathlib.Core.List.{List, [], _++_}
 use mathlib.Core.Path.{_≡_}
-use lib.Dec.{eqb}
-use lib.ListN.{length, take, drop}
-use Rattle.ground.specs.Choice.{pick}
+use lib.ListN.{length, drop}
 use Rattle.kinds.specs.declared.Sheet.{Sheet}
 use Rattle.kinds.specs.Answer.{Handed, accepted, unrefused, handedCount}
 use Rattle.plain.specs.Asked.{asked}
 use Rattle.sheet.specs.Reading.{readSheet}
 use Rattle.kinds.specs.declared.Counted.{Counted}
 use Rattle.writer.specs.Encode.{encode}
-use Rattle.numeral.specs.Decimal.{decimal}
+use Rattle.line.specs.Line.{orLine}
 use Rattle.fill.specs.Results.{withPlan}
-
--- "at most 714" bytes
-abbrev pub longestSheet : ℕ
-longestSheet = 714
-
--- the words `refused ` and ` at `, and a newline
-abbrev pub refusedWord : List ℕ
-refusedWord = 114 ∷ 101 ∷ 102 ∷ 117 ∷ 115 ∷ 101 ∷ 100 ∷ 32 ∷ []
-
-abbrev pub atWord : List ℕ
-atWord = 32 ∷ 97 ∷ 116 ∷ 32 ∷ []
-
-abbrev pub newline : List ℕ
-newline = 10 ∷ []
-
--- "`refused N at P` and a newline"
-unfoldable pub refusalLine : ℕ → ℕ → List ℕ
-refusalLine number place = refusedWord ++ (decimal number ++ (atWord ++ (decimal place ++ newline)))
-
--- "On refusal it writes" the line, else what comes of the value
-abbrev pub orLine : {A : Type 0} → Handed A → (A → List ℕ) → List ℕ
-orLine h accepts = pick (eqb (h .number) 0) (accepts (h .value)) (refusalLine (h .number) (h .place))
 
 -- "writes the sheet with results filled in from the plain finder, replacing older ones": its bytes, none where it is refused
 unfoldable pub plannedSheet : Sheet → Handed (List ℕ)
@@ -60,10 +36,3 @@ pub record Fills (h : Handed (List ℕ)) (old : List ℕ) (r : Counted) (new : L
   pub answer : handedCount r ≡ counted h
   pub output : new ≡ afterFill h old
   pub fits : length (h .value) ≤ length old
-
--- some bytes stand at the front of a buffer, k of them, and nothing past them was written
-pub record Fronts (bytes old : List ℕ) (k : ℕ) (new : List ℕ) : Type 0 where
-  pub written : take k new ≡ bytes
-  pub kept : drop k new ≡ drop k old
-  pub fits : k ≤ length new
-  pub taken : k ≡ length (take k new)

@@ -38,7 +38,7 @@ pub fn later(a: u32, b: u32) -> u32
 }
 
 // A number as one of 64 bits.
-pub fn wide(x: u32) -> u64
+pub fn widened(x: u32) -> u64
     ensures { λ r. ⌜ r ≡ x ⌝ }
 {
     x as u64

@@ -1,10 +1,11 @@
--- The four policies, their numbers, and the further choice.
+-- The four policies, their numbers, the further choice, and the settings that name one.
 -- Assumes nothing.
 use Prim.Native.Nat.{ℕ}
 use mathlib.Core.Bool.{Bool, true, false}
 use lib.Dec.{eqb}
 use Rattle.ground.specs.Choice.{pick}
 use Rattle.kinds.specs.declared.Policy.{Policy}
+use Rattle.kinds.specs.declared.Settings.{Settings}
 use Rattle.kinds.specs.declared.Policy.the-variants.{Pooled, GlobalEdf, GlobalRm, FirstFit, Further}
 
 -- what a number stands for; one outside 1 to 4 is kept in the further choice
@@ -47,3 +48,6 @@ isFurther GlobalEdf = false
 isFurther GlobalRm = false
 isFurther FirstFit = false
 isFurther (Further q) = true
+
+abbrev pub settings : Policy → ℕ → Settings
+settings policy m = record { policy = policy; m = m }

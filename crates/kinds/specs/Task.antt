@@ -1,4 +1,4 @@
--- A task record and a list of them.
+-- A task record, a list of them, and a table.
 -- Assumes nothing.
 use Prim.Native.Nat.{ℕ, _≤_}
 use mathlib.Core.Bool.{Bool}
@@ -7,6 +7,7 @@ use lib.Dec.{leb}
 use lib.ListN.{getD}
 use Rattle.ground.specs.Choice.{both}
 use Rattle.kinds.specs.declared.Task.{Task}
+use Rattle.kinds.specs.declared.Table.{Table}
 use Rattle.kinds.specs.Limits.{longestPeriod, greatestElasticity}
 
 abbrev pub task : ℕ → ℕ → ℕ → ℕ → Task
@@ -19,6 +20,9 @@ noTask = task 0 0 0 0
 -- the record number i
 abbrev pub at : List Task → ℕ → Task
 at rows i = getD rows i noTask
+
+abbrev pub table : List Task → ℕ → Table
+table rows n = record { rows = rows; n = n }
 
 -- document 01: "1 ≤ C ≤ Tmin ≤ Tmax ≤ 1,000,000,000 and 0 ≤ E ≤ 1,000,000"
 pub record Good (t : Task) : Type 0 where

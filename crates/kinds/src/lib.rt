@@ -2,8 +2,8 @@
 // each kind.
 ghost use mathlib.Core.Path.{_≡_};
 ghost use Rattle.kinds.specs.Limits.{scale, longestPeriod, greatestElasticity, mostTasks, mostProcessors};
-ghost use Rattle.kinds.specs.Task.{isGood, task};
-ghost use Rattle.kinds.specs.Policy.{policyOf, policyNumber, meant, hasFormula, isFirstFit, isFurther};
+ghost use Rattle.kinds.specs.Task.{isGood, task, table};
+ghost use Rattle.kinds.specs.Policy.{policyOf, policyNumber, meant, hasFormula, isFirstFit, isFurther, settings};
 ghost use Rattle.kinds.specs.Refusal.{numberOf, placeOf};
 ghost use Rattle.kinds.specs.Answer.{isAccepted, stepOf};
 
@@ -37,6 +37,14 @@ impl Task {
 
     pub const GREATEST_ELASTICITY: u32 = 1_000_000;
 
+    // An unused place of a table.
+    pub const NONE: Task = Task {
+        c: 0,
+        tmin: 0,
+        tmax: 0,
+        e: 0,
+    };
+
     pub fn new(c: u32, tmin: u32, tmax: u32, e: u32) -> Task
         ensures { λ r. ⌜ r ≡ task c tmin tmax e ⌝ }
     {
@@ -64,6 +72,12 @@ pub struct Table {
 
 impl Table {
     pub const MOST_TASKS: usize = 32;
+
+    pub fn new(rows: [Task; Table::MOST_TASKS], n: usize) -> Table
+        ensures { λ r. ⌜ r ≡ table rows n ⌝ }
+    {
+        Table { rows, n }
+    }
 }
 
 // A policy is a choice of its own; a number outside 1 to 4 is kept in the further choice.
@@ -157,6 +171,12 @@ pub struct Settings {
 
 impl Settings {
     pub const MOST_PROCESSORS: u16 = 16;
+
+    pub fn new(policy: Policy, m: u16) -> Settings
+        ensures { λ r. ⌜ r ≡ settings policy m ⌝ }
+    {
+        Settings { policy, m }
+    }
 }
 
 // What an accepted plan grants a task: its period, and its processor, 0 for any.
@@ -164,6 +184,14 @@ impl Settings {
 pub struct Granted {
     pub period: u32,
     pub processor: u16,
+}
+
+impl Granted {
+    // An unused place of a results section.
+    pub const NONE: Granted = Granted {
+        period: 0,
+        processor: 0,
+    };
 }
 
 // The results section of a sheet: room for the most tasks, of which the first n count.

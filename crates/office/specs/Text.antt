@@ -1,9 +1,10 @@
 -- Document 02, Ask 11: the text of a table. "`6,10,20,1000` and the newline is the whole text for one such task."
 -- Assumes nothing.
-use Prim.Native.Nat.{ℕ, zero, suc, _≤_}
+use Prim.Native.Nat.{ℕ, zero, suc, _+_, _*_, _≤_}
 use mathlib.Core.List.{List, [], _∷_, _++_}
 use lib.ListN.{length}
 use Rattle.kinds.specs.declared.Task.{Task}
+use Rattle.kinds.specs.Limits.{mostTasks}
 use Rattle.kinds.specs.Task.{at}
 use Rattle.numeral.specs.Decimal.{decimal}
 use Rattle.numeral.specs.Scan.{mostNumber}
@@ -43,3 +44,14 @@ pub record Fits (t : Task) : Type 0 where
 abbrev pub AllFit : List Task → Type 0
 AllFit [] = Unit
 AllFit (t ∷ ts) = Fits t × AllFit ts
+
+-- the longest line: four numbers of ten digits, three commas and a newline
+abbrev pub mostDigits : ℕ
+mostDigits = 10
+
+abbrev pub longestLine : ℕ
+longestLine = 4 * mostDigits + 3 + 1
+
+-- the longest text: such a line for each of the most tasks; `office::limits` shows that the code has the same
+abbrev pub longestText : ℕ
+longestText = mostTasks * longestLine

@@ -12,13 +12,21 @@ ghost use lib.ListN.{length};
 ghost use Rattle.kinds.specs.Limits.{mostTasks};
 ghost use Rattle.field.specs.Stored.{Put};
 ghost use Rattle.numeral.specs.Decimal.{Sized};
-ghost use Rattle.office.specs.Text.{Fits, numberThen, lineOf, textTo};
+ghost use Rattle.office.specs.Text.{Fits, numberThen, lineOf, textTo, longestLine, longestText};
 ghost use Rattle.office.specs.Reading.{lineAt};
 ghost use Rattle.office.specs.Carrying.{importedNot, Reads, Exports};
 
 const COMMA: u8 = b',';
 
 const NEWLINE: u8 = b'\n';
+
+// How many digits a number of a task has at most, and how many bytes its line: four numbers, three commas and a newline.
+const DIGITS: usize = 10;
+
+const LINE: usize = 4 * DIGITS + 3 + 1;
+
+// How many bytes the longest text of a table has.
+pub const LONGEST: usize = Table::MOST_TASKS * LINE;
 
 // A line's task and the place after it, or none.
 pub enum Line {
@@ -53,24 +61,15 @@ pub fn line_at(s: &[u8], at: usize) -> Line
     let Numeral::Is(e, next) = numeral::numeral_at(s, at_e, NEWLINE) else {
         return Line::Bad;
     };
-    Line::Row(Task { c, tmin, tmax, e }, next)
+    Line::Row(Task::new(c, tmin, tmax, e), next)
 }
 
 // A refused import.
 fn refused(refusal: Refusal) -> Imported
     ensures { λ r. ⌜ r ≡ importedNot refusal ⌝ }
 {
-    let unused = Task {
-        c: 0,
-        tmin: 0,
-        tmax: 0,
-        e: 0,
-    };
     let answer = Counted::Refused(refusal);
-    let table = Table {
-        rows: [unused; Table::MOST_TASKS],
-        n: 0,
-    };
+    let table = Table::new([Task::NONE; Table::MOST_TASKS], 0);
     Imported { answer, table }
 }
 
@@ -78,13 +77,7 @@ fn refused(refusal: Refusal) -> Imported
 pub fn import(text: &[u8], room: usize) -> Imported
     ensures { λ r. ⌜ Reads (now (text .entry)) room r ⌝ }
 {
-    let unused = Task {
-        c: 0,
-        tmin: 0,
-        tmax: 0,
-        e: 0,
-    };
-    let mut rows = [unused; Table::MOST_TASKS];
+    let mut rows = [Task::NONE; Table::MOST_TASKS];
     let mut at: usize = 0;
     let mut n: usize = 0;
     while at < text.len() {
@@ -102,13 +95,13 @@ pub fn import(text: &[u8], room: usize) -> Imported
         return refused(Refusal::OutputTooShort(n));
     }
     let answer = Counted::Count(n);
-    let table = Table { rows, n };
+    let table = Table::new(rows, n);
     Imported { answer, table }
 }
 
 // How many bytes a task's line has.
 fn line_width(task: Task) -> usize
-    ensures { λ r. ⌜ Sized (lineOf task) 44 r ⌝ }
+    ensures { λ r. ⌜ Sized (lineOf task) longestLine r ⌝ }
 {
     numeral::width(task.c)
         + numeral::width(task.tmin)
@@ -120,7 +113,7 @@ fn line_width(task: Task) -> usize
 // How many bytes the lines of the first n rows have.
 fn text_width(rows: [Task; Table::MOST_TASKS], n: usize) -> usize
     requires { ⌜ n ≤ mostTasks ⌝ }
-    ensures { λ r. ⌜ Sized (textTo rows n) 1408 r ⌝ }
+    ensures { λ r. ⌜ Sized (textTo rows n) longestText r ⌝ }
 {
     let mut width: usize = 0;
     let mut i: usize = 0;
@@ -182,3 +175,8 @@ pub fn export(table: Table, out: &mut [u8]) -> Counted
     let written = put_text(out, rows, n);
     Counted::Count(written)
 }
+
+// The longest text that definitions name is the one that the code names.
+pub fn limits()
+    ensures { λ _. do ⌜ (← ⟦LONGEST⟧ .entry) ≡ longestText ⌝ }
+{}

@@ -95,8 +95,8 @@ pub fn total_of(loads: &[u32; Table::MOST_TASKS], n: usize) -> Total
         max = ground::later(max, load);
     }
     Total {
-        sum: ground::wide(sum),
-        max: ground::wide(max),
+        sum: ground::widened(sum),
+        max: ground::widened(max),
     }
 }
 

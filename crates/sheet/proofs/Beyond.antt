@@ -1,4 +1,4 @@
--- The first 715 bytes of an input settle its reading: beyond 714 bytes nothing changes the reader's answer.
+-- The longest sheet's bytes and one more settle the reading of an input: `front-reads`. Beyond them nothing changes the reader's answer.
 -- Assumes nothing.
 use Prim.Native.Nat.{ℕ, _+_, _≤_, _<_}
 use mathlib.Core.List.{List, _++_}
@@ -6,7 +6,7 @@ use mathlib.Core.Path.{_≡_, sym, ap, _∙_}
 use native.Mathlib.Omega.{arith}
 use lib.Dec.{eqb}
 use lib.ListN.{length, take, drop, length-append, take-append-drop}
-use lib.Seq.{length-take-le}
+use lib.Seq.{length-take-le, take-all}
 use borrow.Author.Tests.{eqb-true, eqb-false}
 use Rattle.ground.proofs.Cases.{by-bool, by-le}
 use Rattle.kinds.specs.declared.Refusal.the-variants.{WrongResultCount, BytesAfterLast}
@@ -14,11 +14,11 @@ use Rattle.kinds.specs.Limits.{mostTasks}
 use Rattle.kinds.specs.Answer.{refused}
 use Rattle.field.specs.Number.{u16At}
 use Rattle.field.proofs.Numbers.{number-front}
-use Rattle.sheet.specs.Sections.{settingsCount, settingsPlace, tasksPlace, resultsPlace, endPlace, resultsFit}
+use Rattle.sheet.specs.Sections.{settingsCount, settingsPlace, tasksPlace, resultsPlace, endPlace, longestSheet, resultsFit}
 use Rattle.sheet.specs.Reading.{noSheet, taskCount, resultCount, readRows, readSheet}
 use Rattle.sheet.proofs.Stages.{fits-few, settings-wrong, too-many, head-whole, count-wrong, bytes-after}
 
-module _ (s t : List ℕ) (long : 714 < length s) where
+module _ (s t : List ℕ) (long : longestSheet < length s) where
   more : length (s ++ t) ≡ length s + length t
   more = length-append s t
 
@@ -51,7 +51,7 @@ module _ (s t : List ℕ) (long : 714 < length s) where
         sym (count-wrong (s ++ t) (omega arith) (same-fit ∙ f))
         ∙ (ap (λ (k : ℕ). refused noSheet (WrongResultCount (resultsPlace k))) n ∙ count-wrong s (omega arith) f))
 
-  -- what stands after more than 714 bytes changes nothing
+  -- what stands after more bytes than the longest sheet has changes nothing
   pub same-reading : readSheet (s ++ t) ≡ readSheet s
   same-reading =
       let m = more in
@@ -71,7 +71,14 @@ module _ (s t : List ℕ) (long : 714 < length s) where
       let other = eqb-false (u16At s settingsPlace) settingsCount e in
       sym (settings-wrong (s ++ t) (omega arith) (λ k. other (sym settings ∙ k))) ∙ settings-wrong s (omega arith) other)
 
--- a front of more than 714 bytes reads as the whole does
-pub front-reading : (s : List ℕ) (k : ℕ) → 714 < k → k ≤ length s → readSheet (take k s) ≡ readSheet s
+-- a front of more bytes than the longest sheet has reads as the whole does
+pub front-reading : (s : List ℕ) (k : ℕ) → longestSheet < k → k ≤ length s → readSheet (take k s) ≡ readSheet s
 front-reading s k h l =
     sym (same-reading (take k s) (drop k s) (rw (length-take-le k s l) h)) ∙ ap readSheet (take-append-drop k s)
+
+-- any input reads as the longest sheet's bytes and one more of it do
+pub front-reads : (s : List ℕ) → readSheet (take (longestSheet + 1) s) ≡ readSheet s
+front-reads s =
+    by-le (length s) (longestSheet + 1)
+    (λ h. ap readSheet (take-all (longestSheet + 1) s h))
+    (λ h. front-reading s (longestSheet + 1) (omega arith) (omega arith))

@@ -5,6 +5,7 @@ pub mod HeadSteps
 pub mod RowSteps
 pub mod Lengths
 pub mod Whole
+pub mod Handed
 pub mod Numbered
 pub mod Beyond
 pub mod Truncated

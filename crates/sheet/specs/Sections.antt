@@ -4,6 +4,7 @@ use Prim.Native.Nat.{ℕ, _+_, _*_}
 use mathlib.Core.Bool.{Bool}
 use lib.Dec.{eqb}
 use Rattle.ground.specs.Choice.{either}
+use Rattle.kinds.specs.Limits.{mostTasks}
 
 -- the bytes of a count
 abbrev pub countSize : ℕ
@@ -51,6 +52,10 @@ grantedPlace n = resultsPlace n + countSize
 -- where a sheet with n tasks and r results ends
 abbrev pub endPlace : ℕ → ℕ → ℕ
 endPlace n r = grantedPlace n + grantedSize * r
+
+-- "at most 714": the most tasks, and a result for each; `sheet::limits` shows that the code has the same
+abbrev pub longestSheet : ℕ
+longestSheet = endPlace mostTasks mostTasks
 
 -- "results (count 0 or the task count ..)"
 unfoldable pub resultsFit : ℕ → ℕ → Bool

@@ -16,7 +16,7 @@ ghost use Prim.Native.Nat.{_≤_};
 ghost use lib.ListN.{length};
 ghost use Rattle.kinds.specs.Limits.{mostTasks};
 ghost use Rattle.kinds.specs.Answer.{refused};
-ghost use Rattle.sheet.specs.Sections.{recordsPlace, resultsPlace, endPlace, resultsFit};
+ghost use Rattle.sheet.specs.Sections.{recordsPlace, resultsPlace, endPlace, longestSheet, resultsFit};
 ghost use Rattle.sheet.specs.Rows.{taskField, grantedField, taskRows, grantedRows};
 ghost use Rattle.sheet.specs.Reading.{noSheet, readRows, readSheet, readFrom, Begins, HeadTells, handedReading};
 
@@ -25,19 +25,6 @@ pub struct Reading {
     pub verdict: Verdict,
     pub sheet: Sheet,
 }
-
-// An unused place of the task section, and of the results section.
-const NO_TASK: Task = Task {
-    c: 0,
-    tmin: 0,
-    tmax: 0,
-    e: 0,
-};
-
-const NO_RESULT: Granted = Granted {
-    period: 0,
-    processor: 0,
-};
 
 // How many bytes a count, a setting, a task record and a result take, and how many settings there are.
 const COUNT: usize = 2;
@@ -49,6 +36,14 @@ const TASK: usize = 16;
 const GRANTED: usize = 6;
 
 pub const SETTINGS: u16 = 2;
+
+// How many bytes the longest sheet has.
+pub const LONGEST: usize = COUNT
+    + SETTING * SETTINGS as usize
+    + COUNT
+    + TASK * Table::MOST_TASKS
+    + COUNT
+    + GRANTED * Table::MOST_TASKS;
 
 // Where the task records start.
 pub fn records_place() -> usize
@@ -111,7 +106,7 @@ fn read_task(s: &[u8], at: usize) -> TaskField
     let Field32::Value(e, next) = field::read_u32(s, at_e) else {
         return TaskField::Refused(Refusal::SheetEnds(s.len()));
     };
-    TaskField::Value(Task { c, tmin, tmax, e }, next)
+    TaskField::Value(Task::new(c, tmin, tmax, e), next)
 }
 
 // The result at a place.
@@ -146,14 +141,14 @@ fn read_tasks(s: &[u8], from: usize, n: usize) -> TaskRows
     requires { ⌜ (n ≤ mostTasks) × (from ≤ length (now s)) ⌝ }
     ensures { λ r. ⌜ r ≡ taskRows (now (s .entry)) from n ⌝ }
 {
-    let mut rows = [NO_TASK; Table::MOST_TASKS];
+    let mut rows = [Task::NONE; Table::MOST_TASKS];
     let mut at = from;
     let mut i: usize = 0;
     while i < n {
         let TaskField::Value(row, next) = read_task(s, at) else {
             return TaskRows {
                 whole: false,
-                rows: [NO_TASK; Table::MOST_TASKS],
+                rows: [Task::NONE; Table::MOST_TASKS],
                 next: from,
             };
         };
@@ -173,14 +168,14 @@ fn read_results(s: &[u8], from: usize, n: usize) -> GrantedRows
     requires { ⌜ (n ≤ mostTasks) × (from ≤ length (now s)) ⌝ }
     ensures { λ r. ⌜ r ≡ grantedRows (now (s .entry)) from n ⌝ }
 {
-    let mut rows = [NO_RESULT; Table::MOST_TASKS];
+    let mut rows = [Granted::NONE; Table::MOST_TASKS];
     let mut at = from;
     let mut i: usize = 0;
     while i < n {
         let GrantedField::Value(row, next) = read_granted(s, at) else {
             return GrantedRows {
                 whole: false,
-                rows: [NO_RESULT; Table::MOST_TASKS],
+                rows: [Granted::NONE; Table::MOST_TASKS],
                 next: from,
             };
         };
@@ -200,13 +195,10 @@ pub fn no_sheet() -> Sheet
     ensures { λ r. ⌜ r ≡ noSheet ⌝ }
 {
     let policy = Policy::Further(0);
-    let settings = Settings { policy, m: 0 };
-    let table = Table {
-        rows: [NO_TASK; Table::MOST_TASKS],
-        n: 0,
-    };
+    let settings = Settings::new(policy, 0);
+    let table = Table::new([Task::NONE; Table::MOST_TASKS], 0);
     let results = Results {
-        rows: [NO_RESULT; Table::MOST_TASKS],
+        rows: [Granted::NONE; Table::MOST_TASKS],
         n: 0,
     };
     Sheet {
@@ -255,7 +247,7 @@ fn read_head(s: &[u8]) -> Head
         return Head::Refused(Refusal::TooManyTasks(at_tasks));
     }
     let policy = Policy::of(number);
-    Head::Value(Settings { policy, m }, n, from)
+    Head::Value(Settings::new(policy, m), n, from)
 }
 
 // The rows of a sheet whose head was read: its tasks, its results, and nothing after them.
@@ -287,7 +279,7 @@ fn read_rows(s: &[u8], settings: Settings, n: usize, from: usize) -> Reading
         return refusing(Refusal::BytesAfterLast(end));
     }
     let rows = tasks.rows;
-    let table = Table { rows, n };
+    let table = Table::new(rows, n);
     let rows = granted.rows;
     let results = Results { rows, n: r };
     let sheet = Sheet {
@@ -345,3 +337,8 @@ pub fn read(bytes: &[u8]) -> Reading
 {
     rest(open(bytes))
 }
+
+// The longest sheet that definitions name is the one that the code names.
+pub fn limits()
+    ensures { λ _. do ⌜ (← ⟦LONGEST⟧ .entry) ≡ longestSheet ⌝ }
+{}

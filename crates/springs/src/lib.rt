@@ -39,8 +39,8 @@ pub fn saturation_on(spring: Spring) -> u32
     requires { ⌜ Within spring ⌝ }
     ensures { λ r. ⌜ r ≡ saturationOn spring ⌝ }
 {
-    let largest = ground::wide(spring.largest);
-    let least = ground::wide(spring.least);
+    let largest = ground::widened(spring.largest);
+    let least = ground::widened(spring.least);
     rule::saturation(largest, least, spring.elasticity) as u32
 }
 
@@ -99,7 +99,7 @@ pub fn next_shares(
         shares[i] = share;
         sum += share;
     }
-    ground::wide(sum)
+    ground::widened(sum)
 }
 
 // The share at step k of a spring.
@@ -107,7 +107,12 @@ pub fn share_on(largest: u32, least: u32, elasticity: u32, k: u32) -> u32
     requires { ⌜ (largest ≤ scale) × (least ≤ largest) ⌝ }
     ensures { λ r. ⌜ r ≡ shareOf largest least elasticity k ⌝ }
 {
-    rule::share_at(ground::wide(largest), ground::wide(least), elasticity, k) as u32
+    rule::share_at(
+        ground::widened(largest),
+        ground::widened(least),
+        elasticity,
+        k,
+    ) as u32
 }
 
 // Lets a column of largest shares down to those of step k.
@@ -131,7 +136,7 @@ pub fn period_on(task: Task, share: u32) -> u32
     requires { ⌜ Good task × (leastOf task ≤ share) ⌝ }
     ensures { λ r. ⌜ r ≡ periodOf (costOf task) (task .tmin) share ⌝ }
 {
-    rule::period(share::cost(task), task.tmin, ground::wide(share)) as u32
+    rule::period(share::cost(task), task.tmin, ground::widened(share)) as u32
 }
 
 // Document 01: "Full compression K: the greatest saturation step, 0 if there is none."

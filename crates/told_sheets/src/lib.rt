@@ -2,7 +2,6 @@
 pub mod texts;
 
 use change_over::Which;
-use fill::LONGEST_SHEET;
 use kinds::Counted;
 use kinds::Results;
 use kinds::Sheet;
@@ -15,7 +14,7 @@ ghost use Rattle.kinds.specs.Answer.{handedVerdict, handedCount};
 ghost use Rattle.sheet.specs.Reading.{readSheet};
 ghost use Rattle.writer.specs.Writing.{writeSheet, afterWrite};
 ghost use Rattle.fill.specs.Fill.{planned, counted, afterFill};
-ghost use Rattle.checked.specs.Checked.{checked};
+ghost use Rattle.filled_sheet.specs.Checked.{checked};
 ghost use Rattle.change_over.specs.ChangeOver.{changeOver};
 ghost use Rattle.told_sheets.specs.Sheets.{sheetOf, numbersOf, inNumbers, toldReading, toldCount, ToldCounts, toldVerdict, toldPart};
 
@@ -150,7 +149,7 @@ pub fn write_told(sheet: StationSheet, out: &mut [u8]) -> ToldCount
 }
 
 // Fills in the sheet that was read, or refuses it; a refusal writes nothing.
-pub fn fill_told(bytes: &[u8], out: &mut [u8; LONGEST_SHEET]) -> ToldCount
+pub fn fill_told(bytes: &[u8], out: &mut [u8; sheet::LONGEST]) -> ToldCount
     ensures { λ r. ⌜ ToldCounts (counted (planned (now (bytes .entry)))) (afterFill (planned (now (bytes .entry))) (now (out .entry))) r (now (out .exit)) ⌝ }
 {
     tell_count(fill::fill_in(bytes, out))
@@ -160,7 +159,7 @@ pub fn fill_told(bytes: &[u8], out: &mut [u8; LONGEST_SHEET]) -> ToldCount
 pub fn check_told(bytes: &[u8]) -> ToldVerdict
     ensures { λ r. ⌜ toldVerdict r ≡ checked (now (bytes .entry)) ⌝ }
 {
-    tell_verdict(checked::check(bytes))
+    tell_verdict(filled_sheet::check(bytes))
 }
 
 // Which part of which sheet the change-over answers.

@@ -55,7 +55,7 @@ impl WideTask {
     pub fn good(self) -> bool
         ensures { λ r. ⌜ r ≡ isGood self ⌝ }
     {
-        let costliest = WideTask::MOST_TMINS * ground::wide(self.tmin);
+        let costliest = WideTask::MOST_TMINS * ground::widened(self.tmin);
         1 <= self.l
             && self.l < self.tmin
             && (self.l as u64) < self.c
@@ -130,8 +130,8 @@ fn cores_at(task: WideTask, k: u32) -> u64
     requires { ⌜ Good task ⌝ }
     ensures { λ r. ⌜ CoresIs task k r ⌝ }
 {
-    let l = ground::wide(task.l);
-    let t = ground::wide(period_at(task, k));
+    let l = ground::widened(task.l);
+    let t = ground::widened(period_at(task, k));
     ground::ceil_div(task.c - l, t - l)
 }
 

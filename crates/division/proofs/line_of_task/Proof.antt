@@ -9,13 +9,13 @@ use Rattle.division.proofs.line_of_task.Tie as tie
 
 -- the share at p
 shared : (c : tie.After-share-at) → let a = c .before .before .before .args in c .share-at .result ≡ shareOf (a .largest) (a .least) (a .elasticity) (a .p)
-shared c = rw (c .before .before .wide .ensures, c .before .wide2 .ensures) at (c .share-at .ensures)
+shared c = rw (c .before .before .widened .ensures, c .before .widened2 .ensures) at (c .share-at .ensures)
 
-wide-requires : tie.Need-wide-requires
-wide-requires c κs = search needs
+widened-requires : tie.Need-widened-requires
+widened-requires c κs = search needs
 
-wide-requires-2 : tie.Need-wide-requires-2
-wide-requires-2 c κs = search needs
+widened-requires-2 : tie.Need-widened-requires-2
+widened-requires-2 c κs = search needs
 
 share-at-requires : tie.Need-share-at-requires
 share-at-requires c κs = search needs
@@ -23,29 +23,29 @@ share-at-requires c κs = search needs
 slope-of-requires : tie.Need-slope-of-requires
 slope-of-requires c κs = search needs
 
-wide-requires-3 : tie.Need-wide-requires-3
-wide-requires-3 c κs = search needs
+widened-requires-3 : tie.Need-widened-requires-3
+widened-requires-3 c κs = search needs
 
 line-of-requires : tie.Need-line-of-requires
 line-of-requires c κs =
     let s = c .before .before .before .before .before in
     let p = s .pre in
-    let e = c .wide3 .ensures ∙ c .before .slope-of .ensures in
+    let e = c .widened3 .ensures ∙ c .before .slope-of .ensures in
     (p .0, p .1, p .5, omega (arith, shared (c .before .before), p .2, p .3), p .6, p .7, omega (arith, e, p .8), omega (arith, e, slope-most (s .args .elasticity) (s .args .saturation) (s .args .p), p .4))
 
 returns : tie.Need-returns
 returns c =
     let d = c .before in
-    rw (← shared (d .before .before), ← d .before .slope-of .ensures, ← d .wide3 .ensures) (c .line-of .ensures)
+    rw (← shared (d .before .before), ← d .before .slope-of .ensures, ← d .widened3 .ensures) (c .line-of .ensures)
 
 pub line-of-task-spec : {M : Type 1} → statement M
 line-of-task-spec =
     tie.close
     (tie.spec
-    wide-requires
-    wide-requires-2
+    widened-requires
+    widened-requires-2
     share-at-requires
     slope-of-requires
-    wide-requires-3
+    widened-requires-3
     line-of-requires
     returns)

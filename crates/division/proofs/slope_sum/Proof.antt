@@ -17,14 +17,14 @@ abbrev μ-loop : tie.MeasureT-loop
 μ-loop elasticity saturation n p fall₀ i₀ fall i = n - i
 
 -- the slope of task i, no greater than its elasticity
-sloped : (c : tie.After-wide Inv-loop μ-loop)
+sloped : (c : tie.After-widened Inv-loop μ-loop)
     → let l = c .before .before .before .before .before in
     let a = l .before .args in
-    (c .wide .result ≡ slopesIn (a .elasticity .now) (a .saturation .now) (a .p) (l .loop .i)) × (c .wide .result ≤ greatestElasticity)
+    (c .widened .result ≡ slopesIn (a .elasticity .now) (a .saturation .now) (a .p) (l .loop .i)) × (c .widened .result ≤ greatestElasticity)
 sloped c =
     let l = c .before .before .before .before .before in
     let a = l .before .args in
-    let e = c .wide .ensures ∙ c .before .slope-of .ensures in
+    let e = c .widened .ensures ∙ c .before .slope-of .ensures in
     (e, omega (arith, e, slope-most (getD (a .elasticity .now) (l .loop .i) 0) (getD (a .saturation .now) (l .loop .i) 0) (a .p), l .before .pre .1 (l .loop .i) (c .before .before .before .before .loop-test .taken)))
 
 loop-holds : tie.Need-loop-holds Inv-loop μ-loop
@@ -45,8 +45,8 @@ element-copy-out-slope-of-2 c = omega arith
 slope-of-requires : tie.Need-slope-of-requires Inv-loop μ-loop
 slope-of-requires c κs = tt
 
-wide-requires : tie.Need-wide-requires Inv-loop μ-loop
-wide-requires c κs = tt
+widened-requires : tie.Need-widened-requires Inv-loop μ-loop
+widened-requires c κs = tt
 
 add-fall : tie.Need-add-fall Inv-loop μ-loop
 add-fall c = omega (arith, sloped c .1)
@@ -78,7 +78,7 @@ slope-sum-spec =
     mul-slope-of-2
     element-copy-out-slope-of-2
     slope-of-requires
-    wide-requires
+    widened-requires
     add-fall
     add-i
     loop-less

@@ -27,29 +27,29 @@ shared c =
     let l = c .before .before .before .before .before .before .before in
     let a = l .before .args in
     let e : c .share-at .result ≡ shareOn (springIn (a .largest .now) (a .least .now) (a .elasticity .now) (l .loop .i)) (a .k) =
-    rw (c .before .before .before .before .wide .ensures, c .before .before .wide2 .ensures) at (c .share-at .ensures) in
+    rw (c .before .before .before .before .widened .ensures, c .before .before .widened2 .ensures) at (c .share-at .ensures) in
     (e, omega (arith, share-most (springIn (a .largest .now) (a .least .now) (a .elasticity .now) (l .loop .i)) (a .k) (l .before .pre .1 (l .loop .i) (c .before .before .before .before .before .before .loop-test .taken))))
 
 loop-holds : tie.Need-loop-holds Inv-loop μ-loop
 loop-holds c = (omega arith, total-none _)
 
-mul-wide : tie.Need-mul-wide Inv-loop μ-loop
-mul-wide c = omega arith
+mul-widened : tie.Need-mul-widened Inv-loop μ-loop
+mul-widened c = omega arith
 
-element-copy-out-wide : tie.Need-element-copy-out-wide Inv-loop μ-loop
-element-copy-out-wide c = omega arith
+element-copy-out-widened : tie.Need-element-copy-out-widened Inv-loop μ-loop
+element-copy-out-widened c = omega arith
 
-wide-requires : tie.Need-wide-requires Inv-loop μ-loop
-wide-requires c κs = tt
+widened-requires : tie.Need-widened-requires Inv-loop μ-loop
+widened-requires c κs = tt
 
-mul-wide-2 : tie.Need-mul-wide-2 Inv-loop μ-loop
-mul-wide-2 c = omega arith
+mul-widened-2 : tie.Need-mul-widened-2 Inv-loop μ-loop
+mul-widened-2 c = omega arith
 
-element-copy-out-wide-2 : tie.Need-element-copy-out-wide-2 Inv-loop μ-loop
-element-copy-out-wide-2 c = omega arith
+element-copy-out-widened-2 : tie.Need-element-copy-out-widened-2 Inv-loop μ-loop
+element-copy-out-widened-2 c = omega arith
 
-wide-requires-2 : tie.Need-wide-requires-2 Inv-loop μ-loop
-wide-requires-2 c κs = tt
+widened-requires-2 : tie.Need-widened-requires-2 Inv-loop μ-loop
+widened-requires-2 c κs = tt
 
 mul-share-at : tie.Need-mul-share-at Inv-loop μ-loop
 mul-share-at c = omega arith
@@ -89,12 +89,12 @@ total-at-spec =
     Inv-loop
     μ-loop
     loop-holds
-    mul-wide
-    element-copy-out-wide
-    wide-requires
-    mul-wide-2
-    element-copy-out-wide-2
-    wide-requires-2
+    mul-widened
+    element-copy-out-widened
+    widened-requires
+    mul-widened-2
+    element-copy-out-widened-2
+    widened-requires-2
     mul-share-at
     element-copy-out-share-at
     share-at-requires

@@ -1,7 +1,8 @@
 -- `fill::fill_in` meets its contract. Assumes nothing.
 use Rattle.fill.proofs.Fills.{refuses}
-use Rattle.fill.proofs.Readings.{reading-refused, reading-accepted, reading-few}
+use Rattle.fill.proofs.Readings.{reading-refused, reading-accepted}
 use borrow.Author.Needs.{needs}
+use Rattle.sheet.proofs.Handed.{reading-few}
 use Rattle.fill.proofs.fill_in.Statement.{statement}
 use Rattle.fill.proofs.fill_in.Tie as tie
 

@@ -2,6 +2,7 @@
 use borrow.Author.Needs.{needs}
 use Prim.Native.Nat.{_-_}
 use mathlib.Core.Path.{sym, _∙_}
+use Rattle.kinds.specs.Limits.{mostTasks}
 use Rattle.office.proofs.Lines.{Going, going-none, going-many, going-bad, going-more}
 use Rattle.office.proofs.Answers.{reads-not, reads-short, reads-done}
 use Rattle.office.proofs.import.Statement.{statement}
@@ -11,7 +12,7 @@ abbrev Inv-loop : tie.InvT-loop
 Inv-loop text room rows₀ at₀ n₀ rows at n = Going text rows at n
 
 abbrev μ-loop : tie.MeasureT-loop
-μ-loop text room rows₀ at₀ n₀ rows at n = 32 - n
+μ-loop text room rows₀ at₀ n₀ rows at n = mostTasks - n
 
 loop-holds : tie.Need-loop-holds Inv-loop μ-loop
 loop-holds c = going-none _
@@ -62,8 +63,13 @@ returns-3 : tie.Need-returns-3 Inv-loop μ-loop
 returns-3 c =
     reads-short _ _ _ _ _ (c .before .before .before .loop .inv) (c .before .before .loop-test .left) (c .before .if2 .taken) _ (c .refused3 .ensures)
 
+new-requires : tie.Need-new-requires Inv-loop μ-loop
+new-requires c κs = search needs
+
 returns-4 : tie.Need-returns-4 Inv-loop μ-loop
-returns-4 c = reads-done _ _ _ _ _ (c .before .before .loop .inv) (c .before .loop-test .left) (c .if2 .left)
+returns-4 c =
+    let all = c .before in
+    rw (c .new .ensures) (reads-done _ _ _ _ _ (all .before .before .loop .inv) (all .before .loop-test .left) (all .if2 .left))
 
 pub import-spec : {M : Type 1} → statement M
 import-spec =
@@ -86,4 +92,5 @@ import-spec =
     loop-again
     refused-requires-3
     returns-3
+    new-requires
     returns-4)

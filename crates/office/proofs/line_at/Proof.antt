@@ -56,9 +56,13 @@ returns-4 : tie.Need-returns-4
 returns-4 c =
     sym (bad-e _ _ _ _ (sym (c .before .before .before .before .before .before .before .before .before .before .before .before .before .before .numeral-at .ensures) ∙ c .before .before .before .before .before .before .before .before .before .before .before .before .c .given .1) _ _ (sym (c .before .before .before .before .before .before .before .before .before .before .numeral-at2 .ensures) ∙ c .before .before .before .before .before .before .before .before .tmin .given .1) _ _ (sym (c .before .before .before .before .before .before .numeral-at3 .ensures) ∙ c .before .before .before .before .tmax .given .1) (sym (c .before .before .numeral-at4 .ensures) ∙ c .enum-told4 .given .1))
 
+new-requires : tie.Need-new-requires
+new-requires c κs = search needs
+
 returns-5 : tie.Need-returns-5
 returns-5 c =
-    sym (good-line _ _ _ _ (sym (c .before .before .before .before .before .before .before .before .before .before .before .before .before .before .before .numeral-at .ensures) ∙ c .before .before .before .before .before .before .before .before .before .before .before .before .before .c .given .1) _ _ (sym (c .before .before .before .before .before .before .before .before .before .before .before .numeral-at2 .ensures) ∙ c .before .before .before .before .before .before .before .before .before .tmin .given .1) _ _ (sym (c .before .before .before .before .before .before .before .numeral-at3 .ensures) ∙ c .before .before .before .before .before .tmax .given .1) _ _ (sym (c .before .before .before .numeral-at4 .ensures) ∙ c .before .e .given .1))
+    let got = c .before in
+    rw (c .new .ensures) (sym (good-line _ _ _ _ (sym (got .before .before .before .before .before .before .before .before .before .before .before .before .before .before .before .numeral-at .ensures) ∙ got .before .before .before .before .before .before .before .before .before .before .before .before .before .c .given .1) _ _ (sym (got .before .before .before .before .before .before .before .before .before .before .before .numeral-at2 .ensures) ∙ got .before .before .before .before .before .before .before .before .before .tmin .given .1) _ _ (sym (got .before .before .before .before .before .before .before .numeral-at3 .ensures) ∙ got .before .before .before .before .before .tmax .given .1) _ _ (sym (got .before .before .before .numeral-at4 .ensures) ∙ got .before .e .given .1)))
 
 pub line-at-spec : {M : Type 1} → statement M
 line-at-spec =
@@ -80,4 +84,5 @@ line-at-spec =
     enum-known-e
     enum-told-4
     returns-4
+    new-requires
     returns-5)

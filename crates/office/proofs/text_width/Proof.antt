@@ -4,13 +4,13 @@ use native.Mathlib.Omega.{arith}
 use Prim.Native.Nat.{ℕ, _*_, _-_, _≤_}
 use mathlib.Core.Path.{_≡_, sym, ap, _∙_}
 use lib.ListN.{length}
-use Rattle.office.specs.Text.{textTo}
+use Rattle.office.specs.Text.{textTo, longestLine}
 use Rattle.office.proofs.Widths.{text-none, text-long}
 use Rattle.office.proofs.text_width.Statement.{statement}
 use Rattle.office.proofs.text_width.Tie as tie
 
 abbrev Inv-loop : tie.InvT-loop
-Inv-loop n rows width₀ i₀ width i = (i ≤ n) × ((width ≡ length (textTo rows i)) × (width ≤ 44 * i))
+Inv-loop n rows width₀ i₀ width i = (i ≤ n) × ((width ≡ length (textTo rows i)) × (width ≤ longestLine * i))
 
 abbrev μ-loop : tie.MeasureT-loop
 μ-loop n rows width₀ i₀ width i = n - i

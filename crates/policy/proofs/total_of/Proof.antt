@@ -43,17 +43,17 @@ loop-again c =
     let s = t .before .before in
     (omega arith, total-more (loadIn (s .args .loads .now)) _ _ _ _ _ (t .before .loop .inv .1) refl (s .pre .most _ (t .loop-test .taken)) (c .later .ensures))
 
-wide-requires : tie.Need-wide-requires Inv-loop μ-loop
-wide-requires c κs = tt
+widened-requires : tie.Need-widened-requires Inv-loop μ-loop
+widened-requires c κs = tt
 
-wide-requires-2 : tie.Need-wide-requires-2 Inv-loop μ-loop
-wide-requires-2 c κs = tt
+widened-requires-2 : tie.Need-widened-requires-2 Inv-loop μ-loop
+widened-requires-2 c κs = tt
 
 returns : tie.Need-returns Inv-loop μ-loop
 returns c =
     let l = c .before .before .before in
     let e : l .loop .i ≡ l .before .args .n = omega arith in
-    rw (c .before .wide .ensures, c .wide2 .ensures) (rw e at (l .loop .inv .1))
+    rw (c .before .widened .ensures, c .widened2 .ensures) (rw e at (l .loop .inv .1))
 
 pub total-of-spec : {M : Type 1} → statement M
 total-of-spec =
@@ -69,6 +69,6 @@ total-of-spec =
     add-i
     loop-less
     loop-again
-    wide-requires
-    wide-requires-2
+    widened-requires
+    widened-requires-2
     returns)

@@ -88,13 +88,17 @@ returns-6 c =
 of-requires : tie.Need-of-requires
 of-requires c κs = search needs
 
+new-requires : tie.Need-new-requires
+new-requires c κs = search needs
+
 returns-7 : tie.Need-returns-7
 returns-7 c =
-    let g1 = got16 _ _ _ _ _ (c .before .before .before .before .before .before .before .before .before .before .before .before .before .before .before .before .before .before .read-u16 .ensures) (c .before .before .before .before .before .before .before .before .before .before .before .before .before .before .before .before .settings .given .1) in
-    let g2 = got16 _ _ _ _ _ (c .before .before .before .before .before .before .before .before .before .before .before .before .before .read-u162 .ensures) (c .before .before .before .before .before .before .before .before .before .before .before .number .given .1) in
-    let g3 = got16 _ _ _ _ _ (c .before .before .before .before .before .before .before .before .before .read-u163 .ensures) (c .before .before .before .before .before .before .before .m .given .1) in
-    let g4 = got16 _ _ _ _ _ (c .before .before .before .before .before .read-u164 .ensures) (c .before .before .before .count .given .1) in
-    begun _ _ _ g1 (c .before .before .before .before .before .before .before .before .before .before .before .before .before .before .if1 .left) _ _ _ _ _ _ g2 g3 g4 _ (c .of .ensures) (c .before .if2 .left)
+    let made = c .before in
+    let g1 = got16 _ _ _ _ _ (made .before .before .before .before .before .before .before .before .before .before .before .before .before .before .before .before .before .before .read-u16 .ensures) (made .before .before .before .before .before .before .before .before .before .before .before .before .before .before .before .before .settings .given .1) in
+    let g2 = got16 _ _ _ _ _ (made .before .before .before .before .before .before .before .before .before .before .before .before .before .read-u162 .ensures) (made .before .before .before .before .before .before .before .before .before .before .before .number .given .1) in
+    let g3 = got16 _ _ _ _ _ (made .before .before .before .before .before .before .before .before .before .read-u163 .ensures) (made .before .before .before .before .before .before .before .m .given .1) in
+    let g4 = got16 _ _ _ _ _ (made .before .before .before .before .before .read-u164 .ensures) (made .before .before .before .count .given .1) in
+    rw (c .new .ensures) (begun _ _ _ g1 (made .before .before .before .before .before .before .before .before .before .before .before .before .before .before .if1 .left) _ _ _ _ _ _ g2 g3 g4 _ (made .of .ensures) (made .before .if2 .left))
 
 pub read-head-spec : {M : Type 1} → statement M
 read-head-spec =
@@ -120,4 +124,5 @@ read-head-spec =
     cast-n
     returns-6
     of-requires
+    new-requires
     returns-7)

@@ -75,13 +75,17 @@ returns-5 c =
     let results = results-read count fit (c .before .before .before .read-results .ensures) (not-false _ (c .before .before .if3 .left)) in
     c .refusing5 .ensures ∙ bytes-after results (c .before .if4 .taken)
 
+new-requires : tie.Need-new-requires
+new-requires c κs = search needs
+
 returns-6 : tie.Need-returns-6
 returns-6 c =
-    let tasks = tasks-read (c .before .before .before .before .before .before .before .before .before .before .before .before .before .before .pre) (c .before .before .before .before .before .before .before .before .before .before .before .before .read-tasks .ensures) (not-false _ (c .before .before .before .before .before .before .before .before .before .before .before .if1 .left)) in
-    let count = count-read tasks (c .before .before .before .before .before .before .before .before .before .before .read-u16 .ensures) (c .before .before .before .before .before .before .before .before .count .given .1) in
-    let fit = sym (c .before .before .before .before .before .before .results-fit .ensures) ∙ not-false _ (c .before .before .before .before .before .if2 .left) in
-    let results = results-read count fit (c .before .before .before .before .read-results .ensures) (not-false _ (c .before .before .before .if3 .left)) in
-    all-read results (c .before .before .if4 .left)
+    let made = c .before in
+    let tasks = tasks-read (made .before .before .before .before .before .before .before .before .before .before .before .before .before .before .pre) (made .before .before .before .before .before .before .before .before .before .before .before .before .read-tasks .ensures) (not-false _ (made .before .before .before .before .before .before .before .before .before .before .before .if1 .left)) in
+    let count = count-read tasks (made .before .before .before .before .before .before .before .before .before .before .read-u16 .ensures) (made .before .before .before .before .before .before .before .before .count .given .1) in
+    let fit = sym (made .before .before .before .before .before .before .results-fit .ensures) ∙ not-false _ (made .before .before .before .before .before .if2 .left) in
+    let results = results-read count fit (made .before .before .before .before .read-results .ensures) (not-false _ (made .before .before .before .if3 .left)) in
+    rw (c .before .new .ensures) (all-read results (made .before .before .if4 .left))
 
 pub read-rows-spec : {M : Type 1} → statement M
 read-rows-spec =
@@ -104,4 +108,5 @@ read-rows-spec =
     returns-4
     refusing-requires-5
     returns-5
+    new-requires
     returns-6)

@@ -69,13 +69,17 @@ returns-4 c =
     let m = missed32 _ _ _ _ (c .before .before .read-u324 .ensures) (c .enum-told4 .given .1) in
     sym (task-missing _ _ (omega arith))
 
+new-requires : tie.Need-new-requires
+new-requires c κs = search needs
+
 returns-5 : tie.Need-returns-5
 returns-5 c =
-    let g1 = got32 _ _ _ _ _ (c .before .before .before .before .before .before .before .before .before .before .before .before .before .before .before .read-u32 .ensures) (c .before .before .before .before .before .before .before .before .before .before .before .before .before .c .given .1) in
-    let g2 = got32 _ _ _ _ _ (c .before .before .before .before .before .before .before .before .before .before .before .read-u322 .ensures) (c .before .before .before .before .before .before .before .before .before .tmin .given .1) in
-    let g3 = got32 _ _ _ _ _ (c .before .before .before .before .before .before .before .read-u323 .ensures) (c .before .before .before .before .before .tmax .given .1) in
-    let g4 = got32 _ _ _ _ _ (c .before .before .before .read-u324 .ensures) (c .before .e .given .1) in
-    task-read _ _ _ _ _ _ _ _ _ _ g1 g2 g3 g4
+    let made = c .before in
+    let g1 = got32 _ _ _ _ _ (made .before .before .before .before .before .before .before .before .before .before .before .before .before .before .before .read-u32 .ensures) (made .before .before .before .before .before .before .before .before .before .before .before .before .before .c .given .1) in
+    let g2 = got32 _ _ _ _ _ (made .before .before .before .before .before .before .before .before .before .before .before .read-u322 .ensures) (made .before .before .before .before .before .before .before .before .before .tmin .given .1) in
+    let g3 = got32 _ _ _ _ _ (made .before .before .before .before .before .before .before .read-u323 .ensures) (made .before .before .before .before .before .tmax .given .1) in
+    let g4 = got32 _ _ _ _ _ (made .before .before .before .read-u324 .ensures) (made .before .e .given .1) in
+    rw (c .new .ensures) (task-read _ _ _ _ _ _ _ _ _ _ g1 g2 g3 g4)
 
 pub read-task-spec : {M : Type 1} → statement M
 read-task-spec =
@@ -97,4 +101,5 @@ read-task-spec =
     enum-known-e
     enum-told-4
     returns-4
+    new-requires
     returns-5)

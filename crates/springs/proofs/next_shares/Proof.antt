@@ -88,8 +88,8 @@ loop-again c =
       sum-on _ 1 _ _ _ (l .loop .inv .2) (sprung c) (s .pre .2 _ (t .loop-test .taken)),
     )
 
-wide-requires : tie.Need-wide-requires Inv-loop μ-loop
-wide-requires c κs = tt
+widened-requires : tie.Need-widened-requires Inv-loop μ-loop
+widened-requires c κs = tt
 
 returns : tie.Need-returns Inv-loop μ-loop
 returns c =
@@ -97,7 +97,7 @@ returns c =
     let a = l .before .args in
     let e : l .loop .i ≡ a .n = omega arith in (
       shares-written (a .shares .now) (a .least .now) (a .elasticity .now) _ 1 _ (l .loop .inv .1) _ e (l .before .pre .1),
-      rw (c .wide .ensures) (rw e at (l .loop .inv .2)),
+      rw (c .widened .ensures) (rw e at (l .loop .inv .2)),
     )
 
 pub next-shares-spec : {M : Type 1} → statement M
@@ -120,5 +120,5 @@ next-shares-spec =
     add-i
     loop-less
     loop-again
-    wide-requires
+    widened-requires
     returns)

@@ -10,18 +10,18 @@ use Rattle.springs.proofs.period_on.Statement.{statement}
 use Rattle.springs.proofs.period_on.Tie as tie
 
 given : (c : tie.After-period) → let a = c .before .before .before .args in c .period .result ≡ periodOf (costOf (a .task)) (a .task .tmin) (a .share)
-given c = rw (← c .before .before .cost .ensures, ← c .before .wide .ensures) (c .period .ensures)
+given c = rw (← c .before .before .cost .ensures, ← c .before .widened .ensures) (c .period .ensures)
 
 cost-requires : tie.Need-cost-requires
 cost-requires c κs = search needs
 
-wide-requires : tie.Need-wide-requires
-wide-requires c κs = search needs
+widened-requires : tie.Need-widened-requires
+widened-requires c κs = search needs
 
 period-requires : tie.Need-period-requires
 period-requires c κs =
     let s = c .before .before in
-    (omega (arith, c .before .cost .ensures), omega (arith, c .wide .ensures, least-some (s .args .task) (s .pre .0)), omega (arith, c .wide .ensures))
+    (omega (arith, c .before .cost .ensures), omega (arith, c .widened .ensures, least-some (s .args .task) (s .pre .0)), omega (arith, c .widened .ensures))
 
 cast-result : tie.Need-cast-result
 cast-result c =
@@ -35,4 +35,4 @@ returns c = given c
 
 pub period-on-spec : {M : Type 1} → statement M
 period-on-spec =
-    tie.close (tie.spec cost-requires wide-requires period-requires cast-result returns)
+    tie.close (tie.spec cost-requires widened-requires period-requires cast-result returns)

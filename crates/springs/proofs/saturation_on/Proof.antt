@@ -9,13 +9,13 @@ use Rattle.springs.proofs.saturation_on.Tie as tie
 
 saturated : (c : tie.After-saturation) → c .saturation .result ≡ saturationOn (c .before .before .before .args .spring)
 unfolding saturationOn
-saturated c = rw (← c .before .before .wide .ensures, ← c .before .wide2 .ensures) (c .saturation .ensures)
+saturated c = rw (← c .before .before .widened .ensures, ← c .before .widened2 .ensures) (c .saturation .ensures)
 
-wide-requires : tie.Need-wide-requires
-wide-requires c κs = search needs
+widened-requires : tie.Need-widened-requires
+widened-requires c κs = search needs
 
-wide-requires-2 : tie.Need-wide-requires-2
-wide-requires-2 c κs = search needs
+widened-requires-2 : tie.Need-widened-requires-2
+widened-requires-2 c κs = search needs
 
 saturation-requires : tie.Need-saturation-requires
 saturation-requires c κs = search needs
@@ -32,4 +32,4 @@ returns c = saturated c
 
 pub saturation-on-spec : {M : Type 1} → statement M
 saturation-on-spec =
-    tie.close (tie.spec wide-requires wide-requires-2 saturation-requires cast-result returns)
+    tie.close (tie.spec widened-requires widened-requires-2 saturation-requires cast-result returns)

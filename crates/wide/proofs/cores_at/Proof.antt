@@ -5,14 +5,14 @@ use borrow.Author.Needs.{needs}
 use Rattle.wide.proofs.cores_at.Statement.{statement}
 use Rattle.wide.proofs.cores_at.Tie as tie
 
-wide-requires : tie.Need-wide-requires
-wide-requires c κs = search needs
+widened-requires : tie.Need-widened-requires
+widened-requires c κs = search needs
 
 period-at-requires : tie.Need-period-at-requires
 period-at-requires c κs = search needs
 
-wide-requires-2 : tie.Need-wide-requires-2
-wide-requires-2 c κs = search needs
+widened-requires-2 : tie.Need-widened-requires-2
+widened-requires-2 c κs = search needs
 
 sub-ceil-div : tie.Need-sub-ceil-div
 sub-ceil-div c = search needs
@@ -31,9 +31,9 @@ pub cores-at-spec : {M : Type 1} → statement M
 cores-at-spec =
     tie.close
     (tie.spec
-    wide-requires
+    widened-requires
     period-at-requires
-    wide-requires-2
+    widened-requires-2
     sub-ceil-div
     sub-ceil-div-2
     ceil-div-requires

@@ -34,8 +34,8 @@ first-six t = both (first-five t) (leb (t .tmin) (t .tmax))
 abbrev first-seven : WideTask → Bool
 first-seven t = both (first-six t) (leb (t .tmax) longestPeriod)
 
-wide-requires : tie.Need-wide-requires
-wide-requires c κs = search needs
+widened-requires : tie.Need-widened-requires
+widened-requires c κs = search needs
 
 mul-costliest : tie.Need-mul-costliest
 mul-costliest c = search needs
@@ -65,7 +65,7 @@ four c =
 
 five : (c : tie.Joined4) → c .if4 .if5 ≡ first-five (c .before .before .before .before .before .before .args .self)
 five c =
-    rw (← four (c .before), ← c .before .before .before .before .before .wide .ensures)
+    rw (← four (c .before), ← c .before .before .before .before .before .widened .ensures)
     (⊎-elim (λ w. both-taken _ _ _ (w .0 .taken) (w .2)) (λ w. both-left _ _ _ (w .0 .left) (w .1)) (c .if4 .came))
 
 six : (c : tie.Joined5) → c .if5 .if6 ≡ first-six (c .before .before .before .before .before .before .before .args .self)
@@ -87,4 +87,4 @@ unfolding isGood
 returns-2 c = both-left _ _ _ (sym (seven (c .before)) ∙ c .if7 .left) (seven (c .before))
 
 pub good-spec : {M : Type 1} → statement M
-good-spec = tie.close (tie.spec wide-requires mul-costliest cast-if3 cast-if4 returns returns-2)
+good-spec = tie.close (tie.spec widened-requires mul-costliest cast-if3 cast-if4 returns returns-2)

@@ -1,0 +1,22 @@
+-- A reading as the reader hands it back: by its verdict, and with no more tasks than there may be.
+-- Assumes nothing.
+use Prim.Native.Nat.{ℕ, _≤_}
+use mathlib.Core.List.{List}
+use mathlib.Core.Path.{_≡_, sym, ap, _∙_}
+use native.Mathlib.Omega.{arith}
+use Rattle.kinds.specs.declared.Sheet.{Sheet}
+use Rattle.kinds.specs.declared.Verdict.{Verdict}
+use Rattle.kinds.specs.declared.Verdict.the-variants as verdict
+use Rattle.kinds.specs.Limits.{mostTasks}
+use Rattle.kinds.specs.Answer.{handedWith}
+use Rattle.sheet.specs.declared.Reading.{Reading}
+use Rattle.sheet.specs.Reading.{sheetIn, readSheet, handedReading}
+use Rattle.sheet.proofs.Whole.{accepted-whole}
+
+module _ (s : List ℕ) (r : Reading) (read : handedReading r ≡ readSheet s) where
+  pub handed-as : (v : Verdict) → r .verdict ≡ v → readSheet s ≡ handedWith v (r .sheet)
+  handed-as v e = sym read ∙ ap (λ (w : Verdict). handedWith w (r .sheet)) e
+
+  pub reading-few : r .verdict ≡ verdict.Accepted → r .sheet .table .n ≤ mostTasks
+  unfolding sheetIn
+  reading-few v = let w = accepted-whole s r read v in omega (arith, ap (λ (x : Sheet). x .table .n) (w .1), w .0 .few)
