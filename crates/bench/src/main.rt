@@ -32,7 +32,7 @@ fn run_quick(table: Table, settings: Settings) {
 
 fn run(name: &[u8], policy: Policy, m: u16, table: Table) {
     show::words(name);
-    let settings = Settings { policy, m };
+    let settings = Settings::new(policy, m);
     run_plain(table, settings);
     run_quick(table, settings);
 }
@@ -40,7 +40,7 @@ fn run(name: &[u8], policy: Policy, m: u16, table: Table) {
 // Whether the margin at a step is negative, zero or positive.
 fn run_margin(policy: Policy, m: u16, table: Table, step: u32) {
     show::words(b"margin");
-    let settings = Settings { policy, m };
+    let settings = Settings::new(policy, m);
     match margin::margin_at(table, settings, step) {
         Margin::Is(x) => {
             if x < 0 {
@@ -60,17 +60,14 @@ fn run_margin(policy: Policy, m: u16, table: Table, step: u32) {
 
 // A table of n times the same task.
 fn same(task: Task, n: usize) -> Table {
-    Table {
-        rows: [task; Table::MOST_TASKS],
-        n,
-    }
+    Table::new([task; Table::MOST_TASKS], n)
 }
 
 // A table of two tasks.
 fn two(first: Task, second: Task) -> Table {
     let mut rows = [second; Table::MOST_TASKS];
     rows[0] = first;
-    Table { rows, n: 2 }
+    Table::new(rows, 2)
 }
 
 fn rigid(c: u32) -> Task {
@@ -85,7 +82,7 @@ fn case_k() -> Table {
     rows[3] = rigid(350);
     rows[4] = rigid(300);
     rows[5] = rigid(230);
-    Table { rows, n: 7 }
+    Table::new(rows, 7)
 }
 
 // The cases with a star that are not about no tasks.

@@ -34,16 +34,7 @@ fn capped(n: usize) -> usize
 fn empty(n: usize) -> Table
     ensures { λ r. ⌜ r ≡ tableWith [] n ⌝ }
 {
-    let unused = Task {
-        c: 0,
-        tmin: 0,
-        tmax: 0,
-        e: 0,
-    };
-    Table {
-        rows: [unused; Table::MOST_TASKS],
-        n,
-    }
+    Table::new([Task::NONE; Table::MOST_TASKS], n)
 }
 
 // The table of the lent rows. Its count is theirs, also where there are more than it takes, so that the core can refuse them.
