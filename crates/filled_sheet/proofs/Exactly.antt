@@ -17,6 +17,8 @@ use Rattle.ground.proofs.Cases.{by-bool, true-false}
 use Rattle.kinds.specs.declared.Granted.{Granted}
 use Rattle.kinds.specs.declared.Sheet.{Sheet}
 use Rattle.kinds.specs.declared.Refusal.the-variants.{NoResults, WrongResult}
+use Rattle.kinds.specs.declared.Verdict.{Verdict}
+use Rattle.kinds.specs.declared.Verdict.the-variants as verdict
 use Rattle.kinds.specs.Limits.{mostTasks}
 use Rattle.kinds.specs.Task.{at}
 use Rattle.kinds.specs.Policy.{meant}
@@ -25,9 +27,7 @@ use Rattle.kinds.proofs.Refusals.{refusal-numbered}
 use Rattle.kinds.proofs.Chain.{goes-on, both-accept, judged-passed}
 use Rattle.share.specs.Share.{periodAt}
 use Rattle.share.specs.Table.{periodsAt}
-use Rattle.admission.specs.declared.Admission.{Admission}
-use Rattle.admission.specs.declared.Admission.the-variants as admission
-use Rattle.admission.specs.Admission as admit
+use Rattle.admission.specs.Admission.{admission}
 use Rattle.policy.specs.Passing.{leastStep}
 use Rattle.plan.specs.Plan.{processorAt, processorsAt, decided, found}
 use Rattle.plain.specs.Asked.{asked}
@@ -44,16 +44,16 @@ use Rattle.filled_sheet.specs.Agrees.{grantedAt, Agrees}
 use Rattle.filled_sheet.proofs.Compared.{planned-at}
 
 -- number 0 from the plain finder is an acceptance
-decided-numbered : (a : Admission) (step : Step) → decided a step .number ≡ 0 → decided a step ≡ accepted (decided a step .value)
-decided-numbered (admission.Refused r) step z = absurd (omega (arith, refusal-numbered r))
-decided-numbered admission.Admitted (At k) z = refl
-decided-numbered admission.Admitted Nothing z = absurd (omega arith)
+decided-numbered : (a : Verdict) (step : Step) → decided a step .number ≡ 0 → decided a step ≡ accepted (decided a step .value)
+decided-numbered (verdict.Refused r) step z = absurd (omega (arith, refusal-numbered r))
+decided-numbered verdict.Accepted (At k) z = refl
+decided-numbered verdict.Accepted Nothing z = absurd (omega arith)
 
 asked-by-number : (x : Sheet) → asked x .number ≡ 0 → asked x ≡ accepted (asked x .value)
 unfolding asked found
 asked-by-number x z =
     let n = x .table .n in
-    decided-numbered (admit.admission true (x .settings) (x .table .rows) n n) (leastStep (meant (x .settings .policy)) (x .settings .m) (x .table .rows) n) z
+    decided-numbered (admission true (x .settings) (x .table .rows) n n) (leastStep (meant (x .settings .policy)) (x .settings .m) (x .table .rows) n) z
 
 -- results that do not differ are the same
 agree : (a b : Granted) → differ a b ≡ false → a ≡ b
