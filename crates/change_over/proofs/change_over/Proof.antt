@@ -23,7 +23,10 @@ part-result-start : tie.Need-part-result-start
 part-result-start c = search needs
 
 part-result-end : tie.Need-part-result-end
-part-result-end c = lent-fits _ _ (c .before .before .before .before .before .before .args .standing .ptr) (c .before .before .before .before .before .before .args .proposed .ptr) _ (c .before .before .before .part-of .ensures) Standing (c .enum-told .given .1)
+part-result-end c =
+    let named = c .before .before .before in
+    let entry = named .before .before .before in
+    lent-fits _ _ (entry .args .standing .ptr) (entry .args .proposed .ptr) _ (named .part-of .ensures) Standing (c .enum-told .given .1)
 
 enum-told-2 : tie.Need-enum-told-2
 enum-told-2 c = search needs
@@ -35,7 +38,10 @@ part-result-start-2 : tie.Need-part-result-start-2
 part-result-start-2 c = search needs
 
 part-result-end-2 : tie.Need-part-result-end-2
-part-result-end-2 c = lent-fits _ _ (c .before .before .before .before .before .before .args .standing .ptr) (c .before .before .before .before .before .before .args .proposed .ptr) _ (c .before .before .before .part-of .ensures) Proposed (c .enum-told2 .given .1)
+part-result-end-2 c =
+    let named = c .before .before .before in
+    let entry = named .before .before .before in
+    lent-fits _ _ (entry .args .standing .ptr) (entry .args .proposed .ptr) _ (named .part-of .ensures) Proposed (c .enum-told2 .given .1)
 
 returns : tie.Need-returns
 returns c =
