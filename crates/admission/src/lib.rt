@@ -93,8 +93,8 @@ pub fn gate_of(settings: Settings, serves: bool, n: usize, room: usize) -> Verdi
     and_then(knows(policy), from_two)
 }
 
-// Refusals 1 to 6 of a call that serves policy 4, or does not. The walk that judges the records works their springs out into four lent
-// columns.
+// Refusals 1 to 6 of a call that serves policy 4, or does not. The walk that judges the records works their springs, costs and shortest
+// periods out into six lent columns.
 pub fn admit(
     table: Table,
     settings: Settings,
@@ -104,16 +104,20 @@ pub fn admit(
     least: &mut [u32; Table::MOST_TASKS],
     elasticity: &mut [u32; Table::MOST_TASKS],
     saturation: &mut [u32; Table::MOST_TASKS],
+    cost: &mut [u32; Table::MOST_TASKS],
+    tmin: &mut [u32; Table::MOST_TASKS],
 ) -> Verdict
-    requires { ⌜ Roomy (columns (now largest) (now least) (now elasticity) (now saturation)) ⌝ }
-    ensures { λ r. ⌜ AdmittedSprung serves settings (table .rows) (table .n) room r (columns (now (largest .exit)) (now (least .exit)) (now (elasticity .exit)) (now (saturation .exit))) ⌝ }
+    requires { ⌜ Roomy (columns (now largest) (now least) (now elasticity) (now saturation) (now cost) (now tmin)) ⌝ }
+    ensures { λ r. ⌜ AdmittedSprung serves settings (table .rows) (table .n) room r
+        (columns (now (largest .exit)) (now (least .exit)) (now (elasticity .exit)) (now (saturation .exit))
+        (now (cost .exit)) (now (tmin .exit))) ⌝ }
 {
     let n = table.n;
     let gate = gate_of(settings, serves, n, room);
     let Verdict::Accepted = gate else {
         return gate;
     };
-    let bad = springs::springs_of(table, largest, least, elasticity, saturation);
+    let bad = springs::springs_of(table, largest, least, elasticity, saturation, cost, tmin);
     if bad < n {
         return Verdict::Refused(Refusal::BadRecord(bad));
     }

@@ -24,6 +24,9 @@ pub fn find(table: Table, settings: Settings, periods: &mut [u32], processors: &
     let mut least = [0u32; Table::MOST_TASKS];
     let mut elasticity = [0u32; Table::MOST_TASKS];
     let mut saturation = [0u32; Table::MOST_TASKS];
+    let mut cost = [0u32; Table::MOST_TASKS];
+    let mut tmin = [0u32; Table::MOST_TASKS];
+    let n = table.n;
     let answer = decide_in(
         table,
         settings,
@@ -32,8 +35,19 @@ pub fn find(table: Table, settings: Settings, periods: &mut [u32], processors: &
         &mut least,
         &mut elasticity,
         &mut saturation,
+        &mut cost,
+        &mut tmin,
     );
-    plan::grant(answer, table, settings, &shares, periods, processors);
+    plan::grant(
+        answer,
+        settings,
+        &cost,
+        &tmin,
+        &shares,
+        n,
+        periods,
+        processors,
+    );
     answer
 }
 
@@ -45,6 +59,8 @@ pub fn decide(table: Table, settings: Settings, room: usize) -> Answer
     let mut least = [0u32; Table::MOST_TASKS];
     let mut elasticity = [0u32; Table::MOST_TASKS];
     let mut saturation = [0u32; Table::MOST_TASKS];
+    let mut cost = [0u32; Table::MOST_TASKS];
+    let mut tmin = [0u32; Table::MOST_TASKS];
     decide_in(
         table,
         settings,
@@ -53,10 +69,12 @@ pub fn decide(table: Table, settings: Settings, room: usize) -> Answer
         &mut least,
         &mut elasticity,
         &mut saturation,
+        &mut cost,
+        &mut tmin,
     )
 }
 
-// The same in lent columns: of an acceptance the first holds the shares of its step.
+// The same in lent columns: of an acceptance the first holds the shares of its step, the last two the costs and the shortest periods.
 fn decide_in(
     table: Table,
     settings: Settings,
@@ -65,9 +83,11 @@ fn decide_in(
     least: &mut [u32; Table::MOST_TASKS],
     elasticity: &mut [u32; Table::MOST_TASKS],
     saturation: &mut [u32; Table::MOST_TASKS],
+    cost: &mut [u32; Table::MOST_TASKS],
+    tmin: &mut [u32; Table::MOST_TASKS],
 ) -> Answer
-    requires { ⌜ Roomy (columns (now shares) (now least) (now elasticity) (now saturation)) ⌝ }
-    ensures { λ r. ⌜ FoundHeld true settings (table .rows) (table .n) room r (now (shares .exit)) ⌝ }
+    requires { ⌜ Roomy (columns (now shares) (now least) (now elasticity) (now saturation) (now cost) (now tmin)) ⌝ }
+    ensures { λ r. ⌜ FoundHeld true settings (table .rows) (table .n) room r (now (cost .exit)) (now (tmin .exit)) (now (shares .exit)) ⌝ }
 {
     let admission = admission::admit(
         table,
@@ -78,6 +98,8 @@ fn decide_in(
         least,
         elasticity,
         saturation,
+        cost,
+        tmin,
     );
     let Verdict::Accepted = admission else {
         return plan::decide(admission, Step::Nothing);

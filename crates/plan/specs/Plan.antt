@@ -10,7 +10,6 @@ use Rattle.ground.specs.declared.Step.the-variants.{At, Nothing}
 use Rattle.ground.specs.Choice.{pick}
 use Rattle.ground.specs.Folds.{listTo}
 use Rattle.kinds.specs.declared.Task.{Task}
-use Rattle.kinds.specs.declared.Table.{Table}
 use Rattle.kinds.specs.declared.Policy.{Policy}
 use Rattle.kinds.specs.declared.Settings.{Settings}
 use Rattle.kinds.specs.declared.Refusal.the-variants.{NoStepPasses}
@@ -18,10 +17,10 @@ use Rattle.kinds.specs.declared.Answer.{Answer}
 use Rattle.kinds.specs.Answer.{Handed, accepted, refused, after, handed, isAccepted, stepOf}
 use Rattle.kinds.specs.Limits.{mostProcessors}
 use Rattle.kinds.specs.Policy.{meant, isFirstFit}
-use Rattle.share.specs.Table.{GoodTable, shares, periodsAt}
-use Rattle.springs.specs.Columns.{SharesOf}
+use Rattle.share.specs.Table.{shares, periodsAt}
+use Rattle.springs.specs.Columns.{periodIn, Held, Allowed}
 use Rattle.fit.specs.Fit.{loadIn, Loads, placeAt}
-use Rattle.policy.specs.Passing.{passes, passesAt, leastStep}
+use Rattle.policy.specs.Passing.{passes, leastStep}
 use Rattle.kinds.specs.declared.Verdict.{Verdict}
 use Rattle.kinds.specs.declared.Verdict.the-variants.{Accepted, Refused}
 use Rattle.admission.specs.Admission.{admission}
@@ -72,17 +71,10 @@ pub record Meets (o : Outcome) (answer : Answer) (periods processors : List ℕ)
   pub grants : periods ≡ o .periods
   pub places : processors ≡ o .processors
 
--- an answer, and of an acceptance a column of the shares of its step
-pub record FoundHeld (serves : Bool) (s : Settings) (rows : List Task) (n room : ℕ) (answer : Answer) (shares : List ℕ) : Type 0 where
+-- an answer, and of an acceptance the columns that its periods come from
+pub record FoundHeld (serves : Bool) (s : Settings) (rows : List Task) (n room : ℕ) (answer : Answer) (cost tmin shares : List ℕ) : Type 0 where
   pub answers : handed answer ≡ found serves s rows n room
-  pub held : isAccepted answer ≡ true → SharesOf rows n (stepOf answer) shares
-
--- what the writing of a plan at step k relies on
-pub record Grantable (p : Policy) (m : ℕ) (t : Table) (k room : ℕ) : Type 0 where
-  pub table : GoodTable t
-  pub m-most : m ≤ mostProcessors
-  pub roomy : t .n ≤ room
-  pub passing : passesAt p m (t .rows) (t .n) k ≡ true
+  pub held : isAccepted answer ≡ true → Held rows n (stepOf answer) cost tmin shares
 
 -- what the writing of processors relies on
 pub record Placeable (p : Policy) (m : ℕ) (loads : List ℕ) (n room : ℕ) : Type 0 where
@@ -91,12 +83,17 @@ pub record Placeable (p : Policy) (m : ℕ) (loads : List ℕ) (n room : ℕ) : 
   pub roomy : n ≤ room
   pub passing : passes p m (loadIn loads) n ≡ true
 
-pub record MayGrant (answer : Answer) (s : Settings) (t : Table) (shares : List ℕ) (periods processors : ℕ) : Type 0 where
-  pub to-periods : isAccepted answer ≡ true → Grantable (meant (s .policy)) (s .m) t (stepOf answer) periods
-  pub to-processors : isAccepted answer ≡ true → Grantable (meant (s .policy)) (s .m) t (stepOf answer) processors
-  pub held : isAccepted answer ≡ true → SharesOf (t .rows) (t .n) (stepOf answer) shares
+-- what the writing of a plan relies on
+pub record Grantable (p : Policy) (m : ℕ) (cost tmin shares : List ℕ) (n periods processors : ℕ) : Type 0 where
+  pub allowed : Allowed cost tmin shares n
+  pub roomy : n ≤ periods
+  pub placeable : Placeable p m shares n processors
+
+abbrev pub MayGrant : Answer → Settings → List ℕ → List ℕ → List ℕ → ℕ → ℕ → ℕ → Type 0
+MayGrant answer s cost tmin shares n periods processors =
+    isAccepted answer ≡ true → Grantable (meant (s .policy)) (s .m) cost tmin shares n periods processors
 
 -- what the writing of a plan leaves in the two outputs
-pub record Leaves (h : Handed ℕ) (s : Settings) (rows : List Task) (n : ℕ) (oldPeriods oldProcessors periods processors : List ℕ) : Type 0 where
-  pub periods-are : periods ≡ periodsAfter h rows n oldPeriods
-  pub processors-are : processors ≡ processorsAfter h s rows n oldProcessors
+pub record Leaves (h : Handed ℕ) (s : Settings) (cost tmin shares : List ℕ) (n : ℕ) (oldPeriods oldProcessors periods processors : List ℕ) : Type 0 where
+  pub periods-are : periods ≡ after h (listTo (periodIn cost tmin shares) n) n oldPeriods
+  pub processors-are : processors ≡ after h (listTo (processorOn (meant (s .policy)) (s .m) (loadIn shares)) n) n oldProcessors

@@ -50,6 +50,9 @@ pub fn find(table: Table, settings: Settings, periods: &mut [u32], processors: &
     let mut least = [0u32; Table::MOST_TASKS];
     let mut elasticity = [0u32; Table::MOST_TASKS];
     let mut saturation = [0u32; Table::MOST_TASKS];
+    let mut cost = [0u32; Table::MOST_TASKS];
+    let mut tmin = [0u32; Table::MOST_TASKS];
+    let n = table.n;
     let found = decide_in(
         table,
         settings,
@@ -58,9 +61,20 @@ pub fn find(table: Table, settings: Settings, periods: &mut [u32], processors: &
         &mut least,
         &mut elasticity,
         &mut saturation,
+        &mut cost,
+        &mut tmin,
     );
     let answer = found.answer;
-    plan::grant(answer, table, settings, &largest, periods, processors);
+    plan::grant(
+        answer,
+        settings,
+        &cost,
+        &tmin,
+        &largest,
+        n,
+        periods,
+        processors,
+    );
     found
 }
 
@@ -72,6 +86,8 @@ pub fn decide(table: Table, settings: Settings, room: usize) -> Looked
     let mut least = [0u32; Table::MOST_TASKS];
     let mut elasticity = [0u32; Table::MOST_TASKS];
     let mut saturation = [0u32; Table::MOST_TASKS];
+    let mut cost = [0u32; Table::MOST_TASKS];
+    let mut tmin = [0u32; Table::MOST_TASKS];
     decide_in(
         table,
         settings,
@@ -80,10 +96,12 @@ pub fn decide(table: Table, settings: Settings, room: usize) -> Looked
         &mut least,
         &mut elasticity,
         &mut saturation,
+        &mut cost,
+        &mut tmin,
     )
 }
 
-// The same in lent columns: of an acceptance the first holds the shares of its step.
+// The same in lent columns: of an acceptance the first holds the shares of its step, the last two the costs and the shortest periods.
 fn decide_in(
     table: Table,
     settings: Settings,
@@ -92,9 +110,11 @@ fn decide_in(
     least: &mut [u32; Table::MOST_TASKS],
     elasticity: &mut [u32; Table::MOST_TASKS],
     saturation: &mut [u32; Table::MOST_TASKS],
+    cost: &mut [u32; Table::MOST_TASKS],
+    tmin: &mut [u32; Table::MOST_TASKS],
 ) -> Looked
-    requires { ⌜ Roomy (columns (now largest) (now least) (now elasticity) (now saturation)) ⌝ }
-    ensures { λ r. ⌜ FoundLookedHeld settings (table .rows) (table .n) room r (now (largest .exit)) ⌝ }
+    requires { ⌜ Roomy (columns (now largest) (now least) (now elasticity) (now saturation) (now cost) (now tmin)) ⌝ }
+    ensures { λ r. ⌜ FoundLookedHeld settings (table .rows) (table .n) room r (now (cost .exit)) (now (tmin .exit)) (now (largest .exit)) ⌝ }
 {
     let admission = admission::admit(
         table,
@@ -105,6 +125,8 @@ fn decide_in(
         least,
         elasticity,
         saturation,
+        cost,
+        tmin,
     );
     let Verdict::Accepted = admission else {
         let looks = 0;
