@@ -10,10 +10,10 @@ use Rattle.kinds.specs.declared.Verdict.{Verdict}
 use Rattle.kinds.specs.declared.Verdict.the-variants.{Accepted}
 use Rattle.kinds.specs.Task.{at, Good}
 use Rattle.share.proofs.Tables.{all-good}
-use Rattle.springs.specs.Spring.{AllWithin}
-use Rattle.springs.specs.Columns.{Columns, springsIn, Sprung}
+use Rattle.springs.specs.Handover.{AllWithin, Sprung}
+use Rattle.springs.specs.Columns.{Columns, springsIn}
 use Rattle.springs.proofs.Columns.{sprung-within}
-use Rattle.admission.specs.Sprung.{AdmittedSprung}
+use Rattle.admission.specs.Handover.{AdmittedSprung}
 use Rattle.admission.proofs.Chain.{Ready, admitted}
 
 -- every check has passed, the records are good, and the columns hold their springs

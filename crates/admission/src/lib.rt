@@ -1,4 +1,5 @@
-// The one admission: what every call on a table checks before it works, in document 01's order. Contracts cite `specs/Admission`.
+// The one admission: what every call on a table checks before it works, in document 01's order. Contracts cite `specs/Admission`
+// and, of the columns, `specs/Handover`.
 use kinds::Policy;
 use kinds::Refusal;
 use kinds::Settings;
@@ -8,9 +9,10 @@ ghost use mathlib.Core.Bool.{not};
 ghost use mathlib.Core.Path.{_≡_};
 ghost use Rattle.ground.specs.Choice.{both};
 ghost use Rattle.kinds.specs.Policy.{isFirstFit};
-ghost use Rattle.springs.specs.Columns.{columns, Roomy};
+ghost use Rattle.springs.specs.Columns.{columns};
+ghost use Rattle.springs.specs.Handover.{Roomy};
 ghost use Rattle.admission.specs.Admission.{andThen, knows, misset, gate, served, roomy, gateOf};
-ghost use Rattle.admission.specs.Sprung.{AdmittedSprung};
+ghost use Rattle.admission.specs.Handover.{AdmittedSprung};
 
 // Refusal 1, the policy's own: it is none of those numbered.
 pub fn knows(policy: Policy) -> Verdict

@@ -1,5 +1,5 @@
 // The plain finder: it tests the policy at step 0, 1, 2, … to full compression. The springs are worked out once for a call, and the
-// shares stand in a column that is let down from step to step. Contracts cite `specs/Steps`; the promise of `find` is `outcome true` of
+// shares stand in a column that is let down from step to step. Contracts cite `specs/Handover`; the promise of `find` is `outcome true` of
 // `plan`.
 use ground::Step;
 use kinds::Answer;
@@ -12,9 +12,11 @@ ghost use mathlib.Core.Path.{_≡_};
 ghost use Prim.Native.Nat.{_≤_};
 ghost use Rattle.kinds.specs.Answer.{handed};
 ghost use Rattle.kinds.specs.Limits.{mostProcessors};
-ghost use Rattle.springs.specs.Columns.{columns, springIn, Roomy};
-ghost use Rattle.plan.specs.Plan.{found, outcome, Meets, FoundHeld};
-ghost use Rattle.plain.specs.Steps.{Searchable, StepHeld};
+ghost use Rattle.springs.specs.Columns.{columns, springIn};
+ghost use Rattle.springs.specs.Handover.{Roomy};
+ghost use Rattle.plan.specs.Plan.{found, outcome, Meets};
+ghost use Rattle.plan.specs.Handover.{FoundHeld};
+ghost use Rattle.plain.specs.Handover.{Searchable, StepHeld};
 
 // The periods and processors of the least passing step, written to the two lent outputs, or the refusal, which writes nothing.
 pub fn find(table: Table, settings: Settings, periods: &mut [u32], processors: &mut [u16]) -> Answer

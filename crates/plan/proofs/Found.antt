@@ -1,6 +1,6 @@
 -- What an accepted answer has passed, so that its plan may be written.
 -- Assumes nothing.
-use Prim.Native.Nat.{ℕ, _≤_, min}
+use Prim.Native.Nat.{ℕ, min}
 use mathlib.Core.Bool.{Bool, true}
 use mathlib.Core.List.{List}
 use mathlib.Core.Path.{_≡_, refl, sym, ap, _∙_}
@@ -29,7 +29,8 @@ use Rattle.policy.proofs.Demand.{step-at}
 use Rattle.kinds.specs.declared.Verdict as verdict
 use Rattle.admission.specs.Admission.{admission}
 use Rattle.admission.proofs.Chain.{Ready, admitted, not-admitted}
-use Rattle.plan.specs.Plan.{processorOn, processorsAt, decided, periodsAfter, processorsAfter, found, outcome, Meets, FoundHeld, Leaves, MayGrant}
+use Rattle.plan.specs.Plan.{processorOn, processorsAt, decided, periodsAfter, processorsAfter, found, outcome, Meets}
+use Rattle.plan.specs.Handover.{FoundHeld, Leaves, MayGrant}
 use Rattle.plan.proofs.Processors.{held-processors, placeable}
 use Rattle.plan.proofs.Writing.{written-same, step-handed}
 

@@ -16,14 +16,15 @@ use Rattle.kinds.specs.Limits.{mostTasks, mostProcessors}
 use Rattle.kinds.specs.Policy.{isFirstFit}
 use Rattle.kinds.specs.Task.{at, Good}
 use Rattle.share.specs.Share.{shareAt}
-use Rattle.springs.specs.Columns.{SharesOf}
+use Rattle.springs.specs.Handover.{SharesOf}
 use Rattle.springs.proofs.Columns.{held-most}
 use Rattle.fit.specs.declared.Fit.{Fit}
 use Rattle.fit.specs.Fit.{loadIn, placeAt, stuckAt, fits, placesTo, FitIs}
 use Rattle.fit.proofs.Placing.{place-same}
 use Rattle.policy.specs.Passing.{passes, passesAt}
 use Rattle.policy.proofs.Tests.{first-fit-passes, passes-same}
-use Rattle.plan.specs.Plan.{processorOn, processorAt, processorsAt, Placeable}
+use Rattle.plan.specs.Plan.{processorOn, processorAt, processorsAt}
+use Rattle.plan.specs.Handover.{Placeable}
 
 module _ (p : Policy) (m : ℕ) (load : ℕ → ℕ) (n : ℕ) where
   pub trial-processors : (trial : Fit) → isFirstFit p ≡ true → passes p m load n ≡ true → FitIs m load n trial

@@ -18,7 +18,8 @@ use Rattle.kinds.specs.Refusal.{numberOf}
 use Rattle.kinds.proofs.Refusals.{refusal-numbered}
 use Rattle.springs.specs.Columns.{periodIn}
 use Rattle.fit.specs.Fit.{loadIn}
-use Rattle.plan.specs.Plan.{processorOn, Leaves}
+use Rattle.plan.specs.Plan.{processorOn}
+use Rattle.plan.specs.Handover.{Leaves}
 
 -- a refused call writes nothing
 pub written-kept : (a : Answer) (front : List ℕ) (n : ℕ) (old : List ℕ) → isAccepted a ≡ false → after (handed a) front n old ≡ old

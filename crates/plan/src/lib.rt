@@ -1,5 +1,5 @@
 // What an accepted plan grants: each task's period and processor, written to the two lent outputs. Contracts cite `specs/Plan`, which
-// settles a finder's call whole.
+// settles a finder's call whole, and `specs/Handover`.
 use ground::Step;
 use kinds::Answer;
 use kinds::Policy;
@@ -14,9 +14,11 @@ ghost use lib.ListN.{length, getD, drop};
 ghost use Rattle.ground.specs.Folds.{listTo};
 ghost use Rattle.kinds.specs.Answer.{handed};
 ghost use Rattle.kinds.specs.Limits.{mostTasks};
-ghost use Rattle.springs.specs.Columns.{periodIn, Allowed};
+ghost use Rattle.springs.specs.Columns.{periodIn};
+ghost use Rattle.springs.specs.Handover.{Allowed};
 ghost use Rattle.fit.specs.Fit.{loadIn};
-ghost use Rattle.plan.specs.Plan.{decided, processorOn, Placeable, MayGrant, Leaves};
+ghost use Rattle.plan.specs.Plan.{decided, processorOn};
+ghost use Rattle.plan.specs.Handover.{Placeable, MayGrant, Leaves};
 
 // What an admission and the search for a step come to.
 pub fn decide(admission: Verdict, step: Step) -> Answer

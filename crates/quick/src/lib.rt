@@ -1,6 +1,6 @@
 // The quick finder: it looks at step 0, then at each distinct saturation step above 0 in rising order, until one passes; the step inside
-// the last stretch comes by division. Contracts cite `specs/Search`; the promise of `find` is `outcome false` of `plan` with the looks of
-// `specs/Looked`.
+// the last stretch comes by division. Contracts cite `specs/Search` and `specs/Handover`; the promise of `find` is `outcome false` of
+// `plan` with the looks of `specs/Looked`.
 use ground::Step;
 use kinds::Answer;
 use kinds::Settings;
@@ -12,13 +12,14 @@ ghost use Prim.Native.Nat.{_≤_};
 ghost use lib.ListN.{length};
 ghost use Rattle.kinds.specs.Limits.{mostTasks};
 ghost use Rattle.policy.specs.Sides.{Light};
-ghost use Rattle.springs.specs.Spring.{saturations, SumIs, AllWithin};
-ghost use Rattle.springs.specs.Columns.{columns, springIn, Roomy};
+ghost use Rattle.springs.specs.Spring.{saturations};
+ghost use Rattle.springs.specs.Handover.{SumIs, AllWithin, Roomy};
+ghost use Rattle.springs.specs.Columns.{columns, springIn};
 ghost use Rattle.division.specs.Weighed.{weighedAt};
 ghost use Rattle.division.specs.Division.{Fair};
-ghost use Rattle.quick.specs.Search.{dueAfter, OneLook, Searchable, SearchEnds};
+ghost use Rattle.quick.specs.Search.{dueAfter, OneLook};
+ghost use Rattle.quick.specs.Handover.{Searchable, SearchEnds, FoundLookedHeld, HeldAt};
 ghost use Rattle.quick.specs.Looked.{FoundLooked, MeetsLooked};
-ghost use Rattle.quick.specs.Held.{FoundLookedHeld, HeldAt};
 
 // What the quick finder answers, and the looks that it made.
 pub struct Looked {
@@ -172,8 +173,11 @@ fn look(
     before: Search,
     due: u32,
 ) -> Search
-    requires { ⌜ Light w × (n ≤ mostTasks) × AllWithin (springIn (now largest) (now least) (now elasticity)) n × (before .looks ≤ mostTasks) × (due ≡ dueAfter (saturations (springIn (now largest) (now least) (now elasticity))) n before) ⌝ }
-    ensures { λ after. ⌜ OneLook (weighedAt w (springIn (now (largest .entry)) (now (least .entry)) (now (elasticity .entry))) n) (saturations (springIn (now (largest .entry)) (now (least .entry)) (now (elasticity .entry)))) n before after × SumIs (springIn (now (largest .entry)) (now (least .entry)) (now (elasticity .entry))) n (after .step) (after .sum) ⌝ }
+    requires { ⌜ Light w × (n ≤ mostTasks) × AllWithin (springIn (now largest) (now least) (now elasticity)) n × (before .looks ≤ mostTasks)
+        × (due ≡ dueAfter (saturations (springIn (now largest) (now least) (now elasticity))) n before) ⌝ }
+    ensures { λ after. ⌜ OneLook (weighedAt w (springIn (now (largest .entry)) (now (least .entry)) (now (elasticity .entry))) n)
+        (saturations (springIn (now (largest .entry)) (now (least .entry)) (now (elasticity .entry)))) n before after
+        × SumIs (springIn (now (largest .entry)) (now (least .entry)) (now (elasticity .entry))) n (after .step) (after .sum) ⌝ }
 {
     let total = division::total_at(largest, least, elasticity, n, due);
     let passed = division::weighs(w, total);
@@ -196,7 +200,8 @@ fn search_columns(
     n: usize,
 ) -> Ended
     requires { ⌜ Light w × Fair w × Searchable (springIn (now largest) (now least) (now elasticity)) (now saturation) n ⌝ }
-    ensures { λ r. ⌜ SearchEnds (weighedAt w (springIn (now (largest .entry)) (now (least .entry)) (now (elasticity .entry))) n) (saturations (springIn (now (largest .entry)) (now (least .entry)) (now (elasticity .entry)))) n r ⌝ }
+    ensures { λ r. ⌜ SearchEnds (weighedAt w (springIn (now (largest .entry)) (now (least .entry)) (now (elasticity .entry))) n)
+        (saturations (springIn (now (largest .entry)) (now (least .entry)) (now (elasticity .entry)))) n r ⌝ }
 {
     let start = Search {
         looks: 0,

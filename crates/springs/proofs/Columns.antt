@@ -21,8 +21,9 @@ use Rattle.share.specs.Table.{periodsAt}
 use Rattle.share.proofs.Tasks.{at-least, least-some, largest-most, least-largest}
 use Rattle.share.proofs.Tasks as tasks
 use Rattle.springs.specs.declared.Spring.{Spring}
-use Rattle.springs.specs.Spring.{springOf, shareOn, saturationOn, Within, AllWithin}
-use Rattle.springs.specs.Columns.{Columns, springsIn, Saturates, Roomy, Sprung, SharesAre, SharesOf, periodIn, Held, Allowed}
+use Rattle.springs.specs.Spring.{springOf, shareOn, saturationOn}
+use Rattle.springs.specs.Handover.{Within, AllWithin, Saturates, Roomy, Sprung, SharesAre, SharesOf, Held, Allowed}
+use Rattle.springs.specs.Columns.{Columns, springsIn, periodIn}
 
 pub sprung-none : (rows : List Task) (s : Columns) → Roomy s → Sprung rows 0 s
 sprung-none rows s w =

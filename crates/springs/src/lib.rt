@@ -1,6 +1,6 @@
 // The springs of a table in lent columns of numbers, worked out once for a call, with the costs and the shortest periods; the shares of a
 // step and the periods come from them.
-// Contracts cite `specs/Spring`, of one spring, and `specs/Columns`.
+// Contracts cite `specs/Spring`, of one spring, `specs/Columns` and `specs/Handover`.
 use kinds::Table;
 use kinds::Task;
 ghost use mathlib.Core.Path.{_≡_};
@@ -10,8 +10,9 @@ ghost use Rattle.ground.specs.Folds.{maxTo};
 ghost use Rattle.kinds.specs.Limits.{scale, greatestElasticity, longestPeriod, mostTasks};
 ghost use Rattle.kinds.specs.Task.{Good};
 ghost use Rattle.rule.specs.Rule.{shareOf, periodOf};
-ghost use Rattle.springs.specs.Spring.{springOf, saturationOn, Within, AllWithin, SumIs};
-ghost use Rattle.springs.specs.Columns.{columns, springIn, Roomy, SprungUntil, SharesAre};
+ghost use Rattle.springs.specs.Spring.{springOf, saturationOn};
+ghost use Rattle.springs.specs.Handover.{Within, AllWithin, SumIs, Roomy, SprungUntil, SharesAre};
+ghost use Rattle.springs.specs.Columns.{columns, springIn};
 
 // All that a task's shares depend on.
 pub struct Spring {
@@ -98,7 +99,8 @@ pub fn next_shares(
     n: usize,
 ) -> u64
     requires { ⌜ (n ≤ mostTasks) × (length (now shares) ≡ mostTasks) × AllWithin (springIn (now shares) (now least) (now elasticity)) n ⌝ }
-    ensures { λ r. ⌜ SharesAre (springIn (now (shares .entry)) (now (least .entry)) (now (elasticity .entry))) n 1 (now (shares .exit)) × SumIs (springIn (now (shares .entry)) (now (least .entry)) (now (elasticity .entry))) n 1 r ⌝ }
+    ensures { λ r. ⌜ SharesAre (springIn (now (shares .entry)) (now (least .entry)) (now (elasticity .entry))) n 1 (now (shares .exit))
+        × SumIs (springIn (now (shares .entry)) (now (least .entry)) (now (elasticity .entry))) n 1 r ⌝ }
 {
     let mut sum: u32 = 0;
     for i in 0..n {

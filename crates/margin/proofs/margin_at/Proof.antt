@@ -3,7 +3,8 @@ use mathlib.Core.Bool.{false}
 use mathlib.Core.Path.{_∙_, ap}
 use Rattle.kinds.specs.Answer.{accepted}
 use Rattle.share.specs.Table.{shares}
-use Rattle.springs.specs.Columns.{Columns, columns, SharesOf}
+use Rattle.springs.specs.Columns.{Columns, columns}
+use Rattle.springs.specs.Handover.{SharesOf}
 use Rattle.springs.proofs.Columns.{shares-of, held-most}
 use Rattle.fit.specs.Fit.{loadIn}
 use Rattle.policy.proofs.Tests.{margin-same}

@@ -3,7 +3,7 @@ use Prim.Native.Nat.{min}
 use mathlib.Core.Bool.{true}
 use lib.ListN.{length}
 use Rattle.plan.proofs.Found.{may-grant, meets}
-use Rattle.plan.specs.Plan.{FoundHeld}
+use Rattle.plan.specs.Handover.{FoundHeld}
 use borrow.Author.Needs.{needs}
 use Rattle.plain.proofs.find.Statement.{statement}
 use Rattle.plain.proofs.find.Tie as tie

@@ -1,6 +1,6 @@
 -- `plan::grant` meets its contract. Assumes nothing.
 use mathlib.Core.Bool.{true}
-use mathlib.Core.Path.{_≡_, refl, _∙_, sym}
+use mathlib.Core.Path.{_≡_, _∙_, sym}
 use Rattle.kinds.specs.Answer.{isAccepted}
 use Rattle.plan.proofs.Writing.{leaves-refused, leaves-accepted}
 use borrow.Author.Needs.{needs}

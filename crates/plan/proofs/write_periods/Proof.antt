@@ -1,5 +1,5 @@
 -- `plan::write_periods` meets its contract. Assumes nothing.
-use Prim.Native.Nat.{_-_, _≤_, ℕ}
+use Prim.Native.Nat.{_-_, _≤_}
 use mathlib.Core.Path.{_≡_}
 use native.Mathlib.Omega.{arith}
 use Rattle.ground.proofs.Buffer.{Front, front-none, front-more}

@@ -4,7 +4,7 @@ use mathlib.Core.Bool.{false}
 use native.Mathlib.Omega.{arith}
 use lib.ListN.{length}
 use Rattle.plan.proofs.Found.{may-grant, meets}
-use Rattle.quick.specs.Held.{FoundLookedHeld}
+use Rattle.quick.specs.Handover.{FoundLookedHeld}
 use Rattle.quick.proofs.Served.{looks-few}
 use borrow.Author.Needs.{needs}
 use Rattle.quick.proofs.find.Statement.{statement}

@@ -6,7 +6,8 @@ use native.Mathlib.Omega.{arith}
 use Rattle.ground.proofs.First.{bad-here, bad-more, bad-none}
 use Rattle.kinds.specs.Task.{at, isGood}
 use Rattle.share.specs.Table.{firstBad}
-use Rattle.springs.specs.Columns.{columns, Sprung}
+use Rattle.springs.specs.Columns.{columns}
+use Rattle.springs.specs.Handover.{Sprung}
 use Rattle.springs.proofs.Columns.{sprung-none, sprung-more, found-good, good-within}
 use Rattle.springs.proofs.springs_of.Statement.{statement}
 use Rattle.springs.proofs.springs_of.Tie as tie
