@@ -1,4 +1,5 @@
-// The one admission: what every call on a table checks before it works, in document 01's order. Contracts cite `specs/Admission`.
+// The one admission: what every call on a table checks before it works, in document 01's order. Contracts cite `specs/Admission`
+// and, of the columns, `specs/Handover`.
 use kinds::Policy;
 use kinds::Refusal;
 use kinds::Settings;
@@ -8,9 +9,10 @@ ghost use mathlib.Core.Bool.{not};
 ghost use mathlib.Core.Path.{_≡_};
 ghost use Rattle.ground.specs.Choice.{both};
 ghost use Rattle.kinds.specs.Policy.{isFirstFit};
-ghost use Rattle.springs.specs.Columns.{columns, Roomy};
+ghost use Rattle.springs.specs.Columns.{columns};
+ghost use Rattle.springs.specs.Handover.{Roomy};
 ghost use Rattle.admission.specs.Admission.{andThen, knows, misset, gate, served, roomy, gateOf};
-ghost use Rattle.admission.specs.Sprung.{AdmittedSprung};
+ghost use Rattle.admission.specs.Handover.{AdmittedSprung};
 
 // Refusal 1, the policy's own: it is none of those numbered.
 pub fn knows(policy: Policy) -> Verdict
@@ -93,8 +95,8 @@ pub fn gate_of(settings: Settings, serves: bool, n: usize, room: usize) -> Verdi
     and_then(knows(policy), from_two)
 }
 
-// Refusals 1 to 6 of a call that serves policy 4, or does not. The walk that judges the records works their springs out into four lent
-// columns.
+// Refusals 1 to 6 of a call that serves policy 4, or does not. The walk that judges the records works their springs, costs and shortest
+// periods out into six lent columns.
 pub fn admit(
     table: Table,
     settings: Settings,
@@ -104,16 +106,20 @@ pub fn admit(
     least: &mut [u32; Table::MOST_TASKS],
     elasticity: &mut [u32; Table::MOST_TASKS],
     saturation: &mut [u32; Table::MOST_TASKS],
+    cost: &mut [u32; Table::MOST_TASKS],
+    tmin: &mut [u32; Table::MOST_TASKS],
 ) -> Verdict
-    requires { ⌜ Roomy (columns (now largest) (now least) (now elasticity) (now saturation)) ⌝ }
-    ensures { λ r. ⌜ AdmittedSprung serves settings (table .rows) (table .n) room r (columns (now (largest .exit)) (now (least .exit)) (now (elasticity .exit)) (now (saturation .exit))) ⌝ }
+    requires { ⌜ Roomy (columns (now largest) (now least) (now elasticity) (now saturation) (now cost) (now tmin)) ⌝ }
+    ensures { λ r. ⌜ AdmittedSprung serves settings (table .rows) (table .n) room r
+        (columns (now (largest .exit)) (now (least .exit)) (now (elasticity .exit)) (now (saturation .exit))
+        (now (cost .exit)) (now (tmin .exit))) ⌝ }
 {
     let n = table.n;
     let gate = gate_of(settings, serves, n, room);
     let Verdict::Accepted = gate else {
         return gate;
     };
-    let bad = springs::springs_of(table, largest, least, elasticity, saturation);
+    let bad = springs::springs_of(table, largest, least, elasticity, saturation, cost, tmin);
     if bad < n {
         return Verdict::Refused(Refusal::BadRecord(bad));
     }

@@ -15,7 +15,8 @@ use Rattle.rule.proofs.Shares.{share-saturated, share-above}
 use Rattle.division.specs.declared.Line.{Line}
 use Rattle.springs.specs.declared.Spring.{Spring}
 use Rattle.springs.specs.Spring.{shareOn, saturationOn}
-use Rattle.division.specs.Division.{Fair, slopeOf, slope, need, harder, LineIs, NeedIs}
+use Rattle.division.specs.Division.{Fair, slopeOf, slope, need, harder}
+use Rattle.division.specs.Handover.{LineIs, NeedIs}
 
 -- a spring with its saturation step above k is still falling at k
 falling : (s : Spring) (k : ℕ) → k < saturationOn s → (0 < s .elasticity) × (s .least + k * s .elasticity < s .largest)

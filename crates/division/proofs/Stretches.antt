@@ -21,10 +21,11 @@ use Rattle.policy.proofs.Tests.{test-stays}
 use Rattle.rule.proofs.Shares.{share-falls}
 use Rattle.springs.specs.declared.Spring.{Spring}
 use Rattle.springs.specs.Spring.{shareOn, saturationOn, sharesOn, saturations}
-use Rattle.springs.specs.Columns.{Saturates}
+use Rattle.springs.specs.Handover.{Saturates}
 use Rattle.division.specs.Weighed.{weighed, weighedAt}
 use Rattle.division.specs.Next.{Next}
-use Rattle.division.specs.Division.{Fair, slopeOf, slope, slopesIn, slopeSum, need, harder, needTo, divided, FallIs}
+use Rattle.division.specs.Division.{Fair, slopeOf, slope, slopesIn, slopeSum, need, harder, needTo, divided}
+use Rattle.division.specs.Handover.{FallIs}
 use Rattle.division.proofs.Lines.{share-line, slope-some, need-iff, both-ways}
 
 need-to-iff : (w : Weights) → Fair w → (springs : ℕ → Spring) (p q j sum sum′ fall n : ℕ) → 0 < fall → sum ≡ sum′ + j * fall → p + j < q

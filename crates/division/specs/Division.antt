@@ -2,20 +2,15 @@
 -- Assumes nothing.
 use Prim.Native.Nat.{ℕ, zero, suc, _+_, _-_, _*_, _≤_, _<_, max, min}
 use mathlib.Core.List.{List}
-use mathlib.Core.Path.{_≡_}
 use lib.Dec.{leb, ltb}
 use lib.ListN.{getD}
 use Rattle.ground.specs.Choice.{pick}
 use Rattle.ground.specs.Folds.{sumTo}
 use Rattle.ground.specs.Rounding.{ceilDiv}
-use Rattle.kinds.specs.Limits.{greatestElasticity, mostTasks}
 use Rattle.policy.specs.declared.Weights.{Weights}
 use Rattle.policy.specs.Sides.{left, right}
-use Rattle.division.specs.declared.Line.{Line}
 use Rattle.springs.specs.declared.Spring.{Spring}
-use Rattle.springs.specs.Spring.{shareOn, saturationOn, sharesOn, saturations, AllWithin}
-use Rattle.springs.specs.Columns.{Saturates}
-use Rattle.division.specs.Next.{Next}
+use Rattle.springs.specs.Spring.{shareOn, saturationOn, sharesOn}
 
 -- the sum counts, for no less than the max does on the right, and so does the whole of the left
 pub record Fair (w : Weights) : Type 0 where
@@ -54,39 +49,3 @@ needTo w springs p sum fall (suc n) =
 -- the least passing step of the stretch from p to q
 unfoldable pub divided : Weights → (ℕ → Spring) → ℕ → ℕ → ℕ → ℕ
 divided w springs n p q = min q (p + needTo w springs p (sumTo (sharesOn springs p) n) (slopeSum springs n p) n)
-
--- what the functions of the division rely on and hand back
-pub record FallIs (slopes : ℕ → ℕ) (n r : ℕ) : Type 0 where
-  pub is : r ≡ sumTo slopes n
-  pub most : r ≤ greatestElasticity * n
-
--- a line whose division is safe
-pub record Falling (r : Line) : Type 0 where
-  pub over-most : r .over ≤ 1000000000
-  pub by-some : 1 ≤ r .by
-  pub by-most : r .by ≤ 1000000000
-
--- the line of the task with the share x and the slope d
-pub record LineIs (w : Weights) (sum fall x d : ℕ) (r : Line) : Type 0 where
-  pub over-is : r .over ≡ left w sum x - right w x
-  pub by-is : r .by ≡ left w fall d - w .c * d
-  pub falling : Falling r
-
-pub record NeedIs (steps r : ℕ) : Type 0 where
-  pub is : r ≡ steps
-  pub most : r ≤ 1000000000
-
-pub record Falls (springs : ℕ → Spring) (saturation : List ℕ) (n p sum fall : ℕ) : Type 0 where
-  pub few : n ≤ mostTasks
-  pub within : AllWithin springs n
-  pub saturates : Saturates springs saturation n
-  pub sum-most : sum ≤ 32000000
-  pub fall-some : 1 ≤ fall
-  pub fall-most : fall ≤ 32000000
-  pub slopes : (i : ℕ) → i < n → slope (springs i) p ≤ fall
-
-pub record Stretches (springs : ℕ → Spring) (saturation : List ℕ) (n p q : ℕ) : Type 0 where
-  pub few : n ≤ mostTasks
-  pub within : AllWithin springs n
-  pub saturates : Saturates springs saturation n
-  pub next : Next (saturations springs) n p q

@@ -1,3 +1,4 @@
 pub mod Weighed
 pub mod Next
 pub mod Division
+pub mod Handover

@@ -1,5 +1,5 @@
 // The test of a step on springs in lent columns, the next saturation step, and the division of the stretch between two saturation steps.
-// Contracts cite `specs/Weighed`, `specs/Next` and `specs/Division`.
+// Contracts cite `specs/Weighed`, `specs/Next`, `specs/Division` and `specs/Handover`.
 use kinds::Table;
 use policy::Total;
 use policy::Weights;
@@ -11,10 +11,12 @@ ghost use Rattle.ground.specs.Rounding.{ceilDiv};
 ghost use Rattle.kinds.specs.Limits.{scale, greatestElasticity, mostTasks};
 ghost use Rattle.policy.specs.Sides.{Light, left, right, TotalIs};
 ghost use Rattle.rule.specs.Rule.{shareOf};
-ghost use Rattle.springs.specs.Spring.{sharesOn, SumIs, AllWithin};
+ghost use Rattle.springs.specs.Spring.{sharesOn};
+ghost use Rattle.springs.specs.Handover.{SumIs, AllWithin};
 ghost use Rattle.springs.specs.Columns.{springIn};
 ghost use Rattle.division.specs.Next.{nearer, nextTo};
-ghost use Rattle.division.specs.Division.{Fair, slopeOf, slopesIn, harder, needTo, divided, FallIs, Falls, Falling, LineIs, NeedIs, Stretches};
+ghost use Rattle.division.specs.Division.{Fair, slopeOf, slopesIn, harder, needTo, divided};
+ghost use Rattle.division.specs.Handover.{FallIs, Falls, Falling, LineIs, NeedIs, Stretches};
 
 // How far the left side of a test is above the right, and by how much that falls at each step.
 pub struct Line {
@@ -128,7 +130,8 @@ fn line_of_task(
     sum: u64,
     fall: u64,
 ) -> Line
-    requires { ⌜ Light w × Fair w × (largest ≤ scale) × (least ≤ scale) × (elasticity ≤ greatestElasticity) × (sum ≤ 32000000) × (1 ≤ fall) × (fall ≤ 32000000) × (slopeOf elasticity saturation p ≤ fall) ⌝ }
+    requires { ⌜ Light w × Fair w × (largest ≤ scale) × (least ≤ scale) × (elasticity ≤ greatestElasticity)
+        × (sum ≤ 32000000) × (1 ≤ fall) × (fall ≤ 32000000) × (slopeOf elasticity saturation p ≤ fall) ⌝ }
     ensures { λ r. ⌜ LineIs w sum fall (shareOf largest least elasticity p) (slopeOf elasticity saturation p) r ⌝ }
 {
     let share = rule::share_at(
@@ -209,7 +212,8 @@ pub fn divide(
     q: u32,
     sum: u64,
 ) -> u32
-    requires { ⌜ Light w × Fair w × Stretches (springIn (now largest) (now least) (now elasticity)) (now saturation) n p q × SumIs (springIn (now largest) (now least) (now elasticity)) n p sum ⌝ }
+    requires { ⌜ Light w × Fair w × Stretches (springIn (now largest) (now least) (now elasticity)) (now saturation) n p q
+        × SumIs (springIn (now largest) (now least) (now elasticity)) n p sum ⌝ }
     ensures { λ r. ⌜ r ≡ divided w (springIn (now (largest .entry)) (now (least .entry)) (now (elasticity .entry))) n p q ⌝ }
 {
     let fall = slope_sum(elasticity, saturation, n, p);

@@ -16,6 +16,8 @@ pub fn margin_at(table: Table, settings: Settings, step: u32) -> Margin
     let mut least = [0u32; Table::MOST_TASKS];
     let mut elasticity = [0u32; Table::MOST_TASKS];
     let mut saturation = [0u32; Table::MOST_TASKS];
+    let mut cost = [0u32; Table::MOST_TASKS];
+    let mut tmin = [0u32; Table::MOST_TASKS];
     let admission = admission::admit(
         table,
         settings,
@@ -25,6 +27,8 @@ pub fn margin_at(table: Table, settings: Settings, step: u32) -> Margin
         &mut least,
         &mut elasticity,
         &mut saturation,
+        &mut cost,
+        &mut tmin,
     );
     let Verdict::Refused(refusal) = admission else {
         let asked = settings.policy;

@@ -3,7 +3,7 @@
 use Prim.Native.Nat.{ℕ, _+_, _≤_, _<_}
 use mathlib.Core.Bool.{Bool, true, false}
 use mathlib.Core.List.{List}
-use mathlib.Core.Path.{_≡_, refl, sym, ap, _∙_}
+use mathlib.Core.Path.{_≡_, sym, ap, _∙_}
 use native.Mathlib.Omega.{arith}
 use lib.ListN.{getD}
 use Rattle.ground.specs.declared.Step.{Step}
@@ -19,8 +19,9 @@ use Rattle.kinds.specs.Task.{at}
 use Rattle.share.specs.Share.{saturationAt}
 use Rattle.share.specs.Table.{shares, fullCompression}
 use Rattle.springs.specs.declared.Spring.{Spring}
-use Rattle.springs.specs.Spring.{sharesOn, SumIs, AllWithin}
-use Rattle.springs.specs.Columns.{Columns, springIn, springsIn, SharesAre, SharesOf, Sprung}
+use Rattle.springs.specs.Spring.{sharesOn}
+use Rattle.springs.specs.Handover.{SumIs, AllWithin, SharesAre, SharesOf, Sprung}
+use Rattle.springs.specs.Columns.{Columns, springIn, springsIn}
 use Rattle.springs.proofs.Columns.{shares-are, shares-of}
 use Rattle.springs.proofs.Carried.{share-most, shares-first, held-within, shares-next}
 use Rattle.fit.specs.Fit.{loadIn, Loads}
@@ -28,7 +29,7 @@ use Rattle.policy.specs.Sides.{TotalIs}
 use Rattle.policy.specs.Passing.{passesAt, leastStep}
 use Rattle.policy.specs.Passing as passing
 use Rattle.policy.proofs.Tests.{passes-same}
-use Rattle.plain.specs.Steps.{Searchable, passesOn, StepHeld}
+use Rattle.plain.specs.Handover.{Searchable, passesOn, StepHeld}
 
 -- no step before k passes, and the column holds the shares of step k, with their sum beside it
 pub record Stepped (p : Policy) (m : ℕ) (springs : ℕ → Spring) (n k sum : ℕ) (column : List ℕ) : Type 0 where

@@ -1,5 +1,5 @@
 // The plain finder: it tests the policy at step 0, 1, 2, … to full compression. The springs are worked out once for a call, and the
-// shares stand in a column that is let down from step to step. Contracts cite `specs/Steps`; the promise of `find` is `outcome true` of
+// shares stand in a column that is let down from step to step. Contracts cite `specs/Handover`; the promise of `find` is `outcome true` of
 // `plan`.
 use ground::Step;
 use kinds::Answer;
@@ -12,9 +12,11 @@ ghost use mathlib.Core.Path.{_≡_};
 ghost use Prim.Native.Nat.{_≤_};
 ghost use Rattle.kinds.specs.Answer.{handed};
 ghost use Rattle.kinds.specs.Limits.{mostProcessors};
-ghost use Rattle.springs.specs.Columns.{columns, springIn, Roomy};
-ghost use Rattle.plan.specs.Plan.{found, outcome, Meets, FoundHeld};
-ghost use Rattle.plain.specs.Steps.{Searchable, StepHeld};
+ghost use Rattle.springs.specs.Columns.{columns, springIn};
+ghost use Rattle.springs.specs.Handover.{Roomy};
+ghost use Rattle.plan.specs.Plan.{found, outcome, Meets};
+ghost use Rattle.plan.specs.Handover.{FoundHeld};
+ghost use Rattle.plain.specs.Handover.{Searchable, StepHeld};
 
 // The periods and processors of the least passing step, written to the two lent outputs, or the refusal, which writes nothing.
 pub fn find(table: Table, settings: Settings, periods: &mut [u32], processors: &mut [u16]) -> Answer
@@ -24,6 +26,9 @@ pub fn find(table: Table, settings: Settings, periods: &mut [u32], processors: &
     let mut least = [0u32; Table::MOST_TASKS];
     let mut elasticity = [0u32; Table::MOST_TASKS];
     let mut saturation = [0u32; Table::MOST_TASKS];
+    let mut cost = [0u32; Table::MOST_TASKS];
+    let mut tmin = [0u32; Table::MOST_TASKS];
+    let n = table.n;
     let answer = decide_in(
         table,
         settings,
@@ -32,8 +37,19 @@ pub fn find(table: Table, settings: Settings, periods: &mut [u32], processors: &
         &mut least,
         &mut elasticity,
         &mut saturation,
+        &mut cost,
+        &mut tmin,
     );
-    plan::grant(answer, table, settings, &shares, periods, processors);
+    plan::grant(
+        answer,
+        settings,
+        &cost,
+        &tmin,
+        &shares,
+        n,
+        periods,
+        processors,
+    );
     answer
 }
 
@@ -45,6 +61,8 @@ pub fn decide(table: Table, settings: Settings, room: usize) -> Answer
     let mut least = [0u32; Table::MOST_TASKS];
     let mut elasticity = [0u32; Table::MOST_TASKS];
     let mut saturation = [0u32; Table::MOST_TASKS];
+    let mut cost = [0u32; Table::MOST_TASKS];
+    let mut tmin = [0u32; Table::MOST_TASKS];
     decide_in(
         table,
         settings,
@@ -53,10 +71,12 @@ pub fn decide(table: Table, settings: Settings, room: usize) -> Answer
         &mut least,
         &mut elasticity,
         &mut saturation,
+        &mut cost,
+        &mut tmin,
     )
 }
 
-// The same in lent columns: of an acceptance the first holds the shares of its step.
+// The same in lent columns: of an acceptance the first holds the shares of its step, the last two the costs and the shortest periods.
 fn decide_in(
     table: Table,
     settings: Settings,
@@ -65,9 +85,11 @@ fn decide_in(
     least: &mut [u32; Table::MOST_TASKS],
     elasticity: &mut [u32; Table::MOST_TASKS],
     saturation: &mut [u32; Table::MOST_TASKS],
+    cost: &mut [u32; Table::MOST_TASKS],
+    tmin: &mut [u32; Table::MOST_TASKS],
 ) -> Answer
-    requires { ⌜ Roomy (columns (now shares) (now least) (now elasticity) (now saturation)) ⌝ }
-    ensures { λ r. ⌜ FoundHeld true settings (table .rows) (table .n) room r (now (shares .exit)) ⌝ }
+    requires { ⌜ Roomy (columns (now shares) (now least) (now elasticity) (now saturation) (now cost) (now tmin)) ⌝ }
+    ensures { λ r. ⌜ FoundHeld true settings (table .rows) (table .n) room r (now (cost .exit)) (now (tmin .exit)) (now (shares .exit)) ⌝ }
 {
     let admission = admission::admit(
         table,
@@ -78,6 +100,8 @@ fn decide_in(
         least,
         elasticity,
         saturation,
+        cost,
+        tmin,
     );
     let Verdict::Accepted = admission else {
         return plan::decide(admission, Step::Nothing);

@@ -1,32 +1,38 @@
 -- What an accepted answer has passed, so that its plan may be written.
 -- Assumes nothing.
-use Prim.Native.Nat.{ℕ, _≤_, min}
+use Prim.Native.Nat.{ℕ, min}
 use mathlib.Core.Bool.{Bool, true}
 use mathlib.Core.List.{List}
-use mathlib.Core.Path.{_≡_, refl, sym, ap}
+use mathlib.Core.Path.{_≡_, refl, sym, ap, _∙_}
 use native.Mathlib.Omega.{arith}
 use lib.ListN.{length}
 use Rattle.ground.specs.declared.Step.{Step}
 use Rattle.ground.specs.declared.Step.the-variants.{At, Nothing}
+use Rattle.ground.specs.Folds.{listTo}
 use Rattle.ground.proofs.Cases.{true-false}
 use Rattle.kinds.specs.declared.Task.{Task}
-use Rattle.kinds.specs.declared.Table.{Table}
 use Rattle.kinds.specs.declared.Settings.{Settings}
 use Rattle.kinds.specs.declared.Answer.{Answer}
 use Rattle.kinds.specs.declared.Answer.the-variants.{Accepted, Refused}
 use Rattle.kinds.specs.declared.Refusal.{Refusal}
 use Rattle.kinds.specs.declared.Refusal.the-variants.{NoStepPasses}
-use Rattle.kinds.specs.Answer.{Handed, accepted, handed, isAccepted, stepOf}
+use Rattle.kinds.specs.Answer.{Handed, accepted, handed, isAccepted, stepOf, after}
 use Rattle.kinds.specs.Policy.{meant}
 use Rattle.kinds.proofs.Answers.{not-refused}
-use Rattle.share.proofs.Tables.{good-table}
-use Rattle.springs.specs.Columns.{SharesOf}
+use Rattle.share.specs.Table.{periodsAt}
+use Rattle.share.proofs.Tables.{all-good}
+use Rattle.springs.specs.Columns.{periodIn}
+use Rattle.springs.proofs.Columns.{held-allowed, held-periods}
+use Rattle.fit.specs.Fit.{loadIn}
 use Rattle.policy.specs.Passing.{leastStep}
 use Rattle.policy.proofs.Demand.{step-at}
 use Rattle.kinds.specs.declared.Verdict as verdict
 use Rattle.admission.specs.Admission.{admission}
 use Rattle.admission.proofs.Chain.{Ready, admitted, not-admitted}
-use Rattle.plan.specs.Plan.{decided, found, outcome, Meets, Leaves, Grantable, MayGrant}
+use Rattle.plan.specs.Plan.{processorOn, processorsAt, decided, periodsAfter, processorsAfter, found, outcome, Meets}
+use Rattle.plan.specs.Handover.{FoundHeld, Leaves, MayGrant}
+use Rattle.plan.proofs.Processors.{held-processors, placeable}
+use Rattle.plan.proofs.Writing.{written-same, step-handed}
 
 -- an acceptance was admitted, and its step is the least that passes
 pub decided-accepted : (a : verdict.Verdict) (step : Step) (k : ℕ) → accepted k ≡ decided a step → (a ≡ verdict.the-variants.Accepted) × (step ≡ At k)
@@ -56,23 +62,21 @@ accepting serves s rows n room k e =
     let d = decided-accepted _ _ k e in
     record { ready = admitted serves s rows n room (d .0); step = d .1 }
 
-pub may-grant : (serves : Bool) (answer : Answer) (s : Settings) (t : Table) (shares : List ℕ) (a b : ℕ)
-    → handed answer ≡ found serves s (t .rows) (t .n) (min a b)
-    → (isAccepted answer ≡ true → SharesOf (t .rows) (t .n) (stepOf answer) shares) → MayGrant answer s t shares a b
-may-grant serves (Refused r) s t shares a b e h = record { to-periods = λ x. true-false x refl; to-processors = λ x. true-false x refl; held = h }
-may-grant serves (Accepted k) s t shares a b e h =
-    record { to-periods = λ _. grantable a (omega arith); to-processors = λ _. grantable b (omega arith); held = h }
-  where
-    grantable : (room : ℕ) → min a b ≤ room → Grantable (meant (s .policy)) (s .m) t k room
-    grantable room h =
-        let g = accepting serves s (t .rows) (t .n) (min a b) k e in
-        let p = g .ready .passed in
-        record {
-          table = good-table t (p .few) (g .ready .none-bad);
-          m-most = p .m-most;
-          roomy = omega (arith, p .roomy);
-          passing = step-at (meant (s .policy)) (s .m) (t .rows) (t .n) k (g .step) .passes;
-        }
+-- what the writing of a plan relies on, for outputs of which the shorter has the room
+pub may-grant : (serves : Bool) (answer : Answer) (s : Settings) (rows : List Task) (n a b : ℕ) (cost tmin shares : List ℕ)
+    → FoundHeld serves s rows n (min a b) answer cost tmin shares → MayGrant answer s cost tmin shares n a b
+may-grant serves (Refused r) s rows n a b cost tmin shares f t = true-false t refl
+may-grant serves (Accepted k) s rows n a b cost tmin shares f t =
+    let g = accepting serves s rows n (min a b) k (f .answers) in
+    let p = g .ready .passed in
+    let good = all-good rows n (g .ready .none-bad) in
+    let passing = step-at (meant (s .policy)) (s .m) rows n k (g .step) .passes in
+    record {
+      allowed = held-allowed rows n k cost tmin shares (f .held t) good;
+      roomy = omega (arith, p .roomy);
+      placeable =
+          placeable (meant (s .policy)) (s .m) rows n k shares (f .held t .shares-are) b good (p .few) (p .m-most) (omega (arith, p .roomy)) passing;
+    }
 
 -- as a finder works it out: without a step where the admission refuses, else with the least one
 module _ (serves : Bool) (s : Settings) (rows : List Task) (n room : ℕ) (a : verdict.Verdict) (is : a ≡ admission serves s rows n room) where
@@ -85,10 +89,26 @@ module _ (serves : Bool) (s : Settings) (rows : List Task) (n room : ℕ) (a : v
   admitted-found step e = rw (is, e)
 
 -- an answer that is found, with what it leaves in the outputs, meets the outcome
-pub meets : (serves : Bool) (answer : Answer) (s : Settings) (rows : List Task) (n : ℕ) (periods processors new-periods new-processors : List ℕ)
-    → handed answer ≡ found serves s rows n (min (length periods) (length processors))
-    → Leaves (handed answer) s rows n periods processors new-periods new-processors
-    → Meets (outcome serves s rows n periods processors) answer new-periods new-processors
-unfolding outcome
-meets serves answer s rows n periods processors new-periods new-processors e l =
-    record { answers = e; grants = rw e at (l .periods-are); places = rw e at (l .processors-are) }
+module _ (serves : Bool) (answer : Answer) (s : Settings) (rows : List Task) (n : ℕ) (cost tmin shares periods processors : List ℕ)
+    (f : FoundHeld serves s rows n (min (length periods) (length processors)) answer cost tmin shares) where
+  periods-left : after (handed answer) (listTo (periodIn cost tmin shares) n) n periods ≡ periodsAfter (handed answer) rows n periods
+  periods-left =
+      written-same answer _ _ n periods
+      (λ t. held-periods rows n (stepOf answer) cost tmin shares (f .held t) ∙ ap (periodsAt rows n) (step-handed answer))
+
+  processors-left : after (handed answer) (listTo (processorOn (meant (s .policy)) (s .m) (loadIn shares)) n) n processors
+      ≡ processorsAfter (handed answer) s rows n processors
+  processors-left =
+      written-same answer _ _ n processors
+      (λ t. held-processors (meant (s .policy)) (s .m) rows n (stepOf answer) shares (f .held t .shares-are)
+      ∙ ap (processorsAt (meant (s .policy)) (s .m) rows n) (step-handed answer))
+
+  pub meets : (new-periods new-processors : List ℕ)
+      → Leaves (handed answer) s cost tmin shares n periods processors new-periods new-processors
+      → Meets (outcome serves s rows n periods processors) answer new-periods new-processors
+  unfolding outcome
+  meets new-periods new-processors l =
+      let e = f .answers in
+      let grants = l .periods-are ∙ periods-left in
+      let places = l .processors-are ∙ processors-left in
+      record { answers = e; grants = rw e at grants; places = rw e at places }

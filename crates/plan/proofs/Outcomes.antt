@@ -70,12 +70,14 @@ module _ (serves : Bool) (s : Settings) (xs ys : List Task) (n : ℕ) where
   unfolding outcome
   outcome-many periods processors h =
       let room = min (length periods) (length processors) in
+      let p = meant (s .policy) in
+      let f = found serves s ys n room in
       let e = found-many room h in
       let d = refused-many room h in
       rw (
         e,
-        keeps (found serves s ys n room) (periodsAt xs n (found serves s ys n room .value)) (periodsAt ys n (found serves s ys n room .value)) n periods d,
-        keeps (found serves s ys n room) (processorsAt (meant (s .policy)) (s .m) xs n (found serves s ys n room .value)) (processorsAt (meant (s .policy)) (s .m) ys n (found serves s ys n room .value)) n processors d,
+        keeps f (periodsAt xs n (f .value)) (periodsAt ys n (f .value)) n periods d,
+        keeps f (processorsAt p (s .m) xs n (f .value)) (processorsAt p (s .m) ys n (f .value)) n processors d,
       )
 
   module _ (same : (i : ℕ) → i < n → at xs i ≡ at ys i) where

@@ -10,21 +10,21 @@ use borrow.Author.Tests.{eqb-true}
 use Rattle.ground.specs.Choice.{pick}
 use Rattle.ground.specs.Folds.{listTo}
 use Rattle.ground.proofs.Buffer.{list-at, list-cong}
-use Rattle.kinds.specs.declared.Table.{Table}
+use Rattle.kinds.specs.declared.Task.{Task}
 use Rattle.kinds.specs.declared.Policy.{Policy}
-use Rattle.kinds.specs.Limits.{mostTasks}
+use Rattle.kinds.specs.Limits.{mostTasks, mostProcessors}
 use Rattle.kinds.specs.Policy.{isFirstFit}
-use Rattle.kinds.specs.Task.{at}
-use Rattle.share.specs.Share.{leastOf, shareAt}
-use Rattle.share.specs.Table.{periodsAt}
-use Rattle.springs.specs.Columns.{SharesOf, periodOn}
-use Rattle.springs.proofs.Columns.{held-most, held-least, held-periods}
+use Rattle.kinds.specs.Task.{at, Good}
+use Rattle.share.specs.Share.{shareAt}
+use Rattle.springs.specs.Handover.{SharesOf}
+use Rattle.springs.proofs.Columns.{held-most}
 use Rattle.fit.specs.declared.Fit.{Fit}
 use Rattle.fit.specs.Fit.{loadIn, placeAt, stuckAt, fits, placesTo, FitIs}
 use Rattle.fit.proofs.Placing.{place-same}
-use Rattle.policy.specs.Passing.{passes}
+use Rattle.policy.specs.Passing.{passes, passesAt}
 use Rattle.policy.proofs.Tests.{first-fit-passes, passes-same}
-use Rattle.plan.specs.Plan.{processorOn, processorAt, processorsAt, Grantable, Placeable}
+use Rattle.plan.specs.Plan.{processorOn, processorAt, processorsAt}
+use Rattle.plan.specs.Handover.{Placeable}
 
 module _ (p : Policy) (m : ℕ) (load : ℕ → ℕ) (n : ℕ) where
   pub trial-processors : (trial : Fit) → isFirstFit p ≡ true → passes p m load n ≡ true → FitIs m load n trial
@@ -41,28 +41,21 @@ module _ (p : Policy) (m : ℕ) (load : ℕ → ℕ) (n : ℕ) where
       list-cong (λ i. getD (replicate mostTasks 0) i 0) (processorOn p m load) n
       (λ i l. rw other (getD-replicate {A = ℕ} mostTasks i 0 0 (omega arith)))
 
--- a column that holds the shares of step k: what may be written of it, and that it is the plan of step k
-module _ (p : Policy) (m : ℕ) (t : Table) (k room : ℕ) (shares : List ℕ) (g : Grantable p m t k room) (held : SharesOf (t .rows) (t .n) k shares) where
-  pub placeable : Placeable p m shares (t .n) room
-  placeable =
-      record {
-        light = record { few = g .table .few; most = held-most (t .rows) (t .n) k shares (g .table .good) held };
-        m-most = g .m-most;
-        roomy = g .roomy;
-        passing = passes-same p m (loadIn shares) (λ i. shareAt (at (t .rows) i) k) (t .n) held ∙ g .passing;
-      }
-
-  pub enough : (i : ℕ) → i < t .n → leastOf (at (t .rows) i) ≤ getD shares i 0
-  enough = held-least (t .rows) (t .n) k shares (g .table .good) held
-
-  pub periods-held : (old new : List ℕ) → new ≡ listTo (periodOn (t .rows) shares) (t .n) ++ drop (t .n) old
-      → new ≡ periodsAt (t .rows) (t .n) k ++ drop (t .n) old
-  periods-held old new e = e ∙ ap (λ (l : List ℕ). l ++ drop (t .n) old) (held-periods (t .rows) (t .n) k shares (g .table .good) held)
-
-  pub processors-held : (old new : List ℕ) → new ≡ listTo (processorOn p m (loadIn shares)) (t .n) ++ drop (t .n) old
-      → new ≡ processorsAt p m (t .rows) (t .n) k ++ drop (t .n) old
+-- a column that holds the shares of step k: the processors of it are those of step k
+module _ (p : Policy) (m : ℕ) (rows : List Task) (n k : ℕ) (shares : List ℕ) (held : SharesOf rows n k shares) where
+  pub held-processors : listTo (processorOn p m (loadIn shares)) n ≡ processorsAt p m rows n k
   unfolding processorsAt
-  processors-held old new e =
-      e ∙ ap (λ (l : List ℕ). l ++ drop (t .n) old)
-      (list-cong (processorOn p m (loadIn shares)) (processorAt p m (t .rows) k) (t .n)
-      (λ i l. ap (λ (x : ℕ). pick (isFirstFit p) (x + 1) 0) (place-same m (loadIn shares) (λ j. shareAt (at (t .rows) j) k) (t .n) held i l)))
+  held-processors =
+      list-cong (processorOn p m (loadIn shares)) (processorAt p m rows k) n
+      (λ i l. ap (λ (x : ℕ). pick (isFirstFit p) (x + 1) 0) (place-same m (loadIn shares) (λ j. shareAt (at rows j) k) n held i l))
+
+  -- and they may be written where step k passes
+  pub placeable : (room : ℕ) → ((i : ℕ) → i < n → Good (at rows i)) → n ≤ mostTasks → m ≤ mostProcessors → n ≤ room
+      → passesAt p m rows n k ≡ true → Placeable p m shares n room
+  placeable room good few m-most roomy passing =
+      record {
+        light = record { few = few; most = held-most rows n k shares good held };
+        m-most = m-most;
+        roomy = roomy;
+        passing = passes-same p m (loadIn shares) (λ i. shareAt (at rows i) k) n held ∙ passing;
+      }

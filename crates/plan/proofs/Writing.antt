@@ -3,13 +3,12 @@
 use Prim.Native.Nat.{ℕ}
 use mathlib.Core.Bool.{true, false}
 use mathlib.Core.List.{List, _++_}
-use mathlib.Core.Path.{_≡_, refl, sym}
+use mathlib.Core.Path.{_≡_, refl, sym, ap, _∙_}
 use native.Mathlib.Omega.{arith}
 use lib.ListN.{drop}
 use borrow.Author.Tests.{ne-eqb}
-use Rattle.ground.proofs.Cases.{true-false}
-use Rattle.kinds.specs.declared.Task.{Task}
-use Rattle.kinds.specs.declared.Policy.{Policy}
+use Rattle.ground.specs.Folds.{listTo}
+use Rattle.ground.proofs.Cases.{by-bool, true-false}
 use Rattle.kinds.specs.declared.Settings.{Settings}
 use Rattle.kinds.specs.declared.Answer.{Answer}
 use Rattle.kinds.specs.declared.Answer.the-variants.{Accepted, Refused}
@@ -17,27 +16,52 @@ use Rattle.kinds.specs.Answer.{handed, isAccepted, stepOf, after}
 use Rattle.kinds.specs.Policy.{meant}
 use Rattle.kinds.specs.Refusal.{numberOf}
 use Rattle.kinds.proofs.Refusals.{refusal-numbered}
-use Rattle.share.specs.Table.{periodsAt}
-use Rattle.plan.specs.Plan.{processorsAt, Leaves}
+use Rattle.springs.specs.Columns.{periodIn}
+use Rattle.fit.specs.Fit.{loadIn}
+use Rattle.plan.specs.Plan.{processorOn}
+use Rattle.plan.specs.Handover.{Leaves}
 
 -- a refused call writes nothing
 pub written-kept : (a : Answer) (front : List ℕ) (n : ℕ) (old : List ℕ) → isAccepted a ≡ false → after (handed a) front n old ≡ old
 written-kept (Accepted k) front n old e = true-false refl e
 written-kept (Refused r) front n old e = rw (ne-eqb (numberOf r) 0 (λ z. omega (arith, refusal-numbered r)))
 
-module _ (a : Answer) (s : Settings) (rows : List Task) (n : ℕ) (periods processors : List ℕ) where
-  pub leaves-refused : isAccepted a ≡ false → Leaves (handed a) s rows n periods processors periods processors
+-- an accepted one writes the front
+pub written-front : (a : Answer) (front : List ℕ) (n : ℕ) (old : List ℕ) → isAccepted a ≡ true → after (handed a) front n old ≡ front ++ drop n old
+written-front (Accepted k) front n old t = refl
+written-front (Refused r) front n old t = true-false t refl
+
+-- so what stands there depends on the front of an acceptance only
+pub written-same : (a : Answer) (f g : List ℕ) (n : ℕ) (old : List ℕ) → (isAccepted a ≡ true → f ≡ g) → after (handed a) f n old ≡ after (handed a) g n old
+written-same a f g n old h =
+    by-bool (isAccepted a)
+    (λ t. ap (λ (l : List ℕ). after (handed a) l n old) (h t))
+    (λ e. written-kept a f n old e ∙ sym (written-kept a g n old e))
+
+-- the step of an acceptance is what is handed back; that of a refusal is 0
+pub step-handed : (a : Answer) → stepOf a ≡ handed a .value
+step-handed (Accepted k) = refl
+step-handed (Refused r) = refl
+
+module _ (a : Answer) (s : Settings) (cost tmin shares : List ℕ) (n : ℕ) (periods processors : List ℕ) where
+  abbrev periods-front : List ℕ
+  periods-front = listTo (periodIn cost tmin shares) n
+
+  abbrev processors-front : List ℕ
+  processors-front = listTo (processorOn (meant (s .policy)) (s .m) (loadIn shares)) n
+
+  pub leaves-refused : isAccepted a ≡ false → Leaves (handed a) s cost tmin shares n periods processors periods processors
   leaves-refused e =
       record {
-        periods-are = sym (written-kept a (periodsAt rows n (handed a .value)) n periods e);
-        processors-are = sym (written-kept a (processorsAt (meant (s .policy)) (s .m) rows n (handed a .value)) n processors e);
+        periods-are = sym (written-kept a periods-front n periods e);
+        processors-are = sym (written-kept a processors-front n processors e);
       }
 
--- an accepted one writes the front of both
-pub leaves-accepted : (a : Answer) (s : Settings) (rows : List Task) (n : ℕ) (periods processors new-periods new-processors : List ℕ) (k : ℕ) (p : Policy)
-    → isAccepted a ≡ true → k ≡ stepOf a → p ≡ meant (s .policy)
-    → new-periods ≡ periodsAt rows n k ++ drop n periods → new-processors ≡ processorsAt p (s .m) rows n k ++ drop n processors
-    → Leaves (handed a) s rows n periods processors new-periods new-processors
-leaves-accepted (Accepted j) s rows n periods processors new-periods new-processors k p t e q f g =
-    record { periods-are = rw e at f; processors-are = rw (e, q) at g }
-leaves-accepted (Refused r) s rows n periods processors new-periods new-processors k p t e q f g = true-false t refl
+  pub leaves-accepted : (new-periods new-processors : List ℕ) → isAccepted a ≡ true
+      → new-periods ≡ periods-front ++ drop n periods → new-processors ≡ processors-front ++ drop n processors
+      → Leaves (handed a) s cost tmin shares n periods processors new-periods new-processors
+  leaves-accepted new-periods new-processors t f g =
+      record {
+        periods-are = f ∙ sym (written-front a periods-front n periods t);
+        processors-are = g ∙ sym (written-front a processors-front n processors t);
+      }

@@ -1,7 +1,7 @@
 -- Demand 2, whole: what a finder hands back and what it leaves in the two lent outputs, for every input.
 -- Assumes nothing.
-use Prim.Native.Nat.{ℕ, _+_, _≤_, min}
-use mathlib.Core.Bool.{Bool, true}
+use Prim.Native.Nat.{ℕ, _+_, min}
+use mathlib.Core.Bool.{Bool}
 use mathlib.Core.List.{List}
 use mathlib.Core.Path.{_≡_}
 use lib.ListN.{length}
@@ -10,18 +10,15 @@ use Rattle.ground.specs.declared.Step.the-variants.{At, Nothing}
 use Rattle.ground.specs.Choice.{pick}
 use Rattle.ground.specs.Folds.{listTo}
 use Rattle.kinds.specs.declared.Task.{Task}
-use Rattle.kinds.specs.declared.Table.{Table}
 use Rattle.kinds.specs.declared.Policy.{Policy}
 use Rattle.kinds.specs.declared.Settings.{Settings}
 use Rattle.kinds.specs.declared.Refusal.the-variants.{NoStepPasses}
 use Rattle.kinds.specs.declared.Answer.{Answer}
-use Rattle.kinds.specs.Answer.{Handed, accepted, refused, after, handed, isAccepted, stepOf}
-use Rattle.kinds.specs.Limits.{mostProcessors}
+use Rattle.kinds.specs.Answer.{Handed, accepted, refused, after, handed}
 use Rattle.kinds.specs.Policy.{meant, isFirstFit}
-use Rattle.share.specs.Table.{GoodTable, shares, periodsAt}
-use Rattle.springs.specs.Columns.{SharesOf}
-use Rattle.fit.specs.Fit.{loadIn, Loads, placeAt}
-use Rattle.policy.specs.Passing.{passes, passesAt, leastStep}
+use Rattle.share.specs.Table.{shares, periodsAt}
+use Rattle.fit.specs.Fit.{placeAt}
+use Rattle.policy.specs.Passing.{leastStep}
 use Rattle.kinds.specs.declared.Verdict.{Verdict}
 use Rattle.kinds.specs.declared.Verdict.the-variants.{Accepted, Refused}
 use Rattle.admission.specs.Admission.{admission}
@@ -71,32 +68,3 @@ pub record Meets (o : Outcome) (answer : Answer) (periods processors : List ℕ)
   pub answers : handed answer ≡ o .handed
   pub grants : periods ≡ o .periods
   pub places : processors ≡ o .processors
-
--- an answer, and of an acceptance a column of the shares of its step
-pub record FoundHeld (serves : Bool) (s : Settings) (rows : List Task) (n room : ℕ) (answer : Answer) (shares : List ℕ) : Type 0 where
-  pub answers : handed answer ≡ found serves s rows n room
-  pub held : isAccepted answer ≡ true → SharesOf rows n (stepOf answer) shares
-
--- what the writing of a plan at step k relies on
-pub record Grantable (p : Policy) (m : ℕ) (t : Table) (k room : ℕ) : Type 0 where
-  pub table : GoodTable t
-  pub m-most : m ≤ mostProcessors
-  pub roomy : t .n ≤ room
-  pub passing : passesAt p m (t .rows) (t .n) k ≡ true
-
--- what the writing of processors relies on
-pub record Placeable (p : Policy) (m : ℕ) (loads : List ℕ) (n room : ℕ) : Type 0 where
-  pub light : Loads loads n
-  pub m-most : m ≤ mostProcessors
-  pub roomy : n ≤ room
-  pub passing : passes p m (loadIn loads) n ≡ true
-
-pub record MayGrant (answer : Answer) (s : Settings) (t : Table) (shares : List ℕ) (periods processors : ℕ) : Type 0 where
-  pub to-periods : isAccepted answer ≡ true → Grantable (meant (s .policy)) (s .m) t (stepOf answer) periods
-  pub to-processors : isAccepted answer ≡ true → Grantable (meant (s .policy)) (s .m) t (stepOf answer) processors
-  pub held : isAccepted answer ≡ true → SharesOf (t .rows) (t .n) (stepOf answer) shares
-
--- what the writing of a plan leaves in the two outputs
-pub record Leaves (h : Handed ℕ) (s : Settings) (rows : List Task) (n : ℕ) (oldPeriods oldProcessors periods processors : List ℕ) : Type 0 where
-  pub periods-are : periods ≡ periodsAfter h rows n oldPeriods
-  pub processors-are : processors ≡ processorsAfter h s rows n oldProcessors

@@ -1,5 +1,5 @@
 // What an accepted plan grants: each task's period and processor, written to the two lent outputs. Contracts cite `specs/Plan`, which
-// settles a finder's call whole.
+// settles a finder's call whole, and `specs/Handover`.
 use ground::Step;
 use kinds::Answer;
 use kinds::Policy;
@@ -9,17 +9,16 @@ use kinds::Table;
 use kinds::Verdict;
 ghost use mathlib.Core.List.{_++_};
 ghost use mathlib.Core.Path.{_≡_};
-ghost use Prim.Native.Nat.{ℕ, _≤_, _<_};
+ghost use Prim.Native.Nat.{ℕ, _≤_};
 ghost use lib.ListN.{length, getD, drop};
 ghost use Rattle.ground.specs.Folds.{listTo};
 ghost use Rattle.kinds.specs.Answer.{handed};
 ghost use Rattle.kinds.specs.Limits.{mostTasks};
-ghost use Rattle.kinds.specs.Task.{at};
-ghost use Rattle.share.specs.Share.{leastOf};
-ghost use Rattle.share.specs.Table.{GoodTable};
-ghost use Rattle.springs.specs.Columns.{periodOn};
+ghost use Rattle.springs.specs.Columns.{periodIn};
+ghost use Rattle.springs.specs.Handover.{Allowed};
 ghost use Rattle.fit.specs.Fit.{loadIn};
-ghost use Rattle.plan.specs.Plan.{decided, processorOn, Placeable, MayGrant, Leaves};
+ghost use Rattle.plan.specs.Plan.{decided, processorOn};
+ghost use Rattle.plan.specs.Handover.{Placeable, MayGrant, Leaves};
 
 // What an admission and the search for a step come to.
 pub fn decide(admission: Verdict, step: Step) -> Answer
@@ -41,14 +40,20 @@ fn stepped(step: Step) -> Answer
     }
 }
 
-// Writes the period that its share allows each task, and nothing past them.
-fn write_periods(table: Table, shares: &[u32; Table::MOST_TASKS], out: &mut [u32])
-    requires { ⌜ GoodTable table × (table .n ≤ length (now out)) × ((i : ℕ) → i < table .n → leastOf (at (table .rows) i) ≤ getD (now shares) i 0) ⌝ }
-    ensures { λ _. ⌜ now (out .exit) ≡ listTo (periodOn (table .rows) (now (shares .entry))) (table .n) ++ drop (table .n) (now (out .entry)) ⌝ }
+// Writes the period that its share allows each of n tasks with these costs and shortest periods, and nothing past them.
+fn write_periods(
+    cost: &[u32; Table::MOST_TASKS],
+    tmin: &[u32; Table::MOST_TASKS],
+    shares: &[u32; Table::MOST_TASKS],
+    n: usize,
+    out: &mut [u32],
+)
+    requires { ⌜ (n ≤ mostTasks) × (n ≤ length (now out)) × Allowed (now cost) (now tmin) (now shares) n ⌝ }
+    ensures { λ _. ⌜ now (out .exit)
+        ≡ listTo (periodIn (now (cost .entry)) (now (tmin .entry)) (now (shares .entry))) n ++ drop n (now (out .entry)) ⌝ }
 {
-    let n = table.n;
     for i in 0..n {
-        out[i] = springs::period_on(table.rows[i], shares[i]);
+        out[i] = springs::period_on(cost[i], tmin[i], shares[i]);
     }
 }
 
@@ -82,21 +87,25 @@ fn write_processors(
     }
 }
 
-// Writes what an answer grants to the two lent outputs: an accepted plan, or nothing. The shares of the answer's step are at hand.
+// Writes what an answer grants to the two lent outputs: an accepted plan, or nothing. Costs, shortest periods and the shares of the
+// answer's step are at hand.
 pub fn grant(
     answer: Answer,
-    table: Table,
     settings: Settings,
+    cost: &[u32; Table::MOST_TASKS],
+    tmin: &[u32; Table::MOST_TASKS],
     shares: &[u32; Table::MOST_TASKS],
+    n: usize,
     periods: &mut [u32],
     processors: &mut [u16],
 )
-    requires { ⌜ MayGrant answer settings table (now shares) (length (now periods)) (length (now processors)) ⌝ }
-    ensures { λ _. ⌜ Leaves (handed answer) settings (table .rows) (table .n) (now (periods .entry)) (now (processors .entry)) (now (periods .exit)) (now (processors .exit)) ⌝ }
+    requires { ⌜ MayGrant answer settings (now cost) (now tmin) (now shares) n (length (now periods)) (length (now processors)) ⌝ }
+    ensures { λ _. ⌜ Leaves (handed answer) settings (now (cost .entry)) (now (tmin .entry)) (now (shares .entry)) n
+        (now (periods .entry)) (now (processors .entry)) (now (periods .exit)) (now (processors .exit)) ⌝ }
 {
     if answer.accepted() {
         let asked = settings.policy;
-        write_periods(table, shares, periods);
-        write_processors(asked.meant(), settings.m, shares, table.n, processors);
+        write_periods(cost, tmin, shares, n, periods);
+        write_processors(asked.meant(), settings.m, shares, n, processors);
     }
 }

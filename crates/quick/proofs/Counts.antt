@@ -54,7 +54,10 @@ unfolding distinctBelow
 below-next s n p q x =
     let one : countTo (λ i. both (eqb (s i) q) (isNew s i)) n ≡ 1 =
     one-new s q n ∙ ap bit (any-has (λ j. eqb (s j) q) n (x .by) (x .by-below) (eq-eqb (s (x .by)) q (x .is))) in
-    omega (arith, one, count-split (λ i. both (counts s i) (ltb (s i) (q + 1))) (λ i. both (counts s i) (ltb (s i) (p + 1))) (λ i. both (eqb (s i) q) (isNew s i)) n (λ i l. split-at (s i) p q (isNew s i) (x .above) (x .least i l)))
+    let apart =
+    count-split (λ i. both (counts s i) (ltb (s i) (q + 1))) (λ i. both (counts s i) (ltb (s i) (p + 1))) (λ i. both (eqb (s i) q) (isNew s i)) n
+    (λ i l. split-at (s i) p q (isNew s i) (x .above) (x .least i l)) in
+    omega (arith, one, apart)
 
 pub below-most : (s : ℕ → ℕ) (n k : ℕ) → distinctBelow s n k ≤ n
 unfolding distinctBelow

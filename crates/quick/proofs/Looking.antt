@@ -1,7 +1,7 @@
 -- A search, look by look: what has failed so far, and how it ends.
 -- Assumes nothing.
 use Prim.Native.Nat.{ℕ, zero, suc, _+_, _≤_, _<_}
-use mathlib.Core.Bool.{true, false}
+use mathlib.Core.Bool.{Bool, true, false}
 use mathlib.Core.Path.{_≡_, refl}
 use native.Mathlib.Omega.{arith}
 use Rattle.ground.specs.declared.Step.the-variants.{At, Nothing}
@@ -18,8 +18,13 @@ use Rattle.division.specs.Weighed.{weighedAt}
 use Rattle.division.specs.Next.{Next}
 use Rattle.division.specs.Division.{Fair, divided}
 use Rattle.division.proofs.Stretches.{weighed-rising, fails-before, divided-least, divided-most}
-use Rattle.quick.specs.Search.{Failed, SearchEnds}
+use Rattle.quick.specs.Handover.{SearchEnds}
 use Rattle.quick.proofs.Counts.{below-same, below-next, below-most, below-one, below-all}
+
+-- all steps looked at have failed, the last of them p; one look was at step 0, and one at each distinct saturation step up to p
+pub record Failed (test : ℕ → Bool) (saturation : ℕ → ℕ) (n p looks : ℕ) : Type 0 where
+  pub failed : test p ≡ false
+  pub count : looks ≡ 1 + distinctBelow saturation n (p + 1)
 
 looks-above : (s : ℕ → ℕ) (n k : ℕ) → 0 < k → looksFor s n (At k) ≡ 2 + distinctBelow s n k
 looks-above s n zero h = absurd (omega arith)

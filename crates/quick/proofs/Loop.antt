@@ -12,14 +12,16 @@ use Rattle.kinds.specs.Limits.{mostTasks}
 use Rattle.policy.specs.declared.Weights.{Weights}
 use Rattle.springs.specs.declared.Spring.{Spring}
 use Rattle.springs.specs.Spring.{saturations}
-use Rattle.springs.specs.Columns.{Saturates}
+use Rattle.springs.specs.Handover.{Saturates}
 use Rattle.division.specs.Weighed.{weighedAt}
 use Rattle.division.specs.Next.{Next, nextTo}
-use Rattle.division.specs.Division.{Fair, divided, Stretches}
+use Rattle.division.specs.Division.{Fair, divided}
+use Rattle.division.specs.Handover.{Stretches}
 use Rattle.division.proofs.Nexts.{next-is, next-none, next-cong}
 use Rattle.quick.specs.declared.Search.{Search}
-use Rattle.quick.specs.Search.{dueAfter, OneLook, Searchable, Failed, SearchEnds}
-use Rattle.quick.proofs.Looking.{ends-at-zero, failed-at-zero, ends-nowhere, failed-next, ends-divided, looks-left}
+use Rattle.quick.specs.Search.{dueAfter, OneLook}
+use Rattle.quick.specs.Handover.{Searchable, SearchEnds}
+use Rattle.quick.proofs.Looking.{Failed, ends-at-zero, failed-at-zero, ends-nowhere, failed-next, ends-divided, looks-left}
 
 pub due-first : (s : ℕ → ℕ) (n : ℕ) (before : Search) → before .looks ≡ 0 → dueAfter s n before ≡ 0
 unfolding dueAfter

@@ -28,13 +28,19 @@ use Rattle.policy.proofs.Tests.{passes-weighed, passes-same}
 use Rattle.kinds.specs.declared.Verdict as verdict
 use Rattle.admission.specs.Admission.{admission}
 use Rattle.springs.specs.Spring.{sharesOn, saturations}
-use Rattle.springs.specs.Columns.{Columns, springsIn, Sprung}
+use Rattle.springs.specs.Columns.{Columns, springsIn}
+use Rattle.springs.specs.Handover.{Sprung}
 use Rattle.division.specs.Weighed.{weighed, weighedAt}
 use Rattle.division.specs.Division.{Fair}
 use Rattle.springs.proofs.Columns.{shares-are, saturations-are}
 use Rattle.quick.specs.declared.Ended.{Ended}
 use Rattle.quick.specs.Looked.{looksAfter, looks}
-use Rattle.quick.specs.Search.{SearchEnds, LeastFound}
+use Rattle.quick.specs.Handover.{SearchEnds}
+
+-- a search of the first n of some records ends at the step that demand 2 asks for, with its looks
+pub record LeastFound (p : Policy) (m : ℕ) (rows : List Task) (n : ℕ) (r : Ended) : Type 0 where
+  pub least : r .step ≡ leastStep p m rows n
+  pub count : r .looks ≡ looksOf rows n (leastStep p m rows n)
 
 -- the weights of the policies that have a formula
 pub fair : (p : Policy) (m : ℕ) → hasFormula p ≡ true → 1 ≤ m → Fair (weightsOf p m)

@@ -1,3 +1,3 @@
 pub mod Search
 pub mod Looked
-pub mod Held
+pub mod Handover

@@ -1,6 +1,6 @@
 // The quick finder: it looks at step 0, then at each distinct saturation step above 0 in rising order, until one passes; the step inside
-// the last stretch comes by division. Contracts cite `specs/Search`; the promise of `find` is `outcome false` of `plan` with the looks of
-// `specs/Looked`.
+// the last stretch comes by division. Contracts cite `specs/Search` and `specs/Handover`; the promise of `find` is `outcome false` of
+// `plan` with the looks of `specs/Looked`.
 use ground::Step;
 use kinds::Answer;
 use kinds::Settings;
@@ -12,13 +12,14 @@ ghost use Prim.Native.Nat.{_≤_};
 ghost use lib.ListN.{length};
 ghost use Rattle.kinds.specs.Limits.{mostTasks};
 ghost use Rattle.policy.specs.Sides.{Light};
-ghost use Rattle.springs.specs.Spring.{saturations, SumIs, AllWithin};
-ghost use Rattle.springs.specs.Columns.{columns, springIn, Roomy};
+ghost use Rattle.springs.specs.Spring.{saturations};
+ghost use Rattle.springs.specs.Handover.{SumIs, AllWithin, Roomy};
+ghost use Rattle.springs.specs.Columns.{columns, springIn};
 ghost use Rattle.division.specs.Weighed.{weighedAt};
 ghost use Rattle.division.specs.Division.{Fair};
-ghost use Rattle.quick.specs.Search.{dueAfter, OneLook, Searchable, SearchEnds};
+ghost use Rattle.quick.specs.Search.{dueAfter, OneLook};
+ghost use Rattle.quick.specs.Handover.{Searchable, SearchEnds, FoundLookedHeld, HeldAt};
 ghost use Rattle.quick.specs.Looked.{FoundLooked, MeetsLooked};
-ghost use Rattle.quick.specs.Held.{FoundLookedHeld, HeldAt};
 
 // What the quick finder answers, and the looks that it made.
 pub struct Looked {
@@ -50,6 +51,9 @@ pub fn find(table: Table, settings: Settings, periods: &mut [u32], processors: &
     let mut least = [0u32; Table::MOST_TASKS];
     let mut elasticity = [0u32; Table::MOST_TASKS];
     let mut saturation = [0u32; Table::MOST_TASKS];
+    let mut cost = [0u32; Table::MOST_TASKS];
+    let mut tmin = [0u32; Table::MOST_TASKS];
+    let n = table.n;
     let found = decide_in(
         table,
         settings,
@@ -58,9 +62,20 @@ pub fn find(table: Table, settings: Settings, periods: &mut [u32], processors: &
         &mut least,
         &mut elasticity,
         &mut saturation,
+        &mut cost,
+        &mut tmin,
     );
     let answer = found.answer;
-    plan::grant(answer, table, settings, &largest, periods, processors);
+    plan::grant(
+        answer,
+        settings,
+        &cost,
+        &tmin,
+        &largest,
+        n,
+        periods,
+        processors,
+    );
     found
 }
 
@@ -72,6 +87,8 @@ pub fn decide(table: Table, settings: Settings, room: usize) -> Looked
     let mut least = [0u32; Table::MOST_TASKS];
     let mut elasticity = [0u32; Table::MOST_TASKS];
     let mut saturation = [0u32; Table::MOST_TASKS];
+    let mut cost = [0u32; Table::MOST_TASKS];
+    let mut tmin = [0u32; Table::MOST_TASKS];
     decide_in(
         table,
         settings,
@@ -80,10 +97,12 @@ pub fn decide(table: Table, settings: Settings, room: usize) -> Looked
         &mut least,
         &mut elasticity,
         &mut saturation,
+        &mut cost,
+        &mut tmin,
     )
 }
 
-// The same in lent columns: of an acceptance the first holds the shares of its step.
+// The same in lent columns: of an acceptance the first holds the shares of its step, the last two the costs and the shortest periods.
 fn decide_in(
     table: Table,
     settings: Settings,
@@ -92,9 +111,11 @@ fn decide_in(
     least: &mut [u32; Table::MOST_TASKS],
     elasticity: &mut [u32; Table::MOST_TASKS],
     saturation: &mut [u32; Table::MOST_TASKS],
+    cost: &mut [u32; Table::MOST_TASKS],
+    tmin: &mut [u32; Table::MOST_TASKS],
 ) -> Looked
-    requires { ⌜ Roomy (columns (now largest) (now least) (now elasticity) (now saturation)) ⌝ }
-    ensures { λ r. ⌜ FoundLookedHeld settings (table .rows) (table .n) room r (now (largest .exit)) ⌝ }
+    requires { ⌜ Roomy (columns (now largest) (now least) (now elasticity) (now saturation) (now cost) (now tmin)) ⌝ }
+    ensures { λ r. ⌜ FoundLookedHeld settings (table .rows) (table .n) room r (now (cost .exit)) (now (tmin .exit)) (now (largest .exit)) ⌝ }
 {
     let admission = admission::admit(
         table,
@@ -105,6 +126,8 @@ fn decide_in(
         least,
         elasticity,
         saturation,
+        cost,
+        tmin,
     );
     let Verdict::Accepted = admission else {
         let looks = 0;
@@ -150,8 +173,11 @@ fn look(
     before: Search,
     due: u32,
 ) -> Search
-    requires { ⌜ Light w × (n ≤ mostTasks) × AllWithin (springIn (now largest) (now least) (now elasticity)) n × (before .looks ≤ mostTasks) × (due ≡ dueAfter (saturations (springIn (now largest) (now least) (now elasticity))) n before) ⌝ }
-    ensures { λ after. ⌜ OneLook (weighedAt w (springIn (now (largest .entry)) (now (least .entry)) (now (elasticity .entry))) n) (saturations (springIn (now (largest .entry)) (now (least .entry)) (now (elasticity .entry)))) n before after × SumIs (springIn (now (largest .entry)) (now (least .entry)) (now (elasticity .entry))) n (after .step) (after .sum) ⌝ }
+    requires { ⌜ Light w × (n ≤ mostTasks) × AllWithin (springIn (now largest) (now least) (now elasticity)) n × (before .looks ≤ mostTasks)
+        × (due ≡ dueAfter (saturations (springIn (now largest) (now least) (now elasticity))) n before) ⌝ }
+    ensures { λ after. ⌜ OneLook (weighedAt w (springIn (now (largest .entry)) (now (least .entry)) (now (elasticity .entry))) n)
+        (saturations (springIn (now (largest .entry)) (now (least .entry)) (now (elasticity .entry)))) n before after
+        × SumIs (springIn (now (largest .entry)) (now (least .entry)) (now (elasticity .entry))) n (after .step) (after .sum) ⌝ }
 {
     let total = division::total_at(largest, least, elasticity, n, due);
     let passed = division::weighs(w, total);
@@ -174,7 +200,8 @@ fn search_columns(
     n: usize,
 ) -> Ended
     requires { ⌜ Light w × Fair w × Searchable (springIn (now largest) (now least) (now elasticity)) (now saturation) n ⌝ }
-    ensures { λ r. ⌜ SearchEnds (weighedAt w (springIn (now (largest .entry)) (now (least .entry)) (now (elasticity .entry))) n) (saturations (springIn (now (largest .entry)) (now (least .entry)) (now (elasticity .entry)))) n r ⌝ }
+    ensures { λ r. ⌜ SearchEnds (weighedAt w (springIn (now (largest .entry)) (now (least .entry)) (now (elasticity .entry))) n)
+        (saturations (springIn (now (largest .entry)) (now (least .entry)) (now (elasticity .entry)))) n r ⌝ }
 {
     let start = Search {
         looks: 0,

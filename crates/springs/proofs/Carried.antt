@@ -10,8 +10,9 @@ use Rattle.ground.proofs.Folds.{sum-none, sum-more}
 use Rattle.kinds.specs.Limits.{scale, mostTasks}
 use Rattle.rule.specs.Rule.{shareOf}
 use Rattle.springs.specs.declared.Spring.{Spring}
-use Rattle.springs.specs.Spring.{spring, shareOn, sharesOn, Within, AllWithin, SumIs}
-use Rattle.springs.specs.Columns.{springIn, SharesAre}
+use Rattle.springs.specs.Spring.{spring, shareOn, sharesOn}
+use Rattle.springs.specs.Handover.{Within, AllWithin, SumIs, SharesAre}
+use Rattle.springs.specs.Columns.{springIn}
 
 pub one-step : (x least e : ℕ) → max least (x - e) ≡ shareOn (spring x least e) 1
 unfolding shareOn

@@ -11,16 +11,19 @@ use Rattle.ground.specs.Folds.{listTo}
 use Rattle.ground.proofs.Buffer.{list-cong}
 use Rattle.ground.proofs.Cases.{by-eq, by-bool, true-false}
 use Rattle.kinds.specs.declared.Task.{Task}
-use Rattle.kinds.specs.Limits.{scale, mostTasks}
+use Rattle.kinds.specs.Limits.{scale, longestPeriod, mostTasks}
 use Rattle.kinds.specs.Task.{at, Good, isGood}
 use Rattle.kinds.proofs.Records.{good-is}
-use Rattle.share.specs.Share.{leastOf, shareAt, saturationAt, periodAt}
+use Rattle.rule.specs.Rule.{periodOf}
+use Rattle.rule.proofs.Periods.{period-shortest}
+use Rattle.share.specs.Share.{costOf, leastOf, shareAt, saturationAt, periodAt}
 use Rattle.share.specs.Table.{periodsAt}
-use Rattle.share.proofs.Tasks.{at-least, largest-most, least-largest}
+use Rattle.share.proofs.Tasks.{at-least, least-some, largest-most, least-largest}
 use Rattle.share.proofs.Tasks as tasks
 use Rattle.springs.specs.declared.Spring.{Spring}
-use Rattle.springs.specs.Spring.{springOf, shareOn, saturationOn, Within, AllWithin}
-use Rattle.springs.specs.Columns.{Columns, springsIn, Saturates, Roomy, Sprung, SharesAre, SharesOf, periodOn}
+use Rattle.springs.specs.Spring.{springOf, shareOn, saturationOn}
+use Rattle.springs.specs.Handover.{Within, AllWithin, Saturates, Roomy, Sprung, SharesAre, SharesOf, Held, Allowed}
+use Rattle.springs.specs.Columns.{Columns, springsIn, periodIn}
 
 pub sprung-none : (rows : List Task) (s : Columns) → Roomy s → Sprung rows 0 s
 sprung-none rows s w =
@@ -28,12 +31,20 @@ sprung-none rows s w =
       roomy = w;
       springs = λ i l. absurd (omega arith);
       saturates = λ i l. absurd (omega arith);
+      costs = λ i l. absurd (omega arith);
+      tmins = λ i l. absurd (omega arith);
     }
 
 -- columns that hold the springs of some records hold those of the first of them
 pub sprung-front : (rows : List Task) (r n : ℕ) (s : Columns) → n ≤ r → Sprung rows r s → Sprung rows n s
 sprung-front rows r n s h w =
-    record { roomy = w .roomy; springs = λ i l. w .springs i (omega arith); saturates = λ i l. w .saturates i (omega arith) }
+    record {
+      roomy = w .roomy;
+      springs = λ i l. w .springs i (omega arith);
+      saturates = λ i l. w .saturates i (omega arith);
+      costs = λ i l. w .costs i (omega arith);
+      tmins = λ i l. w .tmins i (omega arith);
+    }
 
 -- a record whose test was not failed is good
 pub found-good : (t : Task) (b : Bool) → b ≡ isGood t → not b ≡ false → Good t
@@ -48,19 +59,30 @@ pub saturation-on : (t : Task) → saturationOn (springOf t) ≡ saturationAt t
 unfolding saturationOn saturationAt
 saturation-on t = refl
 
--- the columns with one spring more, and its saturation step
-abbrev with-spring : Columns → ℕ → Spring → ℕ → Columns
-with-spring s i r step =
+-- the columns with one spring more, its saturation step, its cost and its shortest period
+abbrev with-spring : Columns → ℕ → Spring → ℕ → ℕ → ℕ → Columns
+with-spring s i r step cost tmin =
     record {
       largest = set (s .largest) i (r .largest);
       least = set (s .least) i (r .least);
       elasticity = set (s .elasticity) i (r .elasticity);
       saturation = set (s .saturation) i step;
+      cost = set (s .cost) i cost;
+      tmin = set (s .tmin) i tmin;
     }
 
-module _ (rows : List Task) (i : ℕ) (s : Columns) (r : Spring) (step : ℕ) (w : Sprung rows i s) (few : i < mostTasks)
-    (is : r ≡ springOf (at rows i)) (saturated : step ≡ saturationOn r) where
-  spring-here : springsIn (with-spring s i r step) i ≡ springOf (at rows i)
+-- a column of numbers with one more entry
+entry-more : (f : ℕ → ℕ) (l : List ℕ) (i v : ℕ) → i < length l → v ≡ f i → ((j : ℕ) → j < i → getD l j 0 ≡ f j)
+    → (j : ℕ) → j < i + 1 → getD (set l i v) j 0 ≡ f j
+entry-more f l i v room e w j h =
+    by-eq j i
+    (λ q. rw q (getD-set-same l i v 0 room ∙ e))
+    (λ d. getD-set-other l i j v 0 d ∙ w j (omega (arith, d)))
+
+module _ (rows : List Task) (i : ℕ) (s : Columns) (r : Spring) (step cost tmin : ℕ) (w : Sprung rows i s) (few : i < mostTasks)
+    (is : r ≡ springOf (at rows i)) (saturated : step ≡ saturationOn r)
+    (costs : cost ≡ costOf (at rows i)) (tmins : tmin ≡ at rows i .tmin) where
+  spring-here : springsIn (with-spring s i r step cost tmin) i ≡ springOf (at rows i)
   spring-here =
       rw (
         getD-set-same (s .largest) i (r .largest) 0 (omega (arith, w .roomy .largest)),
@@ -69,7 +91,7 @@ module _ (rows : List Task) (i : ℕ) (s : Columns) (r : Spring) (step : ℕ) (w
       )
       is
 
-  spring-there : (j : ℕ) → (j ≡ i → ⊥) → springsIn (with-spring s i r step) j ≡ springsIn s j
+  spring-there : (j : ℕ) → (j ≡ i → ⊥) → springsIn (with-spring s i r step cost tmin) j ≡ springsIn s j
   spring-there j d =
       rw (
         getD-set-other (s .largest) i j (r .largest) 0 d,
@@ -77,12 +99,7 @@ module _ (rows : List Task) (i : ℕ) (s : Columns) (r : Spring) (step : ℕ) (w
         getD-set-other (s .elasticity) i j (r .elasticity) 0 d,
       )
 
-  saturation-here : getD (set (s .saturation) i step) i 0 ≡ saturationAt (at rows i)
-  saturation-here =
-      getD-set-same (s .saturation) i step 0 (omega (arith, w .roomy .saturation))
-      ∙ (saturated ∙ (ap saturationOn is ∙ saturation-on (at rows i)))
-
-  pub sprung-more : Sprung rows (i + 1) (with-spring s i r step)
+  pub sprung-more : Sprung rows (i + 1) (with-spring s i r step cost tmin)
   sprung-more =
       record {
         roomy =
@@ -91,11 +108,16 @@ module _ (rows : List Task) (i : ℕ) (s : Columns) (r : Spring) (step : ℕ) (w
               least = length-set (s .least) i _ ∙ w .roomy .least;
               elasticity = length-set (s .elasticity) i _ ∙ w .roomy .elasticity;
               saturation = length-set (s .saturation) i _ ∙ w .roomy .saturation;
+              cost = length-set (s .cost) i _ ∙ w .roomy .cost;
+              tmin = length-set (s .tmin) i _ ∙ w .roomy .tmin;
             };
         springs = λ j l. by-eq j i (λ e. rw e spring-here) (λ d. spring-there j d ∙ w .springs j (omega (arith, d)));
-        saturates = λ j l. by-eq j i
-            (λ e. rw e saturation-here)
-            (λ d. getD-set-other (s .saturation) i j step 0 d ∙ w .saturates j (omega (arith, d)));
+        saturates =
+            entry-more (λ j. saturationAt (at rows j)) (s .saturation) i step (omega (arith, w .roomy .saturation))
+            (saturated ∙ (ap saturationOn is ∙ saturation-on (at rows i)))
+            (w .saturates);
+        costs = entry-more (λ j. costOf (at rows j)) (s .cost) i cost (omega (arith, w .roomy .cost)) costs (w .costs);
+        tmins = entry-more (λ j. at rows j .tmin) (s .tmin) i tmin (omega (arith, w .roomy .tmin)) tmins (w .tmins);
       }
 
 -- the spring of a good record
@@ -120,14 +142,38 @@ pub shares-of : (rows : List Task) (n : ℕ) (s : Columns) → Sprung rows n s �
     → SharesAre (springsIn s) n k shares → SharesOf rows n k shares
 shares-of rows n s w k shares h i l = h .are i l ∙ shares-are rows n s w k i l
 
--- what a column of shares allows
-module _ (rows : List Task) (n k : ℕ) (shares : List ℕ) (good : (i : ℕ) → i < n → Good (at rows i)) (held : SharesOf rows n k shares) where
-  pub held-most : (i : ℕ) → i < n → getD shares i 0 ≤ scale
-  held-most i l = omega (arith, held i l, tasks.share-most (at rows i) (good i l) k)
+-- beside the costs and the shortest periods it holds all that the periods come from
+pub held-columns : (rows : List Task) (n k : ℕ) (s : Columns) (shares : List ℕ) → Sprung rows n s → SharesOf rows n k shares
+    → Held rows n k (s .cost) (s .tmin) shares
+held-columns rows n k s shares w h = record { costs = w .costs; tmins = w .tmins; shares-are = h }
 
-  pub held-least : (i : ℕ) → i < n → leastOf (at rows i) ≤ getD shares i 0
-  held-least i l = omega (arith, held i l, at-least (at rows i) k)
+-- no share is above the scale
+pub held-most : (rows : List Task) (n k : ℕ) (shares : List ℕ) → ((i : ℕ) → i < n → Good (at rows i)) → SharesOf rows n k shares
+    → (i : ℕ) → i < n → getD shares i 0 ≤ scale
+held-most rows n k shares good held i l = omega (arith, held i l, tasks.share-most (at rows i) (good i l) k)
 
-  pub held-periods : listTo (periodOn rows shares) n ≡ periodsAt rows n k
+-- the periods of a step from columns
+module _ (rows : List Task) (n k : ℕ) (cost tmin shares : List ℕ) (h : Held rows n k cost tmin shares) where
+  pub held-periods : listTo (periodIn cost tmin shares) n ≡ periodsAt rows n k
   unfolding periodsAt periodAt
-  held-periods = list-cong (periodOn rows shares) (λ i. periodAt (at rows i) k) n (λ i l. rw (held i l))
+  held-periods =
+      list-cong (periodIn cost tmin shares) (λ i. periodAt (at rows i) k) n
+      (λ i l. rw (h .costs i l, h .tmins i l, h .shares-are i l))
+
+  module _ (good : (i : ℕ) → i < n → Good (at rows i)) where
+    least-held : (i : ℕ) → i < n → leastOf (at rows i) ≤ getD shares i 0
+    least-held i l = omega (arith, h .shares-are i l, at-least (at rows i) k)
+
+    some-held : (i : ℕ) → i < n → 1 ≤ getD shares i 0
+    some-held i l = omega (arith, least-held i l, least-some (at rows i) (good i l))
+
+    period-high : (i : ℕ) → i < n → periodOf (costOf (at rows i)) (at rows i .tmin) (getD shares i 0) ≤ longestPeriod
+    period-high i l =
+        let t = at rows i in
+        let g = good i l in
+        let short = period-shortest (costOf t) (t .tmin) (t .tmax) (getD shares i 0)
+        (omega (arith, g .c-some, g .c-tmin, g .tmin-tmax)) (g .tmin-tmax) (some-held i l) (least-held i l) in
+        omega (arith, short .high, g .tmax-most)
+
+    pub held-allowed : Allowed cost tmin shares n
+    held-allowed = record { some = some-held; most = λ i l. rw (h .costs i l, h .tmins i l) (period-high i l) }

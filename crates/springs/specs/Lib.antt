@@ -1,2 +1,3 @@
 pub mod Spring
 pub mod Columns
+pub mod Handover

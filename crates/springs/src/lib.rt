@@ -1,17 +1,18 @@
-// The springs of a table in lent columns of numbers, worked out once for a call; the shares of a step and the periods come from them.
-// Contracts cite `specs/Spring`, of one spring, and `specs/Columns`.
+// The springs of a table in lent columns of numbers, worked out once for a call, with the costs and the shortest periods; the shares of a
+// step and the periods come from them.
+// Contracts cite `specs/Spring`, of one spring, `specs/Columns` and `specs/Handover`.
 use kinds::Table;
 use kinds::Task;
 ghost use mathlib.Core.Path.{_≡_};
 ghost use Prim.Native.Nat.{ℕ, _-_, _≤_, max};
 ghost use lib.ListN.{length, getD};
 ghost use Rattle.ground.specs.Folds.{maxTo};
-ghost use Rattle.kinds.specs.Limits.{scale, greatestElasticity, mostTasks};
+ghost use Rattle.kinds.specs.Limits.{scale, greatestElasticity, longestPeriod, mostTasks};
 ghost use Rattle.kinds.specs.Task.{Good};
 ghost use Rattle.rule.specs.Rule.{shareOf, periodOf};
-ghost use Rattle.share.specs.Share.{costOf, leastOf};
-ghost use Rattle.springs.specs.Spring.{springOf, saturationOn, Within, AllWithin, SumIs};
-ghost use Rattle.springs.specs.Columns.{columns, springIn, Roomy, SprungUntil, SharesAre};
+ghost use Rattle.springs.specs.Spring.{springOf, saturationOn};
+ghost use Rattle.springs.specs.Handover.{Within, AllWithin, SumIs, Roomy, SprungUntil, SharesAre};
+ghost use Rattle.springs.specs.Columns.{columns, springIn};
 
 // All that a task's shares depend on.
 pub struct Spring {
@@ -44,17 +45,22 @@ pub fn saturation_on(spring: Spring) -> u32
     rule::saturation(largest, least, spring.elasticity) as u32
 }
 
-// The springs of a table and their saturation steps, worked out once for a call into four lent columns, up to the first record that is
-// not good. Returns the number of that record, or how many there are.
+// The springs of a table, their saturation steps, the costs and the shortest periods, worked out once for a call into six lent columns, up
+// to the first record that is not good. Returns the number of that record, or how many there are.
 pub fn springs_of(
     table: Table,
     largest: &mut [u32; Table::MOST_TASKS],
     least: &mut [u32; Table::MOST_TASKS],
     elasticity: &mut [u32; Table::MOST_TASKS],
     saturation: &mut [u32; Table::MOST_TASKS],
+    cost: &mut [u32; Table::MOST_TASKS],
+    tmin: &mut [u32; Table::MOST_TASKS],
 ) -> usize
-    requires { ⌜ (table .n ≤ mostTasks) × Roomy (columns (now largest) (now least) (now elasticity) (now saturation)) ⌝ }
-    ensures { λ r. ⌜ SprungUntil (table .rows) (table .n) r (columns (now (largest .exit)) (now (least .exit)) (now (elasticity .exit)) (now (saturation .exit))) ⌝ }
+    requires { ⌜ (table .n ≤ mostTasks)
+        × Roomy (columns (now largest) (now least) (now elasticity) (now saturation) (now cost) (now tmin)) ⌝ }
+    ensures { λ r. ⌜ SprungUntil (table .rows) (table .n) r
+        (columns (now (largest .exit)) (now (least .exit)) (now (elasticity .exit)) (now (saturation .exit))
+        (now (cost .exit)) (now (tmin .exit))) ⌝ }
 {
     let n = table.n;
     for i in 0..n {
@@ -67,6 +73,8 @@ pub fn springs_of(
         least[i] = spring.least;
         elasticity[i] = spring.elasticity;
         saturation[i] = saturation_on(spring);
+        cost[i] = share::cost(task) as u32;
+        tmin[i] = task.tmin;
     }
     n
 }
@@ -91,7 +99,8 @@ pub fn next_shares(
     n: usize,
 ) -> u64
     requires { ⌜ (n ≤ mostTasks) × (length (now shares) ≡ mostTasks) × AllWithin (springIn (now shares) (now least) (now elasticity)) n ⌝ }
-    ensures { λ r. ⌜ SharesAre (springIn (now (shares .entry)) (now (least .entry)) (now (elasticity .entry))) n 1 (now (shares .exit)) × SumIs (springIn (now (shares .entry)) (now (least .entry)) (now (elasticity .entry))) n 1 r ⌝ }
+    ensures { λ r. ⌜ SharesAre (springIn (now (shares .entry)) (now (least .entry)) (now (elasticity .entry))) n 1 (now (shares .exit))
+        × SumIs (springIn (now (shares .entry)) (now (least .entry)) (now (elasticity .entry))) n 1 r ⌝ }
 {
     let mut sum: u32 = 0;
     for i in 0..n {
@@ -131,12 +140,12 @@ pub fn shares_at(
     }
 }
 
-// The period that a share allows a task.
-pub fn period_on(task: Task, share: u32) -> u32
-    requires { ⌜ Good task × (leastOf task ≤ share) ⌝ }
-    ensures { λ r. ⌜ r ≡ periodOf (costOf task) (task .tmin) share ⌝ }
+// The period that a share allows a task with this cost and this shortest period.
+pub fn period_on(cost: u32, tmin: u32, share: u32) -> u32
+    requires { ⌜ (1 ≤ share) × (periodOf cost tmin share ≤ longestPeriod) ⌝ }
+    ensures { λ r. ⌜ r ≡ periodOf cost tmin share ⌝ }
 {
-    rule::period(share::cost(task), task.tmin, ground::widened(share)) as u32
+    rule::period(ground::widened(cost), tmin, ground::widened(share)) as u32
 }
 
 // Document 01: "Full compression K: the greatest saturation step, 0 if there is none."

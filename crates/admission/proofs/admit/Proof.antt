@@ -28,7 +28,8 @@ returns c =
 
 springs-of-requires : tie.Need-springs-of-requires
 springs-of-requires c κs =
-    let t = c .before .before .before .before in
+    let half-lent = c .before .before .before in
+    let t = half-lent .before .before .before in
     let g = t .before .before in
     let a = g .before .args in
     (all-passed (a .serves) (a .settings) (a .table .n) (a .room) (sym (g .gate-of .ensures) ∙ t .enum-told .given .1) .few, g .before .pre)
@@ -37,7 +38,8 @@ returns-2 : tie.Need-returns-2
 unfolding admission
 returns-2 c =
     let b = c .before in
-    let t = b .before .before .before .before .before in
+    let half-lent = b .before .before .before .before in
+    let t = half-lent .before .before .before in
     record {
       is =
           rw (← t .before .before .gate-of .ensures, t .enum-told .given .1, ← b .springs-of .ensures .first, lt-ltb _ _ (c .if1 .taken));
@@ -48,7 +50,8 @@ returns-3 : tie.Need-returns-3
 unfolding admission
 returns-3 c =
     let b = c .before in
-    let t = b .before .before .before .before .before in
+    let half-lent = b .before .before .before .before in
+    let t = half-lent .before .before .before in
     record {
       is =
           rw (← t .before .before .gate-of .ensures, t .enum-told .given .1, ← b .springs-of .ensures .first, le-ltb _ _ (c .if1 .left));

@@ -9,11 +9,14 @@ use Rattle.division.proofs.divide.Statement.{statement}
 use Rattle.division.proofs.divide.Tie as tie
 
 -- the sum of the slopes
-fallen : (c : tie.After-slope-sum) → let a = c .before .args in c .slope-sum .result ≡ slopeSum (springIn (a .largest .now) (a .least .now) (a .elasticity .now)) (a .n) (a .p)
+fallen : (c : tie.After-slope-sum) → let a = c .before .args in
+    c .slope-sum .result ≡ slopeSum (springIn (a .largest .now) (a .least .now) (a .elasticity .now)) (a .n) (a .p)
 fallen c =
     let b = c .before in
     let a = b .args in
-    c .slope-sum .ensures .is ∙ slopes-are (springIn (a .largest .now) (a .least .now) (a .elasticity .now)) (a .elasticity .now) (a .saturation .now) (a .n) (a .p) (λ i. refl) (b .pre .2 .saturates)
+    let springs = springIn (a .largest .now) (a .least .now) (a .elasticity .now) in
+    c .slope-sum .ensures .is
+    ∙ slopes-are springs (a .elasticity .now) (a .saturation .now) (a .n) (a .p) (λ i. refl) (b .pre .2 .saturates)
 
 slope-sum-requires : tie.Need-slope-sum-requires
 slope-sum-requires c κs = let s = c .pre .2 in (s .few, λ i l. s .within i l .elasticity-most)
@@ -54,13 +57,17 @@ returns : tie.Need-returns
 returns c =
     let b = c .before .before in
     let s = b .before in
-    divided-worked-out _ (springIn (s .args .largest .now) (s .args .least .now) (s .args .elasticity .now)) _ _ _ _ _ _ (s .pre .2 .next .above) (s .pre .3 .is) (fallen b) (c .before .need-over .ensures) .0 (c .if1 .taken)
+    let a = s .args in
+    let springs = springIn (a .largest .now) (a .least .now) (a .elasticity .now) in
+    divided-worked-out _ springs _ _ _ _ _ _ (s .pre .2 .next .above) (s .pre .3 .is) (fallen b) (c .before .need-over .ensures) .0 (c .if1 .taken)
 
 returns-2 : tie.Need-returns-2
 returns-2 c =
     let b = c .before .before in
     let s = b .before in
-    divided-worked-out _ (springIn (s .args .largest .now) (s .args .least .now) (s .args .elasticity .now)) _ _ _ _ _ _ (s .pre .2 .next .above) (s .pre .3 .is) (fallen b) (c .before .need-over .ensures) .1 (c .if1 .left)
+    let a = s .args in
+    let springs = springIn (a .largest .now) (a .least .now) (a .elasticity .now) in
+    divided-worked-out _ springs _ _ _ _ _ _ (s .pre .2 .next .above) (s .pre .3 .is) (fallen b) (c .before .need-over .ensures) .1 (c .if1 .left)
 
 pub divide-spec : {M : Type 1} → statement M
 divide-spec =

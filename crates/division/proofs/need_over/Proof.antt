@@ -3,9 +3,10 @@ use Prim.Native.Nat.{_-_, _≤_}
 use mathlib.Core.Path.{_≡_, sym, ap₂, _∙_}
 use native.Mathlib.Omega.{arith}
 use lib.ListN.{getD}
-use Rattle.springs.specs.Spring.{shareOn}
+use Rattle.springs.specs.Spring.{shareOn, saturationOn}
 use Rattle.springs.specs.Columns.{springIn}
-use Rattle.division.specs.Division.{slopeOf, harder, needTo, LineIs, NeedIs}
+use Rattle.division.specs.Division.{slopeOf, harder, needTo}
+use Rattle.division.specs.Handover.{LineIs, NeedIs}
 use Rattle.division.proofs.Lines.{need-line}
 use Rattle.division.proofs.Stretches.{need-none, need-more}
 use Rattle.division.proofs.need_over.Statement.{statement}
@@ -58,8 +59,18 @@ line-of-task-requires c κs =
     let i = t .before .loop .i in
     let p = t .before .before .before .before .pre in
     let f = p .2 in
-    let w = f .within i (t .loop-test .taken) in
-    (p .0, p .1, w .largest-most, omega (arith, w .least-largest, w .largest-most), w .elasticity-most, f .sum-most, f .fall-some, f .fall-most, rw (f .saturates i (t .loop-test .taken)) (f .slopes i (t .loop-test .taken)))
+    let below = t .loop-test .taken in
+    let w = f .within i below in (
+      p .0,
+      p .1,
+      w .largest-most,
+      omega (arith, w .least-largest, w .largest-most),
+      w .elasticity-most,
+      f .sum-most,
+      f .fall-some,
+      f .fall-most,
+      rw (f .saturates i below) (f .slopes i below),
+    )
 
 harder-of-requires : tie.Need-harder-of-requires Inv-loop μ-loop
 harder-of-requires c κs = (c .line-of-task .ensures .falling, c .before .before .before .before .before .before .loop .inv .1 .most)
@@ -80,11 +91,16 @@ loop-again c =
     let a = b .args in
     let springs = springIn (a .largest .now) (a .least .now) (a .elasticity .now) in
     let s = b .pre .2 .saturates (l .loop .i) (t .loop-test .taken) in
-    let e : LineIs (a .w) (a .sum) (a .fall) (shareOn (springs (l .loop .i)) (a .p)) (slopeOf (getD (a .elasticity .now) (l .loop .i) 0) _ (a .p)) (k .line-of-task .result) = rw s at (k .line-of-task .ensures) in
+    let i = l .loop .i in
+    let share = shareOn (springs i) (a .p) in
+    let slope = slopeOf (getD (a .elasticity .now) i 0) (saturationOn (springs i)) (a .p) in
+    let e : LineIs (a .w) (a .sum) (a .fall) share slope (k .line-of-task .result) = rw s at (k .line-of-task .ensures) in
     let h = c .harder-of .ensures in (
       omega arith,
       record {
-        is = h .is ∙ (ap₂ (harder (a .w)) (l .loop .inv .1 .is) (need-line _ _ _ _ _ _ e) ∙ sym (need-more (a .w) springs (a .p) (a .sum) (a .fall) (l .loop .i)));
+        is =
+            h .is
+            ∙ (ap₂ (harder (a .w)) (l .loop .inv .1 .is) (need-line _ _ _ _ _ _ e) ∙ sym (need-more (a .w) springs (a .p) (a .sum) (a .fall) i));
         most = h .most;
       },
     )

@@ -36,7 +36,9 @@ loop-again : tie.Need-loop-again Inv-loop μ-loop
 loop-again c =
     let l = c .before .before .before in
     let a = l .before .args in
-    (omega arith, c .nearer-of .ensures ∙ (ap (λ (b : ℕ). nearer (a .p) b (getD (a .saturation .now) (l .loop .i) 0)) (l .loop .inv .1) ∙ sym (next-more (λ (j : ℕ). getD (a .saturation .now) j 0) (a .p) (l .loop .i))))
+    let i = l .loop .i in
+    let nearest = ap (λ (b : ℕ). nearer (a .p) b (getD (a .saturation .now) i 0)) (l .loop .inv .1) in
+    (omega arith, c .nearer-of .ensures ∙ (nearest ∙ sym (next-more (λ (j : ℕ). getD (a .saturation .now) j 0) (a .p) i)))
 
 returns : tie.Need-returns Inv-loop μ-loop
 returns c = let e : c .before .loop .i ≡ c .before .before .args .n = omega arith in rw e at (c .before .loop .inv .1)

@@ -4,7 +4,8 @@ use mathlib.Core.Path.{_≡_, _∙_}
 use native.Mathlib.Omega.{arith}
 use lib.ListN.{getD}
 use Rattle.kinds.specs.Limits.{greatestElasticity}
-use Rattle.division.specs.Division.{slopesIn, FallIs}
+use Rattle.division.specs.Division.{slopesIn}
+use Rattle.division.specs.Handover.{FallIs}
 use Rattle.division.proofs.Lines.{slope-most}
 use Rattle.division.proofs.Stretches.{fall-none, fall-more}
 use Rattle.division.proofs.slope_sum.Statement.{statement}
@@ -22,10 +23,13 @@ sloped : (c : tie.After-widened Inv-loop μ-loop)
     let a = l .before .args in
     (c .widened .result ≡ slopesIn (a .elasticity .now) (a .saturation .now) (a .p) (l .loop .i)) × (c .widened .result ≤ greatestElasticity)
 sloped c =
-    let l = c .before .before .before .before .before in
+    let t = c .before .before .before .before in
+    let l = t .before in
+    let i = l .loop .i in
     let a = l .before .args in
     let e = c .widened .ensures ∙ c .before .slope-of .ensures in
-    (e, omega (arith, e, slope-most (getD (a .elasticity .now) (l .loop .i) 0) (getD (a .saturation .now) (l .loop .i) 0) (a .p), l .before .pre .1 (l .loop .i) (c .before .before .before .before .loop-test .taken)))
+    let most = slope-most (getD (a .elasticity .now) i 0) (getD (a .saturation .now) i 0) (a .p) in
+    (e, omega (arith, e, most, l .before .pre .1 i (t .loop-test .taken)))
 
 loop-holds : tie.Need-loop-holds Inv-loop μ-loop
 loop-holds c = (omega arith, fall-none _)

@@ -24,11 +24,14 @@ shared : (c : tie.After-share-at Inv-loop μ-loop)
     (c .share-at .result ≡ shareOn (springIn (a .largest .now) (a .least .now) (a .elasticity .now) (l .loop .i)) (a .k)) × (c .share-at .result ≤ scale)
 unfolding shareOn
 shared c =
-    let l = c .before .before .before .before .before .before .before in
+    let w = c .before .before .before .before in
+    let t = w .before .before in
+    let l = t .before in
     let a = l .before .args in
-    let e : c .share-at .result ≡ shareOn (springIn (a .largest .now) (a .least .now) (a .elasticity .now) (l .loop .i)) (a .k) =
-    rw (c .before .before .before .before .widened .ensures, c .before .before .widened2 .ensures) at (c .share-at .ensures) in
-    (e, omega (arith, share-most (springIn (a .largest .now) (a .least .now) (a .elasticity .now) (l .loop .i)) (a .k) (l .before .pre .1 (l .loop .i) (c .before .before .before .before .before .before .loop-test .taken))))
+    let spring = springIn (a .largest .now) (a .least .now) (a .elasticity .now) (l .loop .i) in
+    let e : c .share-at .result ≡ shareOn spring (a .k) =
+    rw (w .widened .ensures, c .before .before .widened2 .ensures) at (c .share-at .ensures) in
+    (e, omega (arith, share-most spring (a .k) (l .before .pre .1 (l .loop .i) (t .loop-test .taken))))
 
 loop-holds : tie.Need-loop-holds Inv-loop μ-loop
 loop-holds c = (omega arith, total-none _)

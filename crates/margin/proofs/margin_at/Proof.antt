@@ -1,38 +1,42 @@
 -- `margin::margin_at` meets its contract. Assumes nothing.
 use mathlib.Core.Bool.{false}
-use mathlib.Core.Path.{_∙_, sym, ap}
+use mathlib.Core.Path.{_∙_, ap}
 use Rattle.kinds.specs.Answer.{accepted}
 use Rattle.share.specs.Table.{shares}
-use Rattle.share.proofs.Tables.{all-good}
-use Rattle.springs.specs.Columns.{Columns, columns, SharesOf, Sprung}
-use Rattle.springs.proofs.Columns.{sprung-within, shares-of, held-most}
+use Rattle.springs.specs.Columns.{Columns, columns}
+use Rattle.springs.specs.Handover.{SharesOf}
+use Rattle.springs.proofs.Columns.{shares-of, held-most}
 use Rattle.fit.specs.Fit.{loadIn}
 use Rattle.policy.proofs.Tests.{margin-same}
-use Rattle.admission.proofs.Chain.{Ready, admitted}
+use Rattle.admission.proofs.Opened.{Opened, opened}
 use Rattle.margin.specs.Margin.{marginHanded}
 use borrow.Author.Needs.{needs}
 use Rattle.margin.proofs.margin_at.Statement.{statement}
 use Rattle.margin.proofs.margin_at.Tie as tie
 
--- an admitted call has passed every check
-ready : (c : tie.After-enum-told) → let a = c .before .before .before .before .before .before .before .args in
-    Ready false (a .settings) (a .table .rows) (a .table .n) (a .table .n)
-ready c = admitted _ _ _ _ _ (sym (c .before .before .admit .ensures .is) ∙ c .enum-told .given .1)
+-- the call as it was made
+abbrev start : tie.After-admit → tie.Start
+start c = let half-lent = c .before .before .before in half-lent .before .before .before .before
 
--- and its springs are in the columns
-abbrev springs : tie.After-enum-told → Columns
+-- the columns as the admission leaves them
+abbrev springs : tie.After-admit → Columns
 springs c =
-    let l = c .before .before .admit .last .1 .1 .1 .1 in
-    columns (l .0) (l .1 .0) (l .1 .1 .0) (l .1 .1 .1 .0)
+    let l = c .admit .last .1 .1 .1 .1 in
+    let rest = l .1 .1 .1 in
+    columns (l .0) (l .1 .0) (l .1 .1 .0) (rest .0) (rest .1 .0) (rest .1 .1 .0)
 
-sprung : (c : tie.After-enum-told) → let a = c .before .before .before .before .before .before .before .args in
-    Sprung (a .table .rows) (a .table .n) (springs c)
-sprung c = c .before .before .admit .ensures .sprung (c .enum-told .given .1)
+-- an admitted call has passed every check, and its springs are in the columns
+begun : (c : tie.After-enum-told) → let a = start (c .before .before) .args in
+    Opened false (a .settings) (a .table .rows) (a .table .n) (a .table .n) (springs (c .before .before))
+begun c = let d = c .before .before in opened false _ _ _ _ _ (springs d) (d .admit .ensures) (c .enum-told .given .1)
 
 -- the first then holds the shares of the step
-held : (c : tie.After-shares-at) → let a = c .before .before .before .before .before .before .before .before .before .before .before .args in
+abbrev let-down : tie.After-shares-at → tie.After-enum-told
+let-down c = c .before .before .before .before
+
+held : (c : tie.After-shares-at) → let a = start (let-down c .before .before) .args in
     SharesOf (a .table .rows) (a .table .n) (a .step) (c .shares-at .last .0)
-held c = let t = c .before .before .before .before in shares-of _ _ (springs t) (sprung t) _ _ (c .shares-at .ensures)
+held c = shares-of _ _ (springs (let-down c .before .before)) (begun (let-down c) .sprung) _ _ (c .shares-at .ensures)
 
 admit-requires : tie.Need-admit-requires
 admit-requires c κs = search needs
@@ -45,9 +49,8 @@ enum-told c = search needs
 
 shares-at-requires : tie.Need-shares-at-requires
 shares-at-requires c κs =
-    let t = c .before .before .before in
-    let r = ready t in
-    (r .passed .few, sprung t .roomy .largest, sprung-within _ _ (springs t) (sprung t) (all-good _ _ (r .none-bad)))
+    let b = begun (c .before .before .before) in
+    (b .ready .passed .few, b .sprung .roomy .largest, b .within)
 
 meant-requires : tie.Need-meant-requires
 meant-requires c κs = search needs
@@ -55,19 +58,19 @@ meant-requires c κs = search needs
 margin-of-requires : tie.Need-margin-of-requires
 margin-of-requires c κs =
     let h = c .before .before in
-    let t = h .before .before .before .before in
-    let r = ready t in
-    let a = t .before .before .before .before .before .before .before .args in
-    let most = held-most (a .table .rows) _ (a .step) (h .shares-at .last .0) (all-good _ _ (r .none-bad)) (held h) in
-    (record { few = r .passed .few; most = most }, r .passed .m-some, r .passed .m-most)
+    let b = begun (let-down h) in
+    let p = b .ready .passed in
+    let a = start (let-down h .before .before) .args in
+    let most = held-most (a .table .rows) _ (a .step) (h .shares-at .last .0) (b .good) (held h) in
+    (record { few = p .few; most = most }, p .m-some, p .m-most)
 
 returns : tie.Need-returns
 unfolding marginHanded
 returns c =
     let m = c .before .before in
     let h = m .before in
-    let t = h .before .before .before .before in
-    let a = t .before .before .before .before .before .before .before .args in
+    let t = let-down h in
+    let a = start (t .before .before) .args in
     let same = margin-same _ _ (loadIn (h .shares-at .last .0)) (shares (a .table .rows) (a .step)) _ (held h) in
     rw (← t .before .before .admit .ensures .is, t .enum-told .given .1, ← m .meant .ensures)
     (ap accepted (search needs ∙ (c .margin-of .ensures ∙ same)))

@@ -1,31 +1,31 @@
 -- `plain::decide_in` meets its contract. Assumes nothing.
 use mathlib.Core.Bool.{true}
-use mathlib.Core.Path.{_∙_, sym}
+use mathlib.Core.Path.{_∙_}
 use Rattle.kinds.specs.Policy.{meant}
-use Rattle.share.proofs.Tables.{all-good}
-use Rattle.springs.specs.Columns.{Columns, columns, Sprung}
-use Rattle.springs.proofs.Columns.{sprung-within}
-use Rattle.admission.proofs.Chain.{Ready, admitted}
+use Rattle.springs.specs.Columns.{Columns, columns}
+use Rattle.springs.proofs.Columns.{held-columns}
+use Rattle.admission.proofs.Opened.{Opened, opened}
 use Rattle.plan.proofs.Found.{refused-found, admitted-found, answered-at, refused-held}
 use Rattle.plain.proofs.Stepping.{step-found, step-held}
 use borrow.Author.Needs.{needs}
 use Rattle.plain.proofs.decide_in.Statement.{statement}
 use Rattle.plain.proofs.decide_in.Tie as tie
 
--- an admitted call has passed every check
-ready : (c : tie.After-enum-told) → let a = c .before .before .before .before .before .before .before .args in
-    Ready true (a .settings) (a .table .rows) (a .table .n) (a .room)
-ready c = admitted _ _ _ _ _ (sym (c .before .before .admit .ensures .is) ∙ c .enum-told .given .1)
+-- the call as it was made
+abbrev start : tie.After-admit → tie.Start
+start c = let half-lent = c .before .before .before in half-lent .before .before .before .before
 
--- and its springs are in the columns
-abbrev springs : tie.After-enum-told → Columns
+-- the columns as the admission leaves them
+abbrev springs : tie.After-admit → Columns
 springs c =
-    let l = c .before .before .admit .last .1 .1 .1 .1 in
-    columns (l .0) (l .1 .0) (l .1 .1 .0) (l .1 .1 .1 .0)
+    let l = c .admit .last .1 .1 .1 .1 in
+    let rest = l .1 .1 .1 in
+    columns (l .0) (l .1 .0) (l .1 .1 .0) (rest .0) (rest .1 .0) (rest .1 .1 .0)
 
-sprung : (c : tie.After-enum-told) → let a = c .before .before .before .before .before .before .before .args in
-    Sprung (a .table .rows) (a .table .n) (springs c)
-sprung c = c .before .before .admit .ensures .sprung (c .enum-told .given .1)
+-- an admitted call has passed every check, and its springs are in the columns
+begun : (c : tie.After-enum-told) → let a = start (c .before .before) .args in
+    Opened true (a .settings) (a .table .rows) (a .table .n) (a .room) (springs (c .before .before))
+begun c = let d = c .before .before in opened true _ _ _ _ _ (springs d) (d .admit .ensures) (c .enum-told .given .1)
 
 admit-requires : tie.Need-admit-requires
 admit-requires c κs = search needs
@@ -53,10 +53,10 @@ meant-requires c κs = search needs
 
 least-step-requires : tie.Need-least-step-requires
 least-step-requires c κs =
-    let t = c .before .before .before .before .before in
-    let r = ready t in
-    let within = sprung-within _ _ (springs t) (sprung t) (all-good _ _ (r .none-bad)) in
-    (record { few = r .passed .few; long = sprung t .roomy .largest; within = within }, r .passed .m-some, r .passed .m-most)
+    let m = c .before .before .before .before in
+    let b = begun (m .before) in
+    let p = b .ready .passed in
+    (record { few = p .few; long = b .sprung .roomy .largest; within = b .within }, p .m-some, p .m-most)
 
 decide-requires-2 : tie.Need-decide-requires-2
 decide-requires-2 c κs = search needs
@@ -64,14 +64,18 @@ decide-requires-2 c κs = search needs
 returns-2 : tie.Need-returns-2
 returns-2 c =
     let l = c .before in
-    let m = l .before .before .before .before .before in
+    let lent = l .before .before .before .before in
+    let m = lent .before in
     let t = m .before in
     let d = t .before .before in
-    let p = meant (t .before .before .before .before .before .before .before .args .settings .policy) in
+    let p = meant (start d .args .settings .policy) in
+    let w = begun t .sprung in
     let h = rw (m .meant .ensures) at (l .least-step .ensures) in
     record {
-      answers = c .decide2 .ensures ∙ admitted-found true _ _ _ _ _ (d .admit .ensures .is) _ (step-found p _ _ _ (springs t) (sprung t) _ _ h);
-      held = λ q. step-held p _ _ _ (springs t) (sprung t) _ _ h _ (answered-at (c .decide2 .result) (d .admit .result) _ (c .decide2 .ensures) q);
+      answers = c .decide2 .ensures ∙ admitted-found true _ _ _ _ _ (d .admit .ensures .is) _ (step-found p _ _ _ (springs d) w _ _ h);
+      held = λ q.
+          held-columns _ _ _ (springs d) _ w
+          (step-held p _ _ _ (springs d) w _ _ h _ (answered-at (c .decide2 .result) (d .admit .result) _ (c .decide2 .ensures) q));
     }
 
 pub decide-in-spec : {M : Type 1} → statement M

@@ -3,16 +3,29 @@ use Prim.Native.Nat.{min}
 use mathlib.Core.Bool.{true}
 use lib.ListN.{length}
 use Rattle.plan.proofs.Found.{may-grant, meets}
-use Rattle.plan.specs.Plan.{FoundHeld}
+use Rattle.plan.specs.Handover.{FoundHeld}
 use borrow.Author.Needs.{needs}
 use Rattle.plain.proofs.find.Statement.{statement}
 use Rattle.plain.proofs.find.Tie as tie
 
--- the answer is what demand 2 finds in the room of the shorter output, and the first column holds the shares of its step
-answered : (c : tie.After-decide-in) → let a = c .before .before .before .before .before .before .before .before .args in
+-- the room of the outputs is the shorter one's
+abbrev lent : tie.After-decide-in → tie.After-shorter
+lent c = let half-lent = c .before .before .before in half-lent .before .before .before .before
+
+abbrev start : tie.After-decide-in → tie.Start
+start c = lent c .before .before .before
+
+-- the answer is what demand 2 finds in that room, and the columns hold what its periods come from
+answered : (c : tie.After-decide-in) → let a = start c .args in
     let room = min (length (a .periods .now)) (length (a .processors .now)) in
-    FoundHeld true (a .settings) (a .table .rows) (a .table .n) room (c .decide-in .result) (c .decide-in .last .1 .1 .1 .0)
-answered c = rw (c .before .before .before .before .before .shorter .ensures) at (c .decide-in .ensures)
+    let shares = c .decide-in .last .1 .1 .1 in
+    let saturation = shares .1 .1 .1 in
+    FoundHeld true (a .settings) (a .table .rows) (a .table .n) room (c .decide-in .result) (saturation .1 .0) (saturation .1 .1 .0) (shares .0)
+answered c = rw (lent c .shorter .ensures) at (c .decide-in .ensures)
+
+-- the call of `decide_in`, before the columns and the outputs are lent on
+abbrev decided : tie.After-grant-arg2 → tie.After-decide-in
+decided c = let columns-lent = c .before .before in columns-lent .before .before .before
 
 shorter-requires : tie.Need-shorter-requires
 shorter-requires c κs = search needs
@@ -21,7 +34,9 @@ decide-in-requires : tie.Need-decide-in-requires
 decide-in-requires c κs = search needs
 
 grant-requires : tie.Need-grant-requires
-grant-requires c κs = let f = answered (c .before .before .before) in may-grant true _ _ _ _ _ _ (f .answers) (f .held)
+grant-requires c κs =
+    let a = start (decided c) .args in
+    may-grant true _ _ (a .table .rows) _ _ _ _ _ _ (answered (decided c))
 
 same-length : tie.Need-same-length
 same-length c = search needs
@@ -32,7 +47,7 @@ same-length-2 c = search needs
 returns : tie.Need-returns
 returns c =
     let g = c .before .before .before .before in
-    meets true _ _ _ _ _ _ _ _ (answered (g .before .before .before .before) .answers) (g .grant .ensures)
+    meets true _ _ _ _ _ _ _ _ _ (answered (decided (g .before))) _ _ (g .grant .ensures)
 
 pub find-spec : {M : Type 1} → statement M
 find-spec =

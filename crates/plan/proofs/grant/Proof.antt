@@ -1,9 +1,7 @@
 -- `plan::grant` meets its contract. Assumes nothing.
 use mathlib.Core.Bool.{true}
-use mathlib.Core.Path.{_≡_, refl, _∙_, sym}
-use Rattle.kinds.specs.Answer.{isAccepted, stepOf}
-use Rattle.kinds.specs.Policy.{meant}
-use Rattle.plan.proofs.Processors.{placeable, enough, periods-held, processors-held}
+use mathlib.Core.Path.{_≡_, _∙_, sym}
+use Rattle.kinds.specs.Answer.{isAccepted}
 use Rattle.plan.proofs.Writing.{leaves-refused, leaves-accepted}
 use borrow.Author.Needs.{needs}
 use Rattle.plan.proofs.grant.Statement.{statement}
@@ -19,9 +17,8 @@ accepted-requires c κs = search needs
 write-periods-requires : tie.Need-write-periods-requires
 write-periods-requires c κs =
     let i = c .before in
-    let s = i .before .before .before .before in
-    let g = s .pre .to-periods (granted i) in
-    (g .table, g .roomy, enough _ _ (s .args .table) (stepOf (s .args .answer)) _ (s .args .shares .now) g (s .pre .held (granted i)))
+    let g = i .before .before .before .before .pre (granted i) in
+    (g .placeable .light .few, g .roomy, g .allowed)
 
 meant-requires : tie.Need-meant-requires
 meant-requires c κs = search needs
@@ -30,11 +27,7 @@ write-processors-requires : tie.Need-write-processors-requires
 write-processors-requires c κs =
     let m = c .before in
     let i = m .before .before .before .before .before in
-    let s = i .before .before .before .before in
-    let g = s .args in
-    let t = granted i in
-    rw (m .meant .ensures)
-    (placeable (meant (g .settings .policy)) _ (g .table) (stepOf (g .answer)) _ (g .shares .now) (s .pre .to-processors t) (s .pre .held t))
+    rw (m .meant .ensures) (i .before .before .before .before .pre (granted i) .placeable)
 
 same-length : tie.Need-same-length
 same-length c = search needs
@@ -48,18 +41,13 @@ returns c =
     let m = w .before .before in
     let v = m .before .before .before in
     let i = v .before .before in
-    let s = i .before .before .before .before in
-    let g = s .args in
-    let k = stepOf (g .answer) in
-    let p = s .pre in
-    let t = granted i in
-    leaves-accepted (g .answer) (g .settings) _ _ _ _ _ _ k _ t refl refl
-    (periods-held _ _ (g .table) k _ (g .shares .now) (p .to-periods t) (p .held t) _ _ (v .write-periods .ensures))
-    (processors-held _ _ (g .table) k _ (g .shares .now) (p .to-processors t) (p .held t) _ _
-    (rw (m .meant .ensures) at (w .write-processors .ensures)))
+    let a = i .before .before .before .before .args in
+    leaves-accepted (a .answer) (a .settings) (a .cost .now) (a .tmin .now) (a .shares .now) _ _ _ _ _ (granted i)
+    (v .write-periods .ensures)
+    (rw (m .meant .ensures) at (w .write-processors .ensures))
 
 returns-2 : tie.Need-returns-2
-returns-2 c = leaves-refused (c .before .before .before .before .args .answer) _ _ _ _ _ (sym (c .before .accepted .ensures) ∙ c .if1 .left)
+returns-2 c = leaves-refused (c .before .before .before .before .args .answer) _ _ _ _ _ _ _ (sym (c .before .accepted .ensures) ∙ c .if1 .left)
 
 pub grant-spec : {M : Type 1} → statement M
 grant-spec =

@@ -1,37 +1,37 @@
 -- `quick::decide_in` meets its contract. Assumes nothing.
 use mathlib.Core.Bool.{true, false}
-use mathlib.Core.Path.{_≡_, sym, _∙_}
+use mathlib.Core.Path.{_≡_, _∙_}
 use Rattle.kinds.specs.Policy.{hasFormula, meant}
-use Rattle.share.proofs.Tables.{all-good}
-use Rattle.admission.proofs.Chain.{Ready, admitted}
+use Rattle.admission.proofs.Opened.{Opened, opened}
 use Rattle.plan.proofs.Found.{refused-found, admitted-found, answered-at, refused-held}
-use Rattle.springs.specs.Columns.{Columns, columns, Sprung}
-use Rattle.springs.proofs.Columns.{sprung-within, sprung-saturates, shares-of}
+use Rattle.springs.specs.Columns.{Columns, columns}
+use Rattle.springs.proofs.Columns.{sprung-saturates, shares-of, held-columns}
 use Rattle.quick.proofs.Served.{fair, formula, least-found, no-looks, some-looks}
 use borrow.Author.Needs.{needs}
 use Rattle.quick.proofs.decide_in.Statement.{statement}
 use Rattle.quick.proofs.decide_in.Tie as tie
 
--- an admitted call has passed every check
-ready : (c : tie.After-enum-told) → let a = c .before .before .before .before .before .before .before .args in
-    Ready false (a .settings) (a .table .rows) (a .table .n) (a .room)
-ready c = admitted _ _ _ _ _ (sym (c .before .before .admit .ensures .is) ∙ c .enum-told .given .1)
+-- the call as it was made
+abbrev start : tie.After-admit → tie.Start
+start c = let half-lent = c .before .before .before in half-lent .before .before .before .before
 
--- and its springs are in the columns
-abbrev springs : tie.After-enum-told → Columns
+-- the columns as the admission leaves them
+abbrev springs : tie.After-admit → Columns
 springs c =
-    let l = c .before .before .admit .last .1 .1 .1 .1 in
-    columns (l .0) (l .1 .0) (l .1 .1 .0) (l .1 .1 .1 .0)
+    let l = c .admit .last .1 .1 .1 .1 in
+    let rest = l .1 .1 .1 in
+    columns (l .0) (l .1 .0) (l .1 .1 .0) (rest .0) (rest .1 .0) (rest .1 .1 .0)
 
-sprung : (c : tie.After-enum-told) → let a = c .before .before .before .before .before .before .before .args in
-    Sprung (a .table .rows) (a .table .n) (springs c)
-sprung c = c .before .before .admit .ensures .sprung (c .enum-told .given .1)
+-- an admitted call has passed every check, and its springs are in the columns
+begun : (c : tie.After-enum-told) → let a = start (c .before .before) .args in
+    Opened false (a .settings) (a .table .rows) (a .table .n) (a .room) (springs (c .before .before))
+begun c = let d = c .before .before in opened false _ _ _ _ _ (springs d) (d .admit .ensures) (c .enum-told .given .1)
 
 -- the policy has a formula
-formulated : (c : tie.After-enum-told) → hasFormula (meant (c .before .before .before .before .before .before .before .args .settings .policy)) ≡ true
+formulated : (c : tie.After-enum-told) → hasFormula (meant (start (c .before .before) .args .settings .policy)) ≡ true
 formulated c =
-    let p = ready c .passed in
-    formula (meant (c .before .before .before .before .before .before .before .args .settings .policy)) (p .known) (p .served)
+    let p = begun c .ready .passed in
+    formula (meant (start (c .before .before) .args .settings .policy)) (p .known) (p .served)
 
 admit-requires : tie.Need-admit-requires
 admit-requires c κs = search needs
@@ -50,41 +50,40 @@ returns c =
     let e = c .before .enum-told2 .given .1 in
     let d = c .before .before .before in
     record {
-      found =
+      held =
           record {
             answers = c .decide .ensures ∙ refused-found false _ _ _ _ _ (d .admit .ensures .is) _ _ e;
-            count = no-looks _ _ _ _ _ (d .admit .ensures .is) e;
+            held = λ t. refused-held (c .decide .result) (d .admit .result) _ _ (c .decide .ensures) e t;
           };
-      held = λ t. refused-held (c .decide .result) (d .admit .result) _ _ (c .decide .ensures) e t;
+      count = no-looks _ _ _ _ _ (d .admit .ensures .is) e;
     }
 
 meant-requires : tie.Need-meant-requires
 meant-requires c κs = search needs
 
 weights-of-requires : tie.Need-weights-of-requires
-weights-of-requires c κs = let p = ready (c .before) .passed in (p .m-some, p .m-most)
+weights-of-requires c κs = let p = begun (c .before) .ready .passed in (p .m-some, p .m-most)
 
 search-columns-requires : tie.Need-search-columns-requires
 search-columns-requires c κs =
     let w = c .before .before .before .before in
     let t = w .before .before in
-    let r = ready t in
-    let policy = meant (t .before .before .before .before .before .before .before .args .settings .policy) in (
+    let d = t .before .before in
+    let b = begun t in
+    let p = b .ready .passed in
+    let policy = meant (start d .args .settings .policy) in (
       w .weights-of .ensures .1,
-      rw (w .weights-of .ensures .0, w .before .meant .ensures) (fair policy _ (formulated t) (r .passed .m-some)),
-      record {
-        few = r .passed .few;
-        within = sprung-within _ _ (springs t) (sprung t) (all-good _ _ (r .none-bad));
-        saturates = sprung-saturates _ _ (springs t) (sprung t);
-      },
+      rw (w .weights-of .ensures .0, w .before .meant .ensures) (fair policy _ (formulated t) (p .m-some)),
+      record { few = p .few; within = b .within; saturates = sprung-saturates _ _ (springs d) (b .sprung) },
     )
 
 let-down-to-requires : tie.Need-let-down-to-requires
 let-down-to-requires c κs =
-    let w = c .before .before .before .before .before .before .before .before in
-    let t = w .before .before in
-    let r = ready t in
-    (r .passed .few, sprung t .roomy .largest, sprung-within _ _ (springs t) (sprung t) (all-good _ _ (r .none-bad)))
+    let l = c .before .before .before in
+    let lent = l .before .before .before .before in
+    let w = lent .before in
+    let b = begun (w .before .before) in
+    (b .ready .passed .few, b .sprung .roomy .largest, b .within)
 
 decide-requires-2 : tie.Need-decide-requires-2
 decide-requires-2 c κs = search needs
@@ -93,21 +92,24 @@ returns-2 : tie.Need-returns-2
 returns-2 c =
     let h = c .before in
     let l = h .before .before .before .before in
-    let w = l .before .before .before .before .before in
+    let lent = l .before .before .before .before in
+    let w = lent .before in
     let t = w .before .before in
     let d = t .before .before in
-    let policy = meant (t .before .before .before .before .before .before .before .args .settings .policy) in
+    let policy = meant (start d .args .settings .policy) in
+    let sprung = begun t .sprung in
     let ends = rw (w .weights-of .ensures .0, w .before .meant .ensures) at (l .search-columns .ensures) in
-    let f = least-found policy _ _ _ (springs t) (sprung t) (formulated t) _ ends in
+    let f = least-found policy _ _ _ (springs d) sprung (formulated t) _ ends in
     record {
-      found =
+      held =
           record {
             answers = c .decide2 .ensures ∙ admitted-found false _ _ _ _ _ (d .admit .ensures .is) _ (f .least);
-            count = some-looks _ _ _ _ _ (d .admit .ensures .is) _ (t .enum-told .given .1) (f .count);
+            held = λ q.
+                held-columns _ _ _ (springs d) _ sprung
+                (shares-of _ _ (springs d) sprung _ _
+                (h .let-down-to .ensures _ (answered-at (c .decide2 .result) (d .admit .result) _ (c .decide2 .ensures) q)));
           };
-      held = λ q.
-          shares-of _ _ (springs t) (sprung t) _ _
-          (h .let-down-to .ensures _ (answered-at (c .decide2 .result) (d .admit .result) _ (c .decide2 .ensures) q));
+      count = some-looks _ _ _ _ _ (d .admit .ensures .is) _ (t .enum-told .given .1) (f .count);
     }
 
 pub decide-in-spec : {M : Type 1} → statement M

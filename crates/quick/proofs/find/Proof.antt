@@ -4,17 +4,30 @@ use mathlib.Core.Bool.{false}
 use native.Mathlib.Omega.{arith}
 use lib.ListN.{length}
 use Rattle.plan.proofs.Found.{may-grant, meets}
-use Rattle.quick.specs.Held.{FoundLookedHeld}
+use Rattle.quick.specs.Handover.{FoundLookedHeld}
 use Rattle.quick.proofs.Served.{looks-few}
 use borrow.Author.Needs.{needs}
 use Rattle.quick.proofs.find.Statement.{statement}
 use Rattle.quick.proofs.find.Tie as tie
 
--- the answer and the looks are those for the room of the shorter output, and the first column holds the shares of the answer's step
-answered : (c : tie.After-decide-in) → let a = c .before .before .before .before .before .before .before .before .args in
+-- the room of the outputs is the shorter one's
+abbrev lent : tie.After-decide-in → tie.After-shorter
+lent c = let half-lent = c .before .before .before in half-lent .before .before .before .before
+
+abbrev start : tie.After-decide-in → tie.Start
+start c = lent c .before .before .before
+
+-- the answer and the looks are those for that room, and the columns hold what the answer's periods come from
+answered : (c : tie.After-decide-in) → let a = start c .args in
     let room = min (length (a .periods .now)) (length (a .processors .now)) in
-    FoundLookedHeld (a .settings) (a .table .rows) (a .table .n) room (c .decide-in .result) (c .decide-in .last .1 .1 .1 .0)
-answered c = rw (c .before .before .before .before .before .shorter .ensures) at (c .decide-in .ensures)
+    let largest = c .decide-in .last .1 .1 .1 in
+    let saturation = largest .1 .1 .1 in
+    FoundLookedHeld (a .settings) (a .table .rows) (a .table .n) room (c .decide-in .result) (saturation .1 .0) (saturation .1 .1 .0) (largest .0)
+answered c = rw (lent c .shorter .ensures) at (c .decide-in .ensures)
+
+-- the call of `decide_in`, before the columns and the outputs are lent on
+abbrev decided : tie.After-grant-arg2 → tie.After-decide-in
+decided c = let columns-lent = c .before .before in columns-lent .before .before .before
 
 shorter-requires : tie.Need-shorter-requires
 shorter-requires c κs = search needs
@@ -23,7 +36,9 @@ decide-in-requires : tie.Need-decide-in-requires
 decide-in-requires c κs = search needs
 
 grant-requires : tie.Need-grant-requires
-grant-requires c κs = let f = answered (c .before .before .before) in may-grant false _ _ _ _ _ _ (f .found .answers) (f .held)
+grant-requires c κs =
+    let a = start (decided c) .args in
+    may-grant false _ _ (a .table .rows) _ _ _ _ _ _ (answered (decided c) .held)
 
 same-length : tie.Need-same-length
 same-length c = search needs
@@ -34,12 +49,12 @@ same-length-2 c = search needs
 returns : tie.Need-returns
 returns c =
     let g = c .before .before .before .before in
-    let d = g .before .before .before .before in
-    let f = answered d .found in
-    let a = d .before .before .before .before .before .before .before .before .args in
+    let d = decided (g .before) in
+    let f = answered d in
+    let a = start d .args in
     let room = min (length (a .periods .now)) (length (a .processors .now)) in
     record {
-      meets = meets false _ _ _ _ _ _ _ _ (f .answers) (g .grant .ensures);
+      meets = meets false _ _ _ _ _ _ _ _ _ (f .held) _ _ (g .grant .ensures);
       count = f .count;
       few = omega (arith, f .count, looks-few (a .settings) (a .table .rows) (a .table .n) room);
     }

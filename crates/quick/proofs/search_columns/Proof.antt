@@ -2,7 +2,7 @@
 use Prim.Native.Nat.{_+_, _-_, _<_}
 use mathlib.Core.Path.{refl, sym}
 use native.Mathlib.Omega.{arith}
-use Rattle.springs.specs.Spring.{SumIs}
+use Rattle.springs.specs.Handover.{SumIs}
 use Rattle.springs.specs.Columns.{springIn}
 use Rattle.quick.proofs.Loop.{Standing, due-first, next-in, first-passes, first-fails, none-due, look-due, divides, next-passes, next-fails}
 use Rattle.quick.proofs.search_columns.Statement.{statement}
@@ -38,7 +38,8 @@ returns : tie.Need-returns Inv-loop μ-loop
 returns c =
     let l = c .before in
     let a = l .before .args in
-    first-passes (a .w) (l .before .pre .1) (springIn (a .largest .now) (a .least .now) (a .elasticity .now)) (a .n) _ _ refl (l .look .ensures .0) (c .if1 .taken)
+    let springs = springIn (a .largest .now) (a .least .now) (a .elasticity .now) in
+    first-passes (a .w) (l .before .pre .1) springs (a .n) _ _ refl (l .look .ensures .0) (c .if1 .taken)
 
 next-due-requires : tie.Need-next-due-requires Inv-loop μ-loop
 next-due-requires c κs = c .before .before .pre .2 .few
@@ -58,7 +59,8 @@ look-requires-2 c κs =
     let l = c .before in
     let s = l .before .before .before .before in
     let a = s .args in
-    let d = look-due (a .w) (s .pre .1) (springIn (a .largest .now) (a .least .now) (a .elasticity .now)) (a .n) _ _ (l .loop .inv .0) (c .loop-test .taken) (s .pre .2 .few) in
+    let springs = springIn (a .largest .now) (a .least .now) (a .elasticity .now) in
+    let d = look-due (a .w) (s .pre .1) springs (a .n) _ _ (l .loop .inv .0) (c .loop-test .taken) (s .pre .2 .few) in
     (s .pre .0, s .pre .2 .few, s .pre .2 .within, d .0, d .1)
 
 divide-requires : tie.Need-divide-requires Inv-loop μ-loop
@@ -67,7 +69,11 @@ divide-requires c κs =
     let l = k .before .before in
     let s = l .before .before .before .before in
     let a = s .args in
-    (s .pre .0, s .pre .1, divides (a .w) (s .pre .1) (springIn (a .largest .now) (a .least .now) (a .elasticity .now)) (a .n) _ _ (l .loop .inv .0) (k .before .loop-test .taken) _ (k .look2 .ensures .0) (a .saturation .now) (s .pre .2), rw (k .look2 .ensures .0 .from) (l .loop .inv .1))
+    let springs = springIn (a .largest .now) (a .least .now) (a .elasticity .now) in
+    let looked = k .look2 .ensures .0 in
+    let stretch =
+    divides (a .w) (s .pre .1) springs (a .n) _ _ (l .loop .inv .0) (k .before .loop-test .taken) _ looked (a .saturation .now) (s .pre .2) in
+    (s .pre .0, s .pre .1, stretch, rw (looked .from) (l .loop .inv .1))
 
 returns-2 : tie.Need-returns-2 Inv-loop μ-loop
 returns-2 c =
@@ -75,7 +81,9 @@ returns-2 c =
     let l = k .before .before in
     let s = l .before .before .before .before in
     let a = s .args in
-    next-passes (a .w) (s .pre .1) (springIn (a .largest .now) (a .least .now) (a .elasticity .now)) (a .n) _ _ (l .loop .inv .0) (k .before .loop-test .taken) _ (k .look2 .ensures .0) _ (c .before .if2 .taken) (c .divide .ensures)
+    let springs = springIn (a .largest .now) (a .least .now) (a .elasticity .now) in
+    next-passes (a .w) (s .pre .1) springs (a .n) _ _ (l .loop .inv .0) (k .before .loop-test .taken) _ (k .look2 .ensures .0) _
+    (c .before .if2 .taken) (c .divide .ensures)
 
 next-due-requires-2 : tie.Need-next-due-requires-2 Inv-loop μ-loop
 next-due-requires-2 c κs = c .before .before .before .before .before .before .before .pre .2 .few
@@ -91,7 +99,8 @@ returns-3 c =
     let l = c .before in
     let s = l .before .before .before .before in
     let a = s .args in
-    none-due (a .w) (s .pre .1) (springIn (a .largest .now) (a .least .now) (a .elasticity .now)) (a .n) _ _ (l .loop .inv .0) (omega (arith, c .loop-test .left))
+    let springs = springIn (a .largest .now) (a .least .now) (a .elasticity .now) in
+    none-due (a .w) (s .pre .1) springs (a .n) _ _ (l .loop .inv .0) (omega (arith, c .loop-test .left))
 
 pub search-columns-spec : {M : Type 1} → statement M
 search-columns-spec =

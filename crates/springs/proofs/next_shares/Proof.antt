@@ -1,9 +1,10 @@
 -- `springs::next_shares` meets its contract. Assumes nothing.
 use Prim.Native.Nat.{ℕ, _-_, _≤_}
-use mathlib.Core.Path.{_≡_, sym, _∙_}
+use mathlib.Core.Path.{_≡_, _∙_}
 use native.Mathlib.Omega.{arith}
 use Rattle.ground.proofs.Buffer.{Front, front-none}
-use Rattle.springs.specs.Spring.{shareOn, SumIs}
+use Rattle.springs.specs.Spring.{shareOn}
+use Rattle.springs.specs.Handover.{SumIs}
 use Rattle.springs.specs.Columns.{springIn}
 use Rattle.springs.proofs.Carried.{one-step, share-most, of-largest, shares-more, shares-written, sum-start, sum-on}
 use Rattle.springs.proofs.next_shares.Statement.{statement}

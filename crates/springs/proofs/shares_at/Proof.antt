@@ -1,6 +1,6 @@
 -- `springs::shares_at` meets its contract. Assumes nothing.
 use Prim.Native.Nat.{ℕ, _-_, _≤_}
-use mathlib.Core.Path.{_≡_, sym, _∙_}
+use mathlib.Core.Path.{_∙_}
 use native.Mathlib.Omega.{arith}
 use Rattle.ground.proofs.Buffer.{Front, front-none}
 use Rattle.springs.specs.Spring.{shareOn}

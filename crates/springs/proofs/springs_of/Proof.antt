@@ -1,22 +1,24 @@
 -- `springs::springs_of` meets its contract. Assumes nothing.
 use Prim.Native.Nat.{ℕ, _-_, _≤_, _<_}
 use mathlib.Core.Bool.{false, not}
-use mathlib.Core.Path.{_≡_}
+use mathlib.Core.Path.{_≡_, refl}
 use native.Mathlib.Omega.{arith}
 use Rattle.ground.proofs.First.{bad-here, bad-more, bad-none}
 use Rattle.kinds.specs.Task.{at, isGood}
 use Rattle.share.specs.Table.{firstBad}
-use Rattle.springs.specs.Columns.{columns, Sprung}
+use Rattle.springs.specs.Columns.{columns}
+use Rattle.springs.specs.Handover.{Sprung}
 use Rattle.springs.proofs.Columns.{sprung-none, sprung-more, found-good, good-within}
 use Rattle.springs.proofs.springs_of.Statement.{statement}
 use Rattle.springs.proofs.springs_of.Tie as tie
 
 abbrev Inv-loop : tie.InvT-loop
-Inv-loop largest₀ least₀ elasticity₀ saturation₀ table n i₀ largest least elasticity saturation i =
-    (i ≤ n) × ((j : ℕ) → j < i → not (isGood (at (table .rows) j)) ≡ false) × Sprung (table .rows) i (columns largest least elasticity saturation)
+Inv-loop largest₀ least₀ elasticity₀ saturation₀ cost₀ tmin₀ table n i₀ largest least elasticity saturation cost tmin i =
+    (i ≤ n) × ((j : ℕ) → j < i → not (isGood (at (table .rows) j)) ≡ false)
+    × Sprung (table .rows) i (columns largest least elasticity saturation cost tmin)
 
 abbrev μ-loop : tie.MeasureT-loop
-μ-loop largest₀ least₀ elasticity₀ saturation₀ table n i₀ largest least elasticity saturation i = n - i
+μ-loop largest₀ least₀ elasticity₀ saturation₀ cost₀ tmin₀ table n i₀ largest least elasticity saturation cost tmin i = n - i
 
 loop-holds : tie.Need-loop-holds Inv-loop μ-loop
 loop-holds c = (omega arith, λ j l. absurd (omega arith), sprung-none _ _ (c .pre .1))
@@ -70,6 +72,28 @@ mul-saturation c = omega arith
 element-write-saturation : tie.Need-element-write-saturation Inv-loop μ-loop
 element-write-saturation c = omega arith
 
+cost-requires : tie.Need-cost-requires Inv-loop μ-loop
+cost-requires c κs = tt
+
+-- a good record's cost
+cast-cost : tie.Need-cast-cost Inv-loop μ-loop
+cast-cost c =
+    let i = c .before .before .before in
+    let g = found-good _ _ (i .before .good2 .ensures) (i .if1 .left) in
+    omega (arith, c .cost .ensures, g .c-tmin, g .tmin-tmax, g .tmax-most)
+
+mul-cost : tie.Need-mul-cost Inv-loop μ-loop
+mul-cost c = omega arith
+
+element-write-cost : tie.Need-element-write-cost Inv-loop μ-loop
+element-write-cost c = omega arith
+
+mul-tmin : tie.Need-mul-tmin Inv-loop μ-loop
+mul-tmin c = omega arith
+
+element-write-tmin : tie.Need-element-write-tmin Inv-loop μ-loop
+element-write-tmin c = omega arith
+
 add-i : tie.Need-add-i Inv-loop μ-loop
 add-i c = omega arith
 
@@ -78,14 +102,15 @@ loop-less c = omega arith
 
 loop-again : tie.Need-loop-again Inv-loop μ-loop
 loop-again c =
-    let f = c .before in
+    let s = c .before in
+    let f = s .before in
     let i = f .before in
     let g = i .before in
     let l = g .before .before .before in
     let t = l .before .args .t1 in (
       omega arith,
       bad-more (λ j. isGood (at (t .rows) j)) (t .n) _ (l .loop .inv .1) _ (g .good2 .ensures) (i .if1 .left),
-      sprung-more _ _ _ _ _ (l .loop .inv .2) (omega arith) (f .spring-of .ensures) (c .saturation-on .ensures),
+      sprung-more _ _ _ _ _ _ _ (l .loop .inv .2) (omega arith) (f .spring-of .ensures) (s .saturation-on .ensures) (c .cost .ensures) refl,
     )
 
 returns-2 : tie.Need-returns-2 Inv-loop μ-loop
@@ -116,6 +141,12 @@ springs-of-spec =
     saturation-on-requires
     mul-saturation
     element-write-saturation
+    cost-requires
+    cast-cost
+    mul-cost
+    element-write-cost
+    mul-tmin
+    element-write-tmin
     add-i
     loop-less
     loop-again

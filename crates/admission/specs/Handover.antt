@@ -1,4 +1,4 @@
--- What the admission hands on beside its answer.
+-- What the admission hands each call beside its answer.
 -- Assumes nothing.
 use Prim.Native.Nat.{ℕ}
 use mathlib.Core.Bool.{Bool}
@@ -6,7 +6,8 @@ use mathlib.Core.List.{List}
 use mathlib.Core.Path.{_≡_}
 use Rattle.kinds.specs.declared.Task.{Task}
 use Rattle.kinds.specs.declared.Settings.{Settings}
-use Rattle.springs.specs.Columns.{Columns, Sprung}
+use Rattle.springs.specs.Columns.{Columns}
+use Rattle.springs.specs.Handover.{Sprung}
 use Rattle.kinds.specs.declared.Verdict.{Verdict}
 use Rattle.kinds.specs.declared.Verdict.the-variants.{Accepted}
 use Rattle.admission.specs.Admission.{admission}

@@ -1,4 +1,4 @@
--- The search for a step over columns of springs.
+-- What the search for a step over columns of springs relies on and hands on.
 -- Assumes nothing.
 use Prim.Native.Nat.{ℕ, _≤_}
 use mathlib.Core.Bool.{Bool}
@@ -12,8 +12,9 @@ use Rattle.ground.specs.Least.{leastUpTo}
 use Rattle.kinds.specs.declared.Policy.{Policy}
 use Rattle.kinds.specs.Limits.{mostTasks}
 use Rattle.springs.specs.declared.Spring.{Spring}
-use Rattle.springs.specs.Spring.{sharesOn, AllWithin}
-use Rattle.springs.specs.Columns.{springIn, SharesAre}
+use Rattle.springs.specs.Spring.{sharesOn}
+use Rattle.springs.specs.Handover.{AllWithin, SharesAre}
+use Rattle.springs.specs.Columns.{springIn}
 use Rattle.policy.specs.Passing.{passes}
 
 -- what the search relies on

@@ -1,0 +1,46 @@
+-- What the finders and the writing of a plan hand each other.
+-- Assumes nothing.
+use Prim.Native.Nat.{ℕ, _≤_}
+use mathlib.Core.Bool.{Bool, true}
+use mathlib.Core.List.{List}
+use mathlib.Core.Path.{_≡_}
+use Rattle.ground.specs.Folds.{listTo}
+use Rattle.kinds.specs.declared.Task.{Task}
+use Rattle.kinds.specs.declared.Policy.{Policy}
+use Rattle.kinds.specs.declared.Settings.{Settings}
+use Rattle.kinds.specs.declared.Answer.{Answer}
+use Rattle.kinds.specs.Answer.{Handed, after, handed, isAccepted, stepOf}
+use Rattle.kinds.specs.Limits.{mostProcessors}
+use Rattle.kinds.specs.Policy.{meant}
+use Rattle.springs.specs.Columns.{periodIn}
+use Rattle.springs.specs.Handover.{Held, Allowed}
+use Rattle.fit.specs.Fit.{loadIn, Loads}
+use Rattle.policy.specs.Passing.{passes}
+use Rattle.plan.specs.Plan.{processorOn, found}
+
+-- an answer, and of an acceptance the columns that its periods come from
+pub record FoundHeld (serves : Bool) (s : Settings) (rows : List Task) (n room : ℕ) (answer : Answer) (cost tmin shares : List ℕ) : Type 0 where
+  pub answers : handed answer ≡ found serves s rows n room
+  pub held : isAccepted answer ≡ true → Held rows n (stepOf answer) cost tmin shares
+
+-- what the writing of processors relies on
+pub record Placeable (p : Policy) (m : ℕ) (loads : List ℕ) (n room : ℕ) : Type 0 where
+  pub light : Loads loads n
+  pub m-most : m ≤ mostProcessors
+  pub roomy : n ≤ room
+  pub passing : passes p m (loadIn loads) n ≡ true
+
+-- what the writing of a plan relies on
+pub record Grantable (p : Policy) (m : ℕ) (cost tmin shares : List ℕ) (n periods processors : ℕ) : Type 0 where
+  pub allowed : Allowed cost tmin shares n
+  pub roomy : n ≤ periods
+  pub placeable : Placeable p m shares n processors
+
+abbrev pub MayGrant : Answer → Settings → List ℕ → List ℕ → List ℕ → ℕ → ℕ → ℕ → Type 0
+MayGrant answer s cost tmin shares n periods processors =
+    isAccepted answer ≡ true → Grantable (meant (s .policy)) (s .m) cost tmin shares n periods processors
+
+-- what the writing of a plan leaves in the two outputs
+pub record Leaves (h : Handed ℕ) (s : Settings) (cost tmin shares : List ℕ) (n : ℕ) (oldPeriods oldProcessors periods processors : List ℕ) : Type 0 where
+  pub periods-are : periods ≡ after h (listTo (periodIn cost tmin shares) n) n oldPeriods
+  pub processors-are : processors ≡ after h (listTo (processorOn (meant (s .policy)) (s .m) (loadIn shares)) n) n oldProcessors

@@ -1,0 +1,75 @@
+-- What the functions of the springs and their callers hand each other: springs and columns that hold what they should.
+-- Assumes nothing.
+use Prim.Native.Nat.{ℕ, _*_, _≤_, _<_}
+use mathlib.Core.List.{List}
+use mathlib.Core.Path.{_≡_}
+use lib.ListN.{length, getD}
+use Rattle.ground.specs.Folds.{sumTo}
+use Rattle.kinds.specs.declared.Task.{Task}
+use Rattle.kinds.specs.Limits.{scale, greatestElasticity, longestPeriod, mostTasks}
+use Rattle.kinds.specs.Task.{at}
+use Rattle.share.specs.Share.{costOf, shareAt, saturationAt}
+use Rattle.share.specs.Table.{firstBad}
+use Rattle.springs.specs.declared.Spring.{Spring}
+use Rattle.springs.specs.Spring.{springOf, shareOn, saturationOn, sharesOn}
+use Rattle.springs.specs.Columns.{Columns, springsIn, periodIn}
+
+-- the sum of the shares at step k
+pub record SumIs (springs : ℕ → Spring) (n k sum : ℕ) : Type 0 where
+  pub is : sum ≡ sumTo (sharesOn springs k) n
+  pub most : sum ≤ scale * n
+
+-- the least share is at most the largest, and no number is above a good task's
+pub record Within (s : Spring) : Type 0 where
+  pub largest-most : s .largest ≤ scale
+  pub least-largest : s .least ≤ s .largest
+  pub elasticity-most : s .elasticity ≤ greatestElasticity
+
+abbrev pub AllWithin : (ℕ → Spring) → ℕ → Type 0
+AllWithin springs n = (i : ℕ) → i < n → Within (springs i)
+
+-- a column of saturation steps goes with three columns
+abbrev pub Saturates : (ℕ → Spring) → List ℕ → ℕ → Type 0
+Saturates springs saturation n = (i : ℕ) → i < n → getD saturation i 0 ≡ saturationOn (springs i)
+
+-- a column holds the shares of springs at step k
+pub record SharesAre (springs : ℕ → Spring) (n k : ℕ) (shares : List ℕ) : Type 0 where
+  pub long : length shares ≡ mostTasks
+  pub are : (i : ℕ) → i < n → getD shares i 0 ≡ shareOn (springs i) k
+
+-- a column holds the shares of the first n of some records at step k
+abbrev pub SharesOf : List Task → ℕ → ℕ → List ℕ → Type 0
+SharesOf rows n k shares = (i : ℕ) → i < n → getD shares i 0 ≡ shareAt (at rows i) k
+
+-- columns hold all that the periods of the first n of some records at step k come from
+pub record Held (rows : List Task) (n k : ℕ) (cost tmin shares : List ℕ) : Type 0 where
+  pub costs : (i : ℕ) → i < n → getD cost i 0 ≡ costOf (at rows i)
+  pub tmins : (i : ℕ) → i < n → getD tmin i 0 ≡ at rows i .tmin
+  pub shares-are : SharesOf rows n k shares
+
+-- each of the first n has a share, and a period within the limit
+pub record Allowed (cost tmin shares : List ℕ) (n : ℕ) : Type 0 where
+  pub some : (i : ℕ) → i < n → 1 ≤ getD shares i 0
+  pub most : (i : ℕ) → i < n → periodIn cost tmin shares i ≤ longestPeriod
+
+-- each column has room for the most tasks
+pub record Roomy (s : Columns) : Type 0 where
+  pub largest : length (s .largest) ≡ mostTasks
+  pub least : length (s .least) ≡ mostTasks
+  pub elasticity : length (s .elasticity) ≡ mostTasks
+  pub saturation : length (s .saturation) ≡ mostTasks
+  pub cost : length (s .cost) ≡ mostTasks
+  pub tmin : length (s .tmin) ≡ mostTasks
+
+-- the columns hold the springs of the first n of some records, their saturation steps, costs and shortest periods
+pub record Sprung (rows : List Task) (n : ℕ) (s : Columns) : Type 0 where
+  pub roomy : Roomy s
+  pub springs : (i : ℕ) → i < n → springsIn s i ≡ springOf (at rows i)
+  pub saturates : (i : ℕ) → i < n → getD (s .saturation) i 0 ≡ saturationAt (at rows i)
+  pub costs : (i : ℕ) → i < n → getD (s .cost) i 0 ≡ costOf (at rows i)
+  pub tmins : (i : ℕ) → i < n → getD (s .tmin) i 0 ≡ at rows i .tmin
+
+-- those before the first record that is not good, which is number r; it is n where all are
+pub record SprungUntil (rows : List Task) (n r : ℕ) (s : Columns) : Type 0 where
+  pub first : r ≡ firstBad rows n
+  pub sprung : Sprung rows r s
