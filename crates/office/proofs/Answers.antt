@@ -153,7 +153,9 @@ module _ (rows other : List Task) (n : ℕ) (agree : n ≤ mostTasks → (i : �
       few-of rows n room h (length (textTo rows n)) refl ∙ sym (few-of other n room h (length (textTo rows n)) (sym e)))
       (λ h. many-of rows n room h ∙ sym (many-of other n room h))
 
-  pub after-same : (old : List ℕ) → afterCarry (exportHanded rows n (length old)) (textTo rows n) old ≡ afterCarry (exportHanded other n (length old)) (textTo other n) old
+  pub after-same : (old : List ℕ)
+      → afterCarry (exportHanded rows n (length old)) (textTo rows n) old
+      ≡ afterCarry (exportHanded other n (length old)) (textTo other n) old
   after-same old =
       by-le n mostTasks
       (λ h. rw (handed-same (length old), text-same rows other n (agree h)))
