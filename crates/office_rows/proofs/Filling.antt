@@ -56,7 +56,8 @@ module _ (rows old : List Task) where
   unfolding filled
   filled-is zero h l = refl
   filled-is (suc n) h l =
-      ap (λ (x : List Task). set x n (at rows n)) (filled-is n (omega arith) (omega arith) ∙ ap (λ (x : List Task). take n rows ++ x) (drop-cons old n noTask l))
+      ap (λ (x : List Task). set x n (at rows n)) (filled-is n (omega arith) (omega arith)
+      ∙ ap (λ (x : List Task). take n rows ++ x) (drop-cons old n noTask l))
       ∙ (set-at (take n rows) (getD old n noTask) (drop (suc n) old) (at rows n) n (length-take-le n rows (omega arith))
       ∙ sym (ap (λ (x : List Task). x ++ drop (suc n) old) (take-suc rows n noTask h) ∙ append-assoc (take n rows) (at rows n ∷ []) (drop (suc n) old)))
 
