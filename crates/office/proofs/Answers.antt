@@ -24,7 +24,8 @@ use Rattle.kinds.specs.declared.Counted.the-variants.{Count, Refused}
 use Rattle.office.specs.declared.Imported.{Imported}
 use Rattle.office.specs.Text.{textTo}
 use Rattle.office.specs.Reading.{Rows, Not, readText, rowsOf}
-use Rattle.office.specs.Carrying.{carry, importHanded, exportHanded, afterCarry, Imports, Exports, tableOf, Reads, importedNot}
+use Rattle.office.specs.Carrying.{carry, importHanded, exportHanded, afterCarry, Imports, Exports, tableOf, Reads}
+use Rattle.office.specs.Handover.{importedNot}
 use Rattle.office.proofs.Lines.{Going, going-end}
 use Rattle.office.proofs.Texts.{text-same}
 

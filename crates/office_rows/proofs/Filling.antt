@@ -16,7 +16,7 @@ use Rattle.walk.proofs.Padding.{padded-long, padded-front}
 use Rattle.office.specs.declared.Imported.{Imported}
 use Rattle.office.specs.Carrying.{Imports, Reads}
 use Rattle.office.proofs.Landing.{landing, lands}
-use Rattle.office_rows.specs.Filled.{filled}
+use Rattle.office_rows.specs.Handover.{filled}
 
 module _ (rows old : List Task) where
   filled-none : filled rows old 0 ≡ old

@@ -52,7 +52,7 @@ use Rattle.office.proofs.import as core
 use Rattle.office.proofs.import.Symbol as core-def
 use Rattle.office.proofs.import.Symbol.{name as #office·import}
 use Rattle.office.proofs.import.Met as core-thm
-use Rattle.office_rows.specs.Filled.{filled}
+use Rattle.office_rows.specs.Handover.{filled}
 use Rattle.walk.proofs.Gets.{Asks, gets-is}
 use Rattle.office_rows.proofs.Facts.{gets, gets-val}
 use Rattle.office_rows.proofs.Filling.{room-enough, imports}

@@ -53,7 +53,7 @@ use denote.Exit.{yes}
 use Rattle.kinds.specs.declared.Task.{Task}
 use Rattle.kinds.specs.declared.Table.{Table}
 use Rattle.kinds.specs.Task.{noTask}
-use Rattle.office_rows.specs.Filled.{filled}
+use Rattle.office_rows.specs.Handover.{filled}
 use Rattle.kinds.proofs.Task as P
 use Rattle.kinds.proofs.Task.Laws as P′
 use Rattle.kinds.proofs.Table as T
