@@ -9,8 +9,10 @@ use Rattle.share.specs.Table.{fullCompression, periodsAt}
 use Rattle.policy.specs.Sides.{marginOf}
 use Rattle.policy.specs.Passing.{passes, leastStep}
 use Rattle.policy.specs.Looks.{isNew, distinct, distinctBelow, looksOf}
+use Rattle.plan.specs.Plan.{processorsAt}
 use Rattle.cases.specs.Bench.{workedOut, bench, BenchRight}
 
 pub bench-right : BenchRight
-unfolding bench workedOut leastStep leastUpTo firstBelow firstFrom passes sumTo maxTo countTo anyTo listTo shareAt saturationAt periodAt fullCompression periodsAt marginOf isNew distinct distinctBelow looksOf
+unfolding bench workedOut leastStep leastUpTo firstBelow firstFrom passes sumTo maxTo countTo anyTo listTo shareAt saturationAt periodAt
+    fullCompression periodsAt processorsAt marginOf isNew distinct distinctBelow looksOf
 bench-right = refl

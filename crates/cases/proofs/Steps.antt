@@ -6,8 +6,9 @@ use Rattle.ground.specs.First.{firstFrom, firstBelow}
 use Rattle.ground.specs.Least.{leastUpTo}
 use Rattle.share.specs.Share.{shareAt, saturationAt, periodAt}
 use Rattle.share.specs.Table.{fullCompression, periodsAt}
-use Rattle.fit.specs.Fit.{lowestRoom, loadsAfter, placeAt, stuckAt, fits, placesTo}
+use Rattle.fit.specs.Fit.{lowestRoom, loadsAfter, placeAt, stuckAt, fits}
 use Rattle.policy.specs.Passing.{passes, leastStep}
+use Rattle.plan.specs.Plan.{processorsAt}
 use Rattle.cases.specs.Steps.{passing, StepsOfJ, StepsOfK}
 
 pub steps-of-j : StepsOfJ
@@ -15,5 +16,6 @@ unfolding passing passes sumTo maxTo listTo shareAt saturationAt periodAt fullCo
 steps-of-j = record { full = refl; beside = refl; periods = refl }
 
 pub steps-of-k : StepsOfK
-unfolding passing leastStep leastUpTo firstBelow firstFrom passes fits stuckAt placeAt loadsAfter lowestRoom placesTo maxTo listTo shareAt saturationAt periodAt fullCompression periodsAt
+unfolding passing leastStep leastUpTo firstBelow firstFrom passes fits stuckAt placeAt loadsAfter lowestRoom maxTo listTo shareAt saturationAt
+    periodAt fullCompression periodsAt processorsAt
 steps-of-k = record { full = refl; all = refl; answer = refl; periods = refl; processors = refl }

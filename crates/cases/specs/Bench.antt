@@ -4,19 +4,20 @@ use Prim.Native.Nat.{ℕ}
 use mathlib.Core.List.{List, [], _∷_, map}
 use mathlib.Core.Path.{_≡_}
 use lib.IntN.{ℤ, pos, negsuc}
-use lib.ListN.{length}
-use Rattle.ground.specs.declared.Step.{Step}
-use Rattle.ground.specs.declared.Step.the-variants.{At, Nothing}
+use lib.ListN.{length, replicate}
 use Rattle.ground.specs.Folds.{listTo}
 use Rattle.kinds.specs.declared.Task.{Task}
 use Rattle.kinds.specs.declared.Policy.{Policy}
 use Rattle.kinds.specs.declared.Policy.the-variants.{Pooled, GlobalEdf, GlobalRm}
+use Rattle.kinds.specs.declared.Verdict.the-variants.{Accepted}
+use Rattle.kinds.specs.Answer.{Handed, accepted}
 use Rattle.kinds.specs.Task.{task, at}
 use Rattle.share.specs.Share.{saturationAt}
-use Rattle.share.specs.Table.{shares, periodsAt}
+use Rattle.share.specs.Table.{shares}
 use Rattle.policy.specs.Sides.{marginOf}
 use Rattle.policy.specs.Passing.{leastStep}
 use Rattle.policy.specs.Looks.{looksOf}
+use Rattle.plan.specs.Plan.{decided, periodsAfter, processorsAfter}
 
 -- a bench setting
 pub record Setting : Type 0 where
@@ -24,35 +25,36 @@ pub record Setting : Type 0 where
   pub m : ℕ
   pub tasks : List Task
 
--- what the definitions give for it; at the step that is handed back also the shares and the margin
+-- what an admitted call hands back for it and leaves in the two outputs, and what that comes from: the saturation steps, and at the step that
+-- is handed back the shares and the margin
 pub record Outcome : Type 0 where
   pub saturations : List ℕ
-  pub answer : Step
+  pub handed : Handed ℕ
   pub looks : ℕ
   pub periods : List ℕ
+  pub processors : List ℕ
   pub sharesThere : List ℕ
   pub marginThere : ℤ
 
--- Nothing is refusal 7: its step is 0, and it grants no periods
-abbrev pub stepIn : Step → ℕ
-stepIn (At k) = k
-stepIn Nothing = 0
+-- an output as it is lent: an entry for each task, and none that an answer has
+abbrev pub lent : ℕ → List ℕ
+lent n = replicate n 7
 
-abbrev pub granted : List Task → Step → List ℕ
-granted tasks (At k) = periodsAt tasks (length tasks) k
-granted tasks Nothing = []
-
+-- by the definitions that the finders promise, for a call that is admitted: which policies are served is no part of the bench
 unfoldable pub workedOut : Setting → Outcome
 workedOut s =
     let n = length (s .tasks) in
-    let answer = leastStep (s .policy) (s .m) (s .tasks) n in
+    let least = leastStep (s .policy) (s .m) (s .tasks) n in
+    let handed = decided Accepted least in
+    let there = shares (s .tasks) (handed .value) in
     record {
       saturations = listTo (λ i. saturationAt (at (s .tasks) i)) n;
-      answer = answer;
-      looks = looksOf (s .tasks) n answer;
-      periods = granted (s .tasks) answer;
-      sharesThere = listTo (shares (s .tasks) (stepIn answer)) n;
-      marginThere = marginOf (s .policy) (s .m) (shares (s .tasks) (stepIn answer)) n;
+      handed = handed;
+      looks = looksOf (s .tasks) n least;
+      periods = periodsAfter handed (s .tasks) n (lent n);
+      processors = processorsAfter handed (record { policy = s .policy; m = s .m }) (s .tasks) n (lent n);
+      sharesThere = listTo there n;
+      marginThere = marginOf (s .policy) (s .m) there n;
     }
 
 -- a line of the bench
@@ -63,53 +65,128 @@ pub record Case : Type 0 where
 abbrev pub six : Task
 six = task 6 10 20 1000
 
+abbrev pub third : Task
+third = task 1 3 3 0
+
 -- the cases with a star
 unfoldable pub bench : List Case
 bench =
     -- A
     record {
       setting = record { policy = Pooled; m = 1; tasks = [] };
-      outcome = record { saturations = []; answer = At 0; looks = 1; periods = []; sharesThere = []; marginThere = pos 1000000 };
+      outcome = record {
+        saturations = [];
+        handed = accepted 0;
+        looks = 1;
+        periods = [];
+        processors = [];
+        sharesThere = [];
+        marginThere = pos 1000000;
+      };
     } ∷
     -- B
     record {
       setting = record { policy = Pooled; m = 1; tasks = six ∷ six ∷ [] };
-      outcome = record { saturations = 300 ∷ 300 ∷ []; answer = At 100; looks = 2; periods = 12 ∷ 12 ∷ []; sharesThere = 500000 ∷ 500000 ∷ []; marginThere = pos 0 };
+      outcome = record {
+        saturations = 300 ∷ 300 ∷ [];
+        handed = accepted 100;
+        looks = 2;
+        periods = 12 ∷ 12 ∷ [];
+        processors = 0 ∷ 0 ∷ [];
+        sharesThere = 500000 ∷ 500000 ∷ [];
+        marginThere = pos 0;
+      };
     } ∷
     -- C
     record {
       setting = record { policy = Pooled; m = 1; tasks = task 5 10 20 0 ∷ task 8 10 40 3000 ∷ [] };
-      outcome = record { saturations = 0 ∷ 200 ∷ []; answer = At 100; looks = 2; periods = 10 ∷ 16 ∷ []; sharesThere = 500000 ∷ 500000 ∷ []; marginThere = pos 0 };
+      outcome = record {
+        saturations = 0 ∷ 200 ∷ [];
+        handed = accepted 100;
+        looks = 2;
+        periods = 10 ∷ 16 ∷ [];
+        processors = 0 ∷ 0 ∷ [];
+        sharesThere = 500000 ∷ 500000 ∷ [];
+        marginThere = pos 0;
+      };
     } ∷
     -- D
     record {
       setting = record { policy = Pooled; m = 1; tasks = task 6 10 11 1000 ∷ task 6 10 30 1000 ∷ [] };
-      outcome = record { saturations = 55 ∷ 400 ∷ []; answer = At 146; looks = 3; periods = 11 ∷ 14 ∷ []; sharesThere = 545455 ∷ 454000 ∷ []; marginThere = pos 545 };
+      outcome = record {
+        saturations = 55 ∷ 400 ∷ [];
+        handed = accepted 146;
+        looks = 3;
+        periods = 11 ∷ 14 ∷ [];
+        processors = 0 ∷ 0 ∷ [];
+        sharesThere = 545455 ∷ 454000 ∷ [];
+        marginThere = pos 545;
+      };
     } ∷
     -- E
     record {
       setting = record { policy = GlobalEdf; m = 2; tasks = six ∷ six ∷ six ∷ [] };
-      outcome = record { saturations = 300 ∷ 300 ∷ 300 ∷ []; answer = At 100; looks = 2; periods = 12 ∷ 12 ∷ 12 ∷ []; sharesThere = 500000 ∷ 500000 ∷ 500000 ∷ []; marginThere = pos 0 };
+      outcome = record {
+        saturations = 300 ∷ 300 ∷ 300 ∷ [];
+        handed = accepted 100;
+        looks = 2;
+        periods = 12 ∷ 12 ∷ 12 ∷ [];
+        processors = 0 ∷ 0 ∷ 0 ∷ [];
+        sharesThere = 500000 ∷ 500000 ∷ 500000 ∷ [];
+        marginThere = pos 0;
+      };
     } ∷
     -- F
     record {
       setting = record { policy = GlobalRm; m = 2; tasks = six ∷ six ∷ six ∷ [] };
-      outcome = record { saturations = 300 ∷ 300 ∷ 300 ∷ []; answer = At 267; looks = 2; periods = 19 ∷ 19 ∷ 19 ∷ []; sharesThere = 333000 ∷ 333000 ∷ 333000 ∷ []; marginThere = pos 2000 };
+      outcome = record {
+        saturations = 300 ∷ 300 ∷ 300 ∷ [];
+        handed = accepted 267;
+        looks = 2;
+        periods = 19 ∷ 19 ∷ 19 ∷ [];
+        processors = 0 ∷ 0 ∷ 0 ∷ [];
+        sharesThere = 333000 ∷ 333000 ∷ 333000 ∷ [];
+        marginThere = pos 2000;
+      };
     } ∷
     -- G
     record {
       setting = record { policy = GlobalRm; m = 1; tasks = task 10 10 20 1 ∷ [] };
-      outcome = record { saturations = 500000 ∷ []; answer = At 0; looks = 1; periods = 10 ∷ []; sharesThere = 1000000 ∷ []; marginThere = pos 0 };
+      outcome = record {
+        saturations = 500000 ∷ [];
+        handed = accepted 0;
+        looks = 1;
+        periods = 10 ∷ [];
+        processors = 0 ∷ [];
+        sharesThere = 1000000 ∷ [];
+        marginThere = pos 0;
+      };
     } ∷
     -- H
     record {
       setting = record { policy = GlobalRm; m = 1; tasks = six ∷ six ∷ [] };
-      outcome = record { saturations = 300 ∷ 300 ∷ []; answer = At 267; looks = 2; periods = 19 ∷ 19 ∷ []; sharesThere = 333000 ∷ 333000 ∷ []; marginThere = pos 1000 };
+      outcome = record {
+        saturations = 300 ∷ 300 ∷ [];
+        handed = accepted 267;
+        looks = 2;
+        periods = 19 ∷ 19 ∷ [];
+        processors = 0 ∷ 0 ∷ [];
+        sharesThere = 333000 ∷ 333000 ∷ [];
+        marginThere = pos 1000;
+      };
     } ∷
-    -- I
+    -- I: refused by 7, and the outputs stay as they were lent
     record {
-      setting = record { policy = Pooled; m = 1; tasks = task 1 3 3 0 ∷ task 1 3 3 0 ∷ task 1 3 3 0 ∷ [] };
-      outcome = record { saturations = 0 ∷ 0 ∷ 0 ∷ []; answer = Nothing; looks = 1; periods = []; sharesThere = 333334 ∷ 333334 ∷ 333334 ∷ []; marginThere = negsuc 1 };
+      setting = record { policy = Pooled; m = 1; tasks = third ∷ third ∷ third ∷ [] };
+      outcome = record {
+        saturations = 0 ∷ 0 ∷ 0 ∷ [];
+        handed = record { number = 7; place = 0; value = 0 };
+        looks = 1;
+        periods = 7 ∷ 7 ∷ 7 ∷ [];
+        processors = 7 ∷ 7 ∷ 7 ∷ [];
+        sharesThere = 333334 ∷ 333334 ∷ 333334 ∷ [];
+        marginThere = negsuc 1;
+      };
     } ∷
     []
 

@@ -10,9 +10,9 @@ use Rattle.ground.specs.Folds.{listTo}
 use Rattle.kinds.specs.declared.Policy.the-variants.{Pooled, FirstFit}
 use Rattle.kinds.specs.declared.Task.{Task}
 use Rattle.kinds.specs.Task.{task}
-use Rattle.share.specs.Table.{shares, fullCompression, periodsAt}
-use Rattle.fit.specs.Fit.{placesTo}
+use Rattle.share.specs.Table.{fullCompression, periodsAt}
 use Rattle.policy.specs.Passing.{passesAt, leastStep}
+use Rattle.plan.specs.Plan.{processorsAt}
 use Rattle.cases.specs.Bench.{Setting}
 
 abbrev pub caseJ : Setting
@@ -46,4 +46,4 @@ pub record StepsOfK : Type 0 where
   pub all : passing caseK (listTo (λ k. k) 16) ≡ 5 ∷ 6 ∷ []
   pub answer : leastStep (caseK .policy) (caseK .m) (caseK .tasks) 7 ≡ At 5
   pub periods : periodsAt (caseK .tasks) 7 5 ≡ 4286 ∷ 1000 ∷ 1000 ∷ 1000 ∷ 1000 ∷ 1000 ∷ 1000 ∷ []
-  pub processors : placesTo (caseK .m) (shares (caseK .tasks) 5) 7 ≡ 1 ∷ 2 ∷ 2 ∷ 3 ∷ 1 ∷ 2 ∷ 3 ∷ []
+  pub processors : processorsAt (caseK .policy) (caseK .m) (caseK .tasks) 7 5 ≡ 1 ∷ 2 ∷ 2 ∷ 3 ∷ 1 ∷ 2 ∷ 3 ∷ []

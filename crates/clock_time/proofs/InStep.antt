@@ -51,7 +51,7 @@ shows-start ps from w = record {
 
 module _ (ps : List ℕ) (c : Clock) (next : ℕ → ℕ) (s : Shows ps c next) where
   -- task w is handed back
-  pub shows-moved : (w : ℕ) → w < length ps → Shows ps (movedOn c w) (onward (every ps) next w)
+  shows-moved : (w : ℕ) → w < length ps → Shows ps (movedOn c w) (onward (every ps) next w)
   unfolding movedOn
   shows-moved w l =
       let v = (nextOf c w + periodOf c w) % turn in
@@ -70,7 +70,7 @@ module _ (ps : List ℕ) (c : Clock) (next : ℕ → ℕ) (s : Shows ps c next) 
 
   module _ (t : ℕ) (a : Around (length ps) next t) where
     -- both clocks hand back the same
-    pub same-release : released c (t % turn) ≡ accepted (earliest (length ps) next t)
+    same-release : released c (t % turn) ≡ accepted (earliest (length ps) next t)
     unfolding earliest
     same-release =
         released-few c (t % turn) (omega (arith, s .count, s .whole .few))
@@ -83,18 +83,6 @@ module _ (ps : List ℕ) (c : Clock) (next : ℕ → ℕ) (s : Shows ps c next) 
         by-earliest (length ps) next t
         (λ e. rw (none-keeps c (t % turn) (same-release ∙ ap accepted (e .is)), e .is) s)
         (λ w e. rw (moved-on c (t % turn) w (same-release ∙ ap accepted (e .is)), e .is) (shows-moved w (e .there)))
-
--- with the tick standing still the releases stay around it
-pub around-moved : (ps : List ℕ) (next : ℕ → ℕ) (t w : ℕ) → Whole ps → w < length ps → next w ≤ t → Around (length ps) next t
-    → Around (length ps) (onward (every ps) next w) t
-around-moved ps next t w k l d a = record {
-  ahead = λ i m. by-eq w i
-      (λ e. rw (← e) (omega (arith, onward-here (every ps) next w, k .fair w l .most)))
-      (λ e. omega (arith, onward-other (every ps) next w i e, a .ahead i m));
-  near = λ i m. by-eq w i
-      (λ e. rw (← e) (omega (arith, onward-here (every ps) next w, a .near w l)))
-      (λ e. omega (arith, onward-other (every ps) next w i e, a .near i m));
-}
 
 module _ (ps : List ℕ) (whole : Whole ps) (next : ℕ → ℕ) (f : ℕ) (b : Bounded (length ps) next f)
     (t : ℕ) (near : (i : ℕ) → i < length ps → t < next i + halfTurn) where

@@ -1,5 +1,6 @@
 pub mod Unbroken
 pub mod Releases
+pub mod Lowered
 pub mod InStep
 pub mod Back
 pub mod Standing

@@ -47,7 +47,11 @@ module _ (periods : List ℕ) (from : ℕ) where
   furthest [] = from
   furthest (t ∷ earlier) = max t (furthest earlier)
 
-  -- the premise: each tick is at most 1,000,000,000 behind the furthest one given before it, and "no task falls 2,147,483,648 ticks behind"
+  -- the premise in its two parts: each tick is at most 1,000,000,000 behind the furthest one given before it, and "no task falls 2,147,483,648
+  -- ticks behind"
   unfoldable pub Premise : List ℕ → Type 0
   Premise [] = Unit {0}
-  Premise (t ∷ earlier) = Premise earlier × (furthest earlier ≤ t + longestPeriod) × ((i : ℕ) → i < length periods → t < nextAfter earlier i + halfTurn)
+  Premise (t ∷ earlier) =
+      Premise earlier
+      × (furthest earlier ≤ t + longestPeriod)
+      × ((i : ℕ) → i < length periods → t < nextAfter earlier i + halfTurn)

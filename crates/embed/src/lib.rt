@@ -25,7 +25,9 @@ pub extern "C" fn eelbasket_plain(
     periods: &mut [u32],
     processors: &mut [u16],
 ) -> Told
-    ensures { λ r. ⌜ ToldMeets (outcome true (settingsOf station) (now (rows .entry)) (length (now (rows .entry))) (now (periods .entry)) (now (processors .entry))) r (now (periods .exit)) (now (processors .exit)) ⌝ }
+    ensures { λ r. ⌜ ToldMeets
+        (outcome true (settingsOf station) (now (rows .entry)) (length (now (rows .entry))) (now (periods .entry)) (now (processors .entry)))
+        r (now (periods .exit)) (now (processors .exit)) ⌝ }
 {
     told::plain_told(rows::gather(rows), station, periods, processors)
 }
@@ -38,7 +40,8 @@ pub extern "C" fn eelbasket_quick(
     periods: &mut [u32],
     processors: &mut [u16],
 ) -> Told
-    ensures { λ r. ⌜ ToldLooked (settingsOf station) (now (rows .entry)) (length (now (rows .entry))) (now (periods .entry)) (now (processors .entry)) r (now (periods .exit)) (now (processors .exit)) ⌝ }
+    ensures { λ r. ⌜ ToldLooked (settingsOf station) (now (rows .entry)) (length (now (rows .entry))) (now (periods .entry)) (now (processors .entry))
+        r (now (periods .exit)) (now (processors .exit)) ⌝ }
 {
     told::quick_told(rows::gather(rows), station, periods, processors)
 }
@@ -59,7 +62,8 @@ pub extern "C" fn eelbasket_wide(
     periods: &mut [u32],
     cores: &mut [u16],
 ) -> Told
-    ensures { λ r. ⌜ ToldMeets (wide.outcome m (now (rows .entry)) (length (now (rows .entry))) (now (periods .entry)) (now (cores .entry))) r (now (periods .exit)) (now (cores .exit)) ⌝ }
+    ensures { λ r. ⌜ ToldMeets (wide.outcome m (now (rows .entry)) (length (now (rows .entry))) (now (periods .entry)) (now (cores .entry)))
+        r (now (periods .exit)) (now (cores .exit)) ⌝ }
 {
     told::wide_told(wide_rows::gather(rows), m, periods, cores)
 }

@@ -60,7 +60,8 @@ imported-of : (text : List ℕ) (room n : ℕ) → importHanded text room ≡ ac
 unfolding importHanded
 imported-of text room n e = imported (readText text) room n e
 
-roomy : (rows : List Task) (room : ℕ) → length rows ≤ mostTasks → length (textOf rows) ≤ room → exportHanded rows (length rows) room ≡ accepted (length (textOf rows))
+roomy : (rows : List Task) (room : ℕ) → length rows ≤ mostTasks → length (textOf rows) ≤ room
+    → exportHanded rows (length rows) room ≡ accepted (length (textOf rows))
 unfolding exportHanded
 roomy rows room h k = simp (le-ltb mostTasks (length rows) h, le-ltb room (length (textOf rows)) k)
 

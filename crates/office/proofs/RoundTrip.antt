@@ -95,7 +95,8 @@ export-of-import s rows e =
     rw (r .all-is) (record { text = sym (r .text); few = r .few; fit = r .fit })
 
 -- two tables with one text are one table
-pub text-one : (rows other : List Task) → length rows ≤ mostTasks → AllFit rows → length other ≤ mostTasks → AllFit other → textOf rows ≡ textOf other → rows ≡ other
+pub text-one : (rows other : List Task) → length rows ≤ mostTasks → AllFit rows → length other ≤ mostTasks → AllFit other
+    → textOf rows ≡ textOf other → rows ≡ other
 text-one rows other a b c d e =
     let x = import-of-export rows a b in
     let y = import-of-export other c d in
@@ -161,7 +162,8 @@ module _ (s : List ℕ) (refusal : Refusal) where
       let x : TooManyTasks mostTasks ≡ refusal = cc in
       stop-here 0 rows at h (inl (sym x, refl)))
   from-not (suc more) rows at e =
-      let ih : (rows′ : List Task) (at′ : ℕ) → readFrom more rows′ s at′ ≡ Not refusal → Stopped more rows′ s at′ refusal = λ rows′ at′. from-not more rows′ at′ in
+      let ih : (rows′ : List Task) (at′ : ℕ) → readFrom more rows′ s at′ ≡ Not refusal → Stopped more rows′ s at′ refusal =
+      λ rows′ at′. from-not more rows′ at′ in
       by-le (length s) at
       (λ h. ended (suc more) rows at h e)
       (λ h. stop-line more rows at h ih e (lineAt s at) refl)

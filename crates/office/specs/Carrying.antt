@@ -7,14 +7,12 @@ use lib.Dec.{ltb}
 use lib.ListN.{length}
 use Rattle.kinds.specs.declared.Task.{Task}
 use Rattle.kinds.specs.declared.Table.{Table}
-use Rattle.kinds.specs.declared.Refusal.{Refusal}
 use Rattle.kinds.specs.declared.Refusal.the-variants.{TooManyTasks, OutputTooShort}
 use Rattle.kinds.specs.Limits.{mostTasks}
 use Rattle.kinds.specs.Task.{noTask}
 use Rattle.kinds.specs.Answer.{Handed, accepted, refused, check, handedCount, after}
 use Rattle.walk.specs.Padded.{padded}
 use Rattle.kinds.specs.declared.Counted.{Counted}
-use Rattle.kinds.specs.declared.Counted.the-variants.{Refused}
 use Rattle.office.specs.declared.Imported.{Imported}
 use Rattle.office.specs.Text.{textTo}
 use Rattle.office.specs.Reading.{Reading, Rows, Not, readText, rowsOf}
@@ -56,6 +54,3 @@ tableOf rows = record { rows = padded noTask mostTasks rows; n = length rows }
 pub record Reads (text : List ℕ) (room : ℕ) (r : Imported) : Type 0 where
   pub answer : handedCount (r .answer) ≡ importHanded text room
   pub table : r .table ≡ tableOf (afterCarry (importHanded text room) (rowsOf (readText text)) [])
-
-abbrev pub importedNot : Refusal → Imported
-importedNot refusal = record { answer = Refused refusal; table = tableOf [] }

@@ -14,7 +14,8 @@ ghost use Rattle.field.specs.Stored.{Put};
 ghost use Rattle.numeral.specs.Decimal.{Sized};
 ghost use Rattle.office.specs.Text.{Fits, numberThen, lineOf, textTo, longestLine, longestText};
 ghost use Rattle.office.specs.Reading.{lineAt};
-ghost use Rattle.office.specs.Carrying.{importedNot, Reads, Exports};
+ghost use Rattle.office.specs.Carrying.{Reads, Exports};
+ghost use Rattle.office.specs.Handover.{importedNot};
 
 const COMMA: u8 = b',';
 

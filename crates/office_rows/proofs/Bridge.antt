@@ -10,5 +10,6 @@ use Rattle.kinds.specs.declared.Counted.{Counted}
 use Rattle.office.specs.Carrying.{Exports}
 use Rattle.office.proofs.Answers.{exports-same}
 
-pub exports-over : (rows : List Task) (old : List ℕ) (r : Counted) (new : List ℕ) → Exports (tableOf rows .rows) (length rows) old r new → Exports rows (length rows) old r new
+pub exports-over : (rows : List Task) (old : List ℕ) (r : Counted) (new : List ℕ) → Exports (tableOf rows .rows) (length rows) old r new
+    → Exports rows (length rows) old r new
 exports-over rows old r new x = exports-same (tableOf rows .rows) rows (length rows) (λ few i _. table-at rows few i) old r new x

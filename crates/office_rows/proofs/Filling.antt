@@ -16,7 +16,7 @@ use Rattle.walk.proofs.Padding.{padded-long, padded-front}
 use Rattle.office.specs.declared.Imported.{Imported}
 use Rattle.office.specs.Carrying.{Imports, Reads}
 use Rattle.office.proofs.Landing.{landing, lands}
-use Rattle.office_rows.specs.Filled.{filled}
+use Rattle.office_rows.specs.Handover.{filled}
 
 module _ (rows old : List Task) where
   filled-none : filled rows old 0 ≡ old
@@ -56,7 +56,8 @@ module _ (rows old : List Task) where
   unfolding filled
   filled-is zero h l = refl
   filled-is (suc n) h l =
-      ap (λ (x : List Task). set x n (at rows n)) (filled-is n (omega arith) (omega arith) ∙ ap (λ (x : List Task). take n rows ++ x) (drop-cons old n noTask l))
+      ap (λ (x : List Task). set x n (at rows n)) (filled-is n (omega arith) (omega arith)
+      ∙ ap (λ (x : List Task). take n rows ++ x) (drop-cons old n noTask l))
       ∙ (set-at (take n rows) (getD old n noTask) (drop (suc n) old) (at rows n) n (length-take-le n rows (omega arith))
       ∙ sym (ap (λ (x : List Task). x ++ drop (suc n) old) (take-suc rows n noTask h) ∙ append-assoc (take n rows) (at rows n ∷ []) (drop (suc n) old)))
 

@@ -10,7 +10,7 @@ ghost use Prim.Native.Nat.{_≤_};
 ghost use lib.ListN.{length};
 ghost use Rattle.kinds.specs.Limits.{mostTasks};
 ghost use Rattle.office.specs.Carrying.{Imports, Exports};
-ghost use Rattle.office_rows.specs.Filled.{filled};
+ghost use Rattle.office_rows.specs.Handover.{filled};
 
 // The rows of a table that count, into the front of a lent slice, and nothing past them.
 fn scatter(table: Table, out: &mut [Task])

@@ -46,7 +46,8 @@ text-most (t ∷ rows) f =
     omega (arith, ap length (text-cons t rows), length-append (lineOf t) (textOf rows), line-most t (f .0), text-most rows (f .1))
 
 -- rows that stand at a place of a text are read, and the reading goes on after them
-read-past : (s : List ℕ) (these : List Task) (more : ℕ) (rows : List Task) (at : ℕ) (rest : List ℕ) → length these ≤ more → AllFit these → drop at s ≡ textOf these ++ rest
+read-past : (s : List ℕ) (these : List Task) (more : ℕ) (rows : List Task) (at : ℕ) (rest : List ℕ)
+    → length these ≤ more → AllFit these → drop at s ≡ textOf these ++ rest
     → readFrom more rows s at ≡ readFrom (more - length these) (rows ++ these) s (at + length (textOf these))
 read-past s [] more rows at rest h m e =
     let z : at ≡ at + length (textOf []) = (let l = ap length text-empty in omega arith) in
@@ -78,7 +79,8 @@ same-front {A} (a ∷ d) q (b ∷ x) y e h =
 
 module _ (p q : List ℕ) (long : longestText < length p) where
   -- where the front was refused, so is the whole
-  module _ (r : Refusal) (before : List Task) (stop : ℕ) (text : p ≡ textOf before ++ drop stop p) (left : stop < length p) (fit : AllFit before) (few : length before ≤ mostTasks) where
+  module _ (r : Refusal) (before : List Task) (stop : ℕ) (text : p ≡ textOf before ++ drop stop p)
+      (left : stop < length p) (fit : AllFit before) (few : length before ≤ mostTasks) where
     abbrev place : ℕ
     place = 0 + length (textOf before)
 
@@ -127,7 +129,8 @@ module _ (p q : List ℕ) (long : longestText < length p) where
       let s = import-refused p r e in
       ⊎-elim
       (λ w. many r (s .before) (s .stop) (s .text) (s .left) (s .fit) (omega (arith, w .1)) (w .1) ∙ ap Not (sym (w .0)))
-      (λ w. bad r (s .before) (s .stop) (s .text) (s .left) (s .fit) (omega (arith, w .1)) (w .1) (w .2) ∙ (ap (λ (k : ℕ). Not (BadLine k)) (none (length (s .before))) ∙ ap Not (sym (w .0))))
+      (λ w. bad r (s .before) (s .stop) (s .text) (s .left) (s .fit) (omega (arith, w .1)) (w .1) (w .2)
+      ∙ (ap (λ (k : ℕ). Not (BadLine k)) (none (length (s .before))) ∙ ap Not (sym (w .0))))
       (s .why)
     where
       none : (k : ℕ) → k ≡ length {A = Task} [] + k

@@ -53,18 +53,22 @@ module _ (argument : List ℕ) where
 -- the arguments, one after the other
 module _ (policy processors text : List ℕ) where
   with-policy : Setting → List ℕ
-  with-policy s = orLine (handedSetting NoSuchPolicy s) (λ p. orLine (handedSetting NoSuchProcessors (settingOf processors)) (λ m. enteredText p m text))
+  with-policy s =
+      orLine (handedSetting NoSuchPolicy s) (λ p. orLine (handedSetting NoSuchProcessors (settingOf processors)) (λ m. enteredText p m text))
 
   pub policy-bad : settingOf policy ≡ Bad → entered policy processors text ≡ refusalLine 1 0
   unfolding entered with-policy
-  policy-bad e = ap with-policy e ∙ line-of {A = ℕ} 0 NoSuchPolicy (λ p. orLine (handedSetting NoSuchProcessors (settingOf processors)) (λ m. enteredText p m text))
+  policy-bad e =
+      ap with-policy e
+      ∙ line-of {A = ℕ} 0 NoSuchPolicy (λ p. orLine (handedSetting NoSuchProcessors (settingOf processors)) (λ m. enteredText p m text))
 
   module _ (p : ℕ) (e : settingOf policy ≡ Is p) where
     pub processors-bad : settingOf processors ≡ Bad → entered policy processors text ≡ refusalLine 2 0
     unfolding entered with-policy
     processors-bad f =
         ap with-policy e
-        ∙ (ap (λ (s : Setting). orLine (handedSetting NoSuchProcessors s) (λ m. enteredText p m text)) f ∙ line-of {A = ℕ} 0 NoSuchProcessors (λ m. enteredText p m text))
+        ∙ (ap (λ (s : Setting). orLine (handedSetting NoSuchProcessors s) (λ m. enteredText p m text)) f
+        ∙ line-of {A = ℕ} 0 NoSuchProcessors (λ m. enteredText p m text))
 
     pub text-entered : (m : ℕ) → settingOf processors ≡ Is m → entered policy processors text ≡ enteredText p m text
     unfolding entered with-policy

@@ -44,10 +44,7 @@ pub struct ToldMargin {
 pub fn settings_of(station: Station) -> Settings
     ensures { λ r. ⌜ r ≡ settingsOf station ⌝ }
 {
-    Settings {
-        policy: Policy::of(station.policy),
-        m: station.m,
-    }
+    Settings::new(Policy::of(station.policy), station.m)
 }
 
 // An answer in numbers, with its looks.
@@ -77,7 +74,8 @@ pub fn plain_told(
     periods: &mut [u32],
     processors: &mut [u16],
 ) -> Told
-    ensures { λ r. ⌜ ToldMeets (outcome true (settingsOf station) (table .rows) (table .n) (now (periods .entry)) (now (processors .entry))) r (now (periods .exit)) (now (processors .exit)) ⌝ }
+    ensures { λ r. ⌜ ToldMeets (outcome true (settingsOf station) (table .rows) (table .n) (now (periods .entry)) (now (processors .entry)))
+        r (now (periods .exit)) (now (processors .exit)) ⌝ }
 {
     tell(
         plain::find(table, settings_of(station), periods, processors),
@@ -92,7 +90,8 @@ pub fn quick_told(
     periods: &mut [u32],
     processors: &mut [u16],
 ) -> Told
-    ensures { λ r. ⌜ ToldLooked (settingsOf station) (table .rows) (table .n) (now (periods .entry)) (now (processors .entry)) r (now (periods .exit)) (now (processors .exit)) ⌝ }
+    ensures { λ r. ⌜ ToldLooked (settingsOf station) (table .rows) (table .n) (now (periods .entry)) (now (processors .entry))
+        r (now (periods .exit)) (now (processors .exit)) ⌝ }
 {
     let looked = quick::find(table, settings_of(station), periods, processors);
     let answer = looked.answer;
@@ -119,7 +118,8 @@ pub fn margin_told(table: Table, station: Station, step: u32) -> ToldMargin
 
 // The finder for tasks that need several cores, on a table by value.
 pub fn wide_told(table: WideTable, m: u16, periods: &mut [u32], cores: &mut [u16]) -> Told
-    ensures { λ r. ⌜ ToldMeets (wide.outcome m (table .rows) (table .n) (now (periods .entry)) (now (cores .entry))) r (now (periods .exit)) (now (cores .exit)) ⌝ }
+    ensures { λ r. ⌜ ToldMeets (wide.outcome m (table .rows) (table .n) (now (periods .entry)) (now (cores .entry)))
+        r (now (periods .exit)) (now (cores .exit)) ⌝ }
 {
     tell(wide::find(table, m, periods, cores), 0)
 }

@@ -23,7 +23,9 @@ same-length c = search needs
 
 returns-3 : tie.Need-returns-3
 returns-3 c =
-    exports-done _ _ _ (c .before .before .before .before .before .before .if1 .left) (omega arith) _ _ (c .before .before .put-text .ensures)
+    let put = c .before .before in
+    let needed = put .before .before .before in
+    exports-done _ _ _ (needed .before .if1 .left) (omega arith) _ _ (put .put-text .ensures)
 
 pub export-spec : {M : Type 1} → statement M
 export-spec =

@@ -22,7 +22,9 @@ refused-requires c κs = tt
 
 returns : tie.Need-returns Inv-loop μ-loop
 returns c =
-    reads-not _ _ _ (going-many _ _ _ _ (c .before .before .before .loop .inv) (c .before .before .loop-test .taken) (c .before .if1 .taken)) _ (c .refused .ensures)
+    let turn = c .before .before in
+    let many = going-many _ _ _ _ (turn .before .loop .inv) (turn .loop-test .taken) (c .before .if1 .taken) in
+    reads-not _ _ _ many _ (c .refused .ensures)
 
 line-at-requires : tie.Need-line-at-requires Inv-loop μ-loop
 line-at-requires c κs = search needs
@@ -38,7 +40,11 @@ refused-requires-2 c κs = tt
 
 returns-2 : tie.Need-returns-2 Inv-loop μ-loop
 returns-2 c =
-    reads-not _ _ _ (going-bad _ _ _ _ (c .before .before .before .before .before .before .loop .inv) (c .before .before .before .before .before .loop-test .taken) (c .before .before .before .before .if1 .left) (sym (c .before .before .before .line-at .ensures) ∙ c .before .enum-told .given .1)) _ (c .refused2 .ensures)
+    let line = c .before .before .before in
+    let turn = line .before .before in
+    let bad = going-bad _ _ _ _ (turn .before .loop .inv) (turn .loop-test .taken) (line .before .if1 .left)
+    (sym (line .line-at .ensures) ∙ c .before .enum-told .given .1) in
+    reads-not _ _ _ bad _ (c .refused2 .ensures)
 
 mul-rows : tie.Need-mul-rows Inv-loop μ-loop
 mul-rows c = search needs
@@ -54,7 +60,10 @@ loop-less c = search needs
 
 loop-again : tie.Need-loop-again Inv-loop μ-loop
 loop-again c =
-    going-more _ _ _ _ (c .before .before .before .before .before .before .loop .inv) (c .before .before .before .before .before .loop-test .taken) (c .before .before .before .before .if1 .left) _ _ (sym (c .before .before .before .line-at .ensures) ∙ c .before .row .given .1)
+    let line = c .before .before .before in
+    let turn = line .before .before in
+    going-more _ _ _ _ (turn .before .loop .inv) (turn .loop-test .taken) (line .before .if1 .left) _ _
+    (sym (line .line-at .ensures) ∙ c .before .row .given .1)
 
 refused-requires-3 : tie.Need-refused-requires-3 Inv-loop μ-loop
 refused-requires-3 c κs = tt

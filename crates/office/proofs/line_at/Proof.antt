@@ -28,7 +28,10 @@ enum-told-2 c = search needs
 
 returns-2 : tie.Need-returns-2
 returns-2 c =
-    sym (bad-tmin _ _ _ _ (sym (c .before .before .before .before .before .before .numeral-at .ensures) ∙ c .before .before .before .before .c .given .1) (sym (c .before .before .numeral-at2 .ensures) ∙ c .enum-told2 .given .1))
+    let got-c = c .before .before .before .before in
+    sym (bad-tmin _ _ _ _
+    (sym (got-c .before .before .numeral-at .ensures) ∙ got-c .c .given .1)
+    (sym (c .before .before .numeral-at2 .ensures) ∙ c .enum-told2 .given .1))
 
 numeral-at-requires-3 : tie.Need-numeral-at-requires-3
 numeral-at-requires-3 c κs = search needs
@@ -41,7 +44,12 @@ enum-told-3 c = search needs
 
 returns-3 : tie.Need-returns-3
 returns-3 c =
-    sym (bad-tmax _ _ _ _ (sym (c .before .before .before .before .before .before .before .before .before .before .numeral-at .ensures) ∙ c .before .before .before .before .before .before .before .before .c .given .1) _ _ (sym (c .before .before .before .before .before .before .numeral-at2 .ensures) ∙ c .before .before .before .before .tmin .given .1) (sym (c .before .before .numeral-at3 .ensures) ∙ c .enum-told3 .given .1))
+    let got-tmin = c .before .before .before .before in
+    let got-c = got-tmin .before .before .before .before in
+    sym (bad-tmax _ _ _ _
+    (sym (got-c .before .before .numeral-at .ensures) ∙ got-c .c .given .1) _ _
+    (sym (got-tmin .before .before .numeral-at2 .ensures) ∙ got-tmin .tmin .given .1)
+    (sym (c .before .before .numeral-at3 .ensures) ∙ c .enum-told3 .given .1))
 
 numeral-at-requires-4 : tie.Need-numeral-at-requires-4
 numeral-at-requires-4 c κs = search needs
@@ -54,15 +62,29 @@ enum-told-4 c = search needs
 
 returns-4 : tie.Need-returns-4
 returns-4 c =
-    sym (bad-e _ _ _ _ (sym (c .before .before .before .before .before .before .before .before .before .before .before .before .before .before .numeral-at .ensures) ∙ c .before .before .before .before .before .before .before .before .before .before .before .before .c .given .1) _ _ (sym (c .before .before .before .before .before .before .before .before .before .before .numeral-at2 .ensures) ∙ c .before .before .before .before .before .before .before .before .tmin .given .1) _ _ (sym (c .before .before .before .before .before .before .numeral-at3 .ensures) ∙ c .before .before .before .before .tmax .given .1) (sym (c .before .before .numeral-at4 .ensures) ∙ c .enum-told4 .given .1))
+    let got-tmax = c .before .before .before .before in
+    let got-tmin = got-tmax .before .before .before .before in
+    let got-c = got-tmin .before .before .before .before in
+    sym (bad-e _ _ _ _
+    (sym (got-c .before .before .numeral-at .ensures) ∙ got-c .c .given .1) _ _
+    (sym (got-tmin .before .before .numeral-at2 .ensures) ∙ got-tmin .tmin .given .1) _ _
+    (sym (got-tmax .before .before .numeral-at3 .ensures) ∙ got-tmax .tmax .given .1)
+    (sym (c .before .before .numeral-at4 .ensures) ∙ c .enum-told4 .given .1))
 
 new-requires : tie.Need-new-requires
 new-requires c κs = search needs
 
 returns-5 : tie.Need-returns-5
 returns-5 c =
-    let got = c .before in
-    rw (c .new .ensures) (sym (good-line _ _ _ _ (sym (got .before .before .before .before .before .before .before .before .before .before .before .before .before .before .before .numeral-at .ensures) ∙ got .before .before .before .before .before .before .before .before .before .before .before .before .before .c .given .1) _ _ (sym (got .before .before .before .before .before .before .before .before .before .before .before .numeral-at2 .ensures) ∙ got .before .before .before .before .before .before .before .before .before .tmin .given .1) _ _ (sym (got .before .before .before .before .before .before .before .numeral-at3 .ensures) ∙ got .before .before .before .before .before .tmax .given .1) _ _ (sym (got .before .before .before .numeral-at4 .ensures) ∙ got .before .e .given .1)))
+    let got-e = c .before .before in
+    let got-tmax = got-e .before .before .before .before in
+    let got-tmin = got-tmax .before .before .before .before in
+    let got-c = got-tmin .before .before .before .before in
+    rw (c .new .ensures) (sym (good-line _ _ _ _
+    (sym (got-c .before .before .numeral-at .ensures) ∙ got-c .c .given .1) _ _
+    (sym (got-tmin .before .before .numeral-at2 .ensures) ∙ got-tmin .tmin .given .1) _ _
+    (sym (got-tmax .before .before .numeral-at3 .ensures) ∙ got-tmax .tmax .given .1) _ _
+    (sym (got-e .before .before .numeral-at4 .ensures) ∙ got-e .e .given .1)))
 
 pub line-at-spec : {M : Type 1} → statement M
 line-at-spec =

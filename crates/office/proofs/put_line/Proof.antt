@@ -7,26 +7,59 @@ use Rattle.office.proofs.put_line.Statement.{statement}
 use Rattle.office.proofs.put_line.Tie as tie
 
 put-number-requires : tie.Need-put-number-requires
-put-number-requires c κs = let t = c .before .before .args .task in let l = line-long t in let a = number-long (t .c) comma in omega arith
+put-number-requires c κs =
+    let t = c .before .before .args .task in
+    let l = line-long t in
+    let a = number-long (t .c) comma in
+    omega arith
 
 put-number-requires-2 : tie.Need-put-number-requires-2
 put-number-requires-2 c κs =
-    let t = c .before .before .before .before .before .before .args .task in let l = line-long t in let a = number-long (t .c) comma in let b = number-long (t .tmin) comma in omega arith
+    let at-c = c .before .before .before .before in
+    let t = at-c .before .before .args .task in
+    let l = line-long t in
+    let a = number-long (t .c) comma in
+    let b = number-long (t .tmin) comma in
+    omega arith
 
 put-number-requires-3 : tie.Need-put-number-requires-3
 put-number-requires-3 c κs =
-    let t = c .before .before .before .before .before .before .before .before .before .before .args .task in let l = line-long t in let a = number-long (t .c) comma in let b = number-long (t .tmin) comma in let d = number-long (t .tmax) comma in omega arith
+    let at-tmin = c .before .before .before .before in
+    let at-c = at-tmin .before .before .before .before in
+    let t = at-c .before .before .args .task in
+    let l = line-long t in
+    let a = number-long (t .c) comma in
+    let b = number-long (t .tmin) comma in
+    let d = number-long (t .tmax) comma in
+    omega arith
 
 put-number-requires-4 : tie.Need-put-number-requires-4
 put-number-requires-4 c κs =
-    let t = c .before .before .before .before .before .before .before .before .before .before .before .before .before .before .args .task in let l = line-long t in let a = number-long (t .c) comma in let b = number-long (t .tmin) comma in let d = number-long (t .tmax) comma in let f = number-long (t .e) newline in omega arith
+    let at-tmax = c .before .before .before .before in
+    let at-tmin = at-tmax .before .before .before .before in
+    let at-c = at-tmin .before .before .before .before in
+    let t = at-c .before .before .args .task in
+    let l = line-long t in
+    let a = number-long (t .c) comma in
+    let b = number-long (t .tmin) comma in
+    let d = number-long (t .tmax) comma in
+    let f = number-long (t .e) newline in
+    omega arith
 
 same-length : tie.Need-same-length
 same-length c = search needs
 
 returns : tie.Need-returns
 returns c =
-    puts-line _ _ _ _ _ _ _ _ _ _ _ (c .before .before .before .before .before .before .before .before .before .before .before .before .before .before .put-number .ensures) (c .before .before .before .before .before .before .before .before .before .before .put-number2 .ensures) (c .before .before .before .before .before .before .put-number3 .ensures) (c .before .before .put-number4 .ensures)
+    let at-e = c .before .before in
+    let at-tmax = at-e .before .before .before .before in
+    let at-tmin = at-tmax .before .before .before .before in
+    let at-c = at-tmin .before .before .before .before in
+    puts-line _ _ _ _ _ _ _ _ _ _ _
+    (at-c .put-number .ensures)
+    (at-tmin .put-number2 .ensures)
+    (at-tmax .put-number3 .ensures)
+    (at-e .put-number4 .ensures)
 
 pub put-line-spec : {M : Type 1} → statement M
 put-line-spec =

@@ -10,11 +10,15 @@ put-decimal-requires c κs = let l = number-long (c .before .before .args .v) (c
 
 slice-write-out : tie.Need-slice-write-out
 slice-write-out c =
-    let l = number-long (c .before .before .before .before .before .args .v) (c .before .before .before .before .before .args .end) in omega arith
+    let put = c .before .before .before in
+    let l = number-long (put .before .before .args .v) (put .before .before .args .end) in
+    omega arith
 
 add-result : tie.Need-add-result
 add-result c =
-    let l = number-long (c .before .before .before .before .before .args .v) (c .before .before .before .before .before .args .end) in omega arith
+    let put = c .before .before .before in
+    let l = number-long (put .before .before .args .v) (put .before .before .args .end) in
+    omega arith
 
 same-length : tie.Need-same-length
 same-length c = search needs

@@ -28,8 +28,11 @@ array-copy-out-put-line c = search needs
 
 put-line-requires : tie.Need-put-line-requires Inv-loop μ-loop
 put-line-requires c κs =
-    let l = text-long (c .before .before .before .before .before .args .t2) (c .before .before .before .loop .i) in
-    let u = text-within (c .before .before .before .before .before .args .t2) (c .before .before .before .loop .i + 1) (c .before .before .before .before .before .args .n) (omega arith) in
+    let turn = c .before .before .before in
+    let a = turn .before .before .args in
+    let i = turn .loop .i in
+    let l = text-long (a .t2) i in
+    let u = text-within (a .t2) (i + 1) (a .n) (omega arith) in
     omega arith
 
 add-i : tie.Need-add-i Inv-loop μ-loop
@@ -40,7 +43,10 @@ loop-less c = search needs
 
 loop-again : tie.Need-loop-again Inv-loop μ-loop
 loop-again c =
-    (search needs, (put-long (c .before .before .put-line .ensures) ∙ c .before .before .before .before .before .before .loop .inv .1 .0, puts-more _ _ _ _ _ _ _ (c .before .before .before .before .before .before .loop .inv .1 .1) (c .before .before .put-line .ensures)))
+    let put = c .before .before .put-line .ensures in
+    let turn = c .before .before .before .before in
+    let so-far = turn .before .before .loop .inv in
+    (search needs, (put-long put ∙ so-far .1 .0, puts-more _ _ _ _ _ _ _ (so-far .1 .1) put))
 
 same-length : tie.Need-same-length Inv-loop μ-loop
 same-length c = search needs

@@ -1,4 +1,5 @@
--- `office_rows::scatter` meets its contract: a walk of its MIR, by hand, with a loop in it; each turn reads an element of the table in place and stores it through the `&mut`.
+-- `office_rows::scatter` meets its contract: a walk of its MIR, by hand, with a loop in it; each turn reads an element of the table in place and
+-- stores it through the `&mut`.
 --     exits        from what is had at exit to the `post` of `walkOf`
 --     I i          the invariant after i turns, a function of i: the output holds `turns n i`
 --     more, ends   a turn that stores a row, and the turn that leaves the loop with the rest of the body
@@ -26,9 +27,11 @@ use prog.Wp.{Heap, Env, Out, Wp, WpFn, Tables, afterSeq, afterBlock, afterTurn, 
 use ghost.Atoms.{Atoms}
 use contract.Monad.{Fun}
 use contract.Running.{givenOf, tables, tablesOf}
-use types.Kit.{Given, Item, Sq, runs, anyQ, atRet, ‵, _⊛_, ⋆, _$_, _∵_, !, qed, by, move, keep, drop, split, join, rewrite, fsplit, fjoin, feqI, suffices, frame, done}
+use types.Kit.{Given, Item, Sq, runs, anyQ, atRet, ‵, _⊛_, ⋆, _$_, _∵_, !, qed}
+use types.Kit.{by, move, keep, drop, split, join, rewrite, fsplit, fjoin, feqI, suffices, frame, done}
 use types.Part.{whole, sub, look-in}
-use types.Run.{look, store, store-raw, init, forget, stop, hop, fld, from, load, lit, unit-lit, of-opd, bin, addr, assigns, assigns-last, first, blocks, stays, leaves-loop, loops, again, Below, exec, returns, enter, alloc1, alloc0, params1, pass1, pass0, free1, free0}
+use types.Run.{look, store, store-raw, init, forget, stop, hop, fld, from, load, lit, unit-lit, of-opd, bin, addr, assigns, assigns-last}
+use types.Run.{first, blocks, stays, leaves-loop, loops, again, Below, exec, returns, enter, alloc1, alloc0, params1, pass1, pass0, free1, free0}
 use sound.WpLaws.{WpFn-mono}
 use borrow.Author.Tests.{lt-ltb, le-ltb, ltb-true, ltb-false}
 use denote.RattleType.{owns}
@@ -50,7 +53,7 @@ use denote.Exit.{yes}
 use Rattle.kinds.specs.declared.Task.{Task}
 use Rattle.kinds.specs.declared.Table.{Table}
 use Rattle.kinds.specs.Task.{noTask}
-use Rattle.office_rows.specs.Filled.{filled}
+use Rattle.office_rows.specs.Handover.{filled}
 use Rattle.kinds.proofs.Task as P
 use Rattle.kinds.proofs.Task.Laws as P′
 use Rattle.kinds.proofs.Table as T
@@ -74,7 +77,8 @@ word = tyInt w64
 abbrev slice : Ty
 slice = sliceTy (tyRef (named 0) mut (pointee (P.the-row .written)))
 
-module _ {M : Type 1} (𝓤 : URA M) (H : Heap 𝓤) (A : Atoms 𝓤) (W : Given 𝓤 H A) (mem : Memory → SProp 𝓤) (run : Routine → Fun 𝓤) (κ : Lft) (q : Share) (b o : ℕ) (γ : GName) (ys : List Task) (t : Table) (is : Is T.the-row t (T′.lowered t ∷ [])) where
+module _ {M : Type 1} (𝓤 : URA M) (H : Heap 𝓤) (A : Atoms 𝓤) (W : Given 𝓤 H A) (mem : Memory → SProp 𝓤) (run : Routine → Fun 𝓤) (κ : Lft) (q : Share)
+    (b o : ℕ) (γ : GName) (ys : List Task) (t : Table) (is : Is T.the-row t (T′.lowered t ∷ [])) where
   abbrev x : List Task → RefT (List Task)
   x l = record { ptr = (b, o); name = γ; now = l }
 
@@ -113,9 +117,11 @@ module _ {M : Type 1} (𝓤 : URA M) (H : Heap 𝓤) (A : Atoms 𝓤) (W : Given
   exits : Room P.the-row (length ys) → ent 𝓤 (⋆ 𝓤 H A (‵ (Seen zs) ∷ ‵ (Bor zs) ∷ ‵ (flft κ q) ∷ [])) (Post vunit)
   exits gn =
       qed W (‵ (Seen zs) ∷ ‵ (Bor zs) ∷ ‵ (flft κ q) ∷ []) ∵
-      suffices ! _ (ends-at 𝓤 H A scatter.ended stayed (scatter.clauses 𝓤 H A mem run) W bound vunit tt (tt, (zs, tt)) (tt, (filled-long (t .rows) ys n, tt))) $ says ! refl $
+      suffices ! _ (ends-at 𝓤 H A scatter.ended stayed (scatter.clauses 𝓤 H A mem run) W bound vunit tt (tt, (zs, tt))
+      (tt, (filled-long (t .rows) ys n, tt))) $ says ! refl $
       nothing ! $ move ! (3 ∷ 0 ∷ []) $ join ! $ frame ! $
-      fjoin ! $ pureI ! (at-slice P.the-row (x zs) (s ∷ [])) (tt, (tt, tt)) (ap (λ (m : ℕ). sliceVal (b, o) m ∷ []) (sym (filled-long (t .rows) ys n)), subst (Room P.the-row) (sym (filled-long (t .rows) ys n)) gn) $ fjoin ! $
+      fjoin ! $ pureI ! (at-slice P.the-row (x zs) (s ∷ [])) (tt, (tt, tt))
+      (ap (λ (m : ℕ). sliceVal (b, o) m ∷ []) (sym (filled-long (t .rows) ys n)), subst (Room P.the-row) (sym (filled-long (t .rows) ys n)) gn) $ fjoin ! $
       nothing ! $ move ! (1 ∷ 0 ∷ []) $ fjoin ! $ owned ! T.the-row (Is T.the-row) (LL.makes T.the-type T′.the-plain 𝓤 H A) t _ is $ fjoin ! $ frame ! $
       feqI ! (List Val) (vunit ∷ []) (vunit ∷ []) refl $ done !
 
@@ -129,13 +135,17 @@ module _ {M : Type 1} (𝓤 : URA M) (H : Heap 𝓤) (A : Atoms 𝓤) (W : Given
   -- ---- the loop
   module _ (𝓣 : Tables 𝓤 H) (gn : Room P.the-row (length ys)) (few : n ≤ 32) (fit : n ≤ length ys) (l₀ l₁ l₂ l₃ l₄ l₅ l₆ l₇ l₈ l₉ l₁₀ l₁₁ l₁₂ : ℕ) where
     abbrev E : Env 𝓤 H
-    E = (tyUnit, l₀) ∷ (T′.mir, l₁) ∷ (slice, l₂) ∷ (T′.mir, l₃) ∷ (word, l₄) ∷ (word, l₅) ∷ (tyBool, l₆) ∷ (word, l₇) ∷ (tyPtr, l₈) ∷ (tyPtr, l₉) ∷ (P′.mir, l₁₀) ∷ (word, l₁₁) ∷ (tyPtr, l₁₂) ∷ []
+    E = (tyUnit, l₀) ∷ (T′.mir, l₁) ∷ (slice, l₂) ∷ (T′.mir, l₃) ∷ (word, l₄) ∷ (word, l₅) ∷ (tyBool, l₆) ∷ (word, l₇) ∷ (tyPtr, l₈) ∷ (tyPtr, l₉)
+        ∷ (P′.mir, l₁₀) ∷ (word, l₁₁) ∷ (tyPtr, l₁₂) ∷ []
 
     abbrev I : ℕ → List (Item 𝓤)
-    I i = ‵ (flft κ q) ∷ ‵ (Seen (tab i)) ∷ ‵ (Bor (tab i)) ∷ ‵ (froom tyPtr l₁₂ 0) ∷ ‵ (fdies tyPtr l₁₂) ∷ ‵ (froom word l₁₁ 0) ∷ ‵ (fdies word l₁₁) ∷ ‵ (froom P′.mir l₁₀ 0) ∷ ‵ (fdies P′.mir l₁₀)
+    I i = ‵ (flft κ q) ∷ ‵ (Seen (tab i)) ∷ ‵ (Bor (tab i)) ∷ ‵ (froom tyPtr l₁₂ 0) ∷ ‵ (fdies tyPtr l₁₂) ∷ ‵ (froom word l₁₁ 0) ∷ ‵ (fdies word l₁₁)
+        ∷ ‵ (froom P′.mir l₁₀ 0) ∷ ‵ (fdies P′.mir l₁₀)
         ∷ ‵ (froom tyPtr l₉ 0) ∷ ‵ (fdies tyPtr l₉) ∷ ‵ (froom tyPtr l₈ 0) ∷ ‵ (fdies tyPtr l₈) ∷ ‵ (froom word l₇ 0) ∷ ‵ (fdies word l₇)
-        ∷ ‵ (froom tyBool l₆ 0) ∷ ‵ (fdies tyBool l₆) ∷ ‵ (fat fullShare word l₅ 0 (vint w64 i)) ∷ ‵ (fdies word l₅) ∷ ‵ (fat fullShare word l₄ 0 (vint w64 n)) ∷ ‵ (fdies word l₄)
-        ∷ ‵ (fat fullShare T′.mir l₃ 0 (T′.lowered t)) ∷ ‵ (fdies T′.mir l₃) ∷ ‵ (fat fullShare slice l₂ 0 s) ∷ ‵ (fdies slice l₂) ∷ ‵ (fat fullShare T′.mir l₁ 0 (T′.lowered t)) ∷ ‵ (fdies T′.mir l₁)
+        ∷ ‵ (froom tyBool l₆ 0) ∷ ‵ (fdies tyBool l₆) ∷ ‵ (fat fullShare word l₅ 0 (vint w64 i)) ∷ ‵ (fdies word l₅)
+        ∷ ‵ (fat fullShare word l₄ 0 (vint w64 n)) ∷ ‵ (fdies word l₄)
+        ∷ ‵ (fat fullShare T′.mir l₃ 0 (T′.lowered t)) ∷ ‵ (fdies T′.mir l₃) ∷ ‵ (fat fullShare slice l₂ 0 s) ∷ ‵ (fdies slice l₂)
+        ∷ ‵ (fat fullShare T′.mir l₁ 0 (T′.lowered t)) ∷ ‵ (fdies T′.mir l₁)
         ∷ ‵ (froom tyUnit l₀ 0) ∷ ‵ (fdies tyUnit l₀) ∷ []
 
     abbrev Fewer : ℕ → ℕ → Type 0
@@ -151,33 +161,44 @@ module _ {M : Type 1} (𝓤 : URA M) (H : Heap 𝓤) (A : Atoms 𝓤) (W : Given
     more : (i : ℕ) → i < n → Sq W (I i) (runs (𝓣 .C) (𝓣 .Λ) E body.turn-1 (anyQ (afterTurn 𝓤 H (Below 𝓤 H A Fewer I i) Left)))
     unfolding afterTurn
     more i l =
-        -- [the token; obs; the borrow; _12 at 3; …; _11 at 5; …; _10 at 7; …; _9 at 9; …; _8 at 11; …; _7 at 13; …; _6 at 15; …; _5 at 17; …; _4 at 19; …; _3 at 21; …; _2 at 23; …; _1 at 25; …; _0 at 27; …]
-        assigns ! (bin ! (load ! (from ! (stop !)) (look ! 17 refl)) (load ! (from ! (stop !)) (look ! 19 refl)) tt) (from ! (stop !)) (init ! 15 refl (tt, tt)) $
+        -- [the token; obs; the borrow; _12 at 3; …; _11 at 5; …; _10 at 7; …; _9 at 9; …; _8 at 11; …; _7 at 13; …; _6 at 15; …; _5 at 17; …; _4 at
+        -- 19; …; _3 at 21; …; _2 at 23; …; _1 at 25; …; _0 at 27; …]
+        assigns ! (bin ! (load ! (from ! (stop !)) (look ! 17 refl)) (load ! (from ! (stop !)) (look ! 19 refl)) tt) (from ! (stop !))
+        (init ! 15 refl (tt, tt)) $
         rewrite ! 15 (λ (u : Bool). ‵ (fat fullShare tyBool l₆ 0 (vbool u))) (lt-ltb i n l) refl $ stays ! (load ! (from ! (stop !)) (look ! 15 refl)) $
         -- `t.rows[i]`, read in place
-        assigns ! (bin ! (load ! (from ! (stop !)) (look ! 17 refl)) (lit ! tt) (record { fits = offset })) (from ! (stop !)) (init ! 13 refl (tt, record { fits = offset })) $
+        assigns ! (bin ! (load ! (from ! (stop !)) (look ! 17 refl)) (lit ! tt) (record { fits = offset })) (from ! (stop !))
+        (init ! 13 refl (tt, record { fits = offset })) $
         assigns ! (addr ! (from ! (fld ! refl (stop !)))) (from ! (stop !)) (init ! 11 refl (tt, tt)) $
-        assigns ! (bin ! (load ! (from ! (stop !)) (look ! 11 refl)) (load ! (from ! (stop !)) (look ! 13 refl)) tt) (from ! (stop !)) (init ! 9 refl (tt, tt)) $
+        assigns ! (bin ! (load ! (from ! (stop !)) (look ! 11 refl)) (load ! (from ! (stop !)) (look ! 13 refl)) tt) (from ! (stop !))
+        (init ! 9 refl (tt, tt)) $
         rewrite ! 9 (λ (p : ℕ). ‵ (fat fullShare tyPtr l₉ 0 (vptr l₃ p))) (sym (place-is 16 0 i)) refl $
-        assigns ! (of-opd ! (load ! (from ! (hop ! (look ! 9 refl) (stop !))) (look-in ! 21 (item ! (map P′.lowered (t .rows)) i (P′.lowered noTask) (table-long t is) in-cell (sub ! 0 refl (whole !))))))
+        assigns ! (of-opd ! (load ! (from ! (hop ! (look ! 9 refl) (stop !)))
+        (look-in ! 21 (item ! (map P′.lowered (t .rows)) i (P′.lowered noTask) (table-long t is) in-cell (sub ! 0 refl (whole !))))))
         (from ! (stop !)) (init ! 7 refl (subst (λ (v : Val). T (hasTy P′.mir v) × WT v) (sym (row-value (t .rows) i)) (tt, fits i))) $
         rewrite ! 7 (λ (v : Val). ‵ (fat fullShare P′.mir l₁₀ 0 v)) (row-value (t .rows) i) refl $
         -- the place of `out[i]`
-        assigns ! (bin ! (load ! (from ! (stop !)) (look ! 17 refl)) (lit ! tt) (record { fits = offset })) (from ! (stop !)) (init ! 5 refl (tt, record { fits = offset })) $
-        assigns ! (bin ! (load ! (from ! (fld ! refl (stop !))) (look-in ! 23 (sub ! 0 refl (whole !)))) (load ! (from ! (stop !)) (look ! 5 refl)) tt) (from ! (stop !)) (init ! 3 refl (tt, tt)) $
+        assigns ! (bin ! (load ! (from ! (stop !)) (look ! 17 refl)) (lit ! tt) (record { fits = offset })) (from ! (stop !))
+        (init ! 5 refl (tt, record { fits = offset })) $
+        assigns ! (bin ! (load ! (from ! (fld ! refl (stop !))) (look-in ! 23 (sub ! 0 refl (whole !)))) (load ! (from ! (stop !)) (look ! 5 refl)) tt)
+        (from ! (stop !)) (init ! 3 refl (tt, tt)) $
         rewrite ! 3 (λ (p : ℕ). ‵ (fat fullShare tyPtr l₁₂ 0 (vptr b p))) (sym (place-is 16 o i)) refl $
         -- the borrow is opened, the element taken out and stored to, and the borrow closed
         move ! (1 ∷ 2 ∷ 0 ∷ []) $ opens-slice ! tt P.the-row (tab i) b o $
-        elem-out ! P.the-row (Is P.the-row) (shows 𝓤 H A P.the-row) (LL.vals P.the-type P′.the-laws) (LL.tells P.the-type P′.the-laws) fullShare (tab i) i noTask b o in-out (λ _.
+        elem-out ! P.the-row (Is P.the-row) (shows 𝓤 H A P.the-row) (LL.vals P.the-type P′.the-laws) (LL.tells P.the-type P′.the-laws) fullShare
+        (tab i) i noTask b o in-out (λ _.
         -- [out[i]; what it owns; the others; the open borrow; obs; auth; _12 at 6; …; _10 at 10; …]
         assigns ! (of-opd ! (load ! (from ! (stop !)) (look ! 10 refl))) (from ! (hop ! (look ! 6 refl) (stop !))) (store-raw ! 0 refl (tt, fits i)) $
-        move ! (1 ∷ []) $ drop ! $ owned ! P.the-row (Is P.the-row) (LL.makes P.the-type P′.the-plain 𝓤 H A) (elem i) _ (is-task (elem i) (fits i)) $ move ! (1 ∷ 0 ∷ []) $
+        move ! (1 ∷ []) $ drop ! $ owned ! P.the-row (Is P.the-row) (LL.makes P.the-type P′.the-plain 𝓤 H A) (elem i) _ (is-task (elem i) (fits i)) $
+        move ! (1 ∷ 0 ∷ []) $
         elem-put ! P.the-row fullShare (tab i) i (elem i) (P′.lowered (elem i) ∷ []) b o in-out $
         closes-slice ! tt P.the-row (tab i) (set (tab i) i (elem i)) (length-set (tab i) i (elem i)) b o $
         -- [obs; the borrow; the token; _12 at 3; …]
-        assigns-last ! (bin ! (load ! (from ! (stop !)) (look ! 17 refl)) (lit ! tt) (record { fits = next-fits })) (from ! (stop !)) (store ! 17 refl (tt, record { fits = next-fits })) $
+        assigns-last ! (bin ! (load ! (from ! (stop !)) (look ! 17 refl)) (lit ! tt) (record { fits = next-fits })) (from ! (stop !))
+        (store ! 17 refl (tt, record { fits = next-fits })) $
         forget ! 3 refl $ forget ! 5 refl $ forget ! 7 refl $ forget ! 9 refl $ forget ! 11 refl $ forget ! 13 refl $ forget ! 15 refl $
-        rewrite ! 0 (λ (d : List Task). ‵ (Seen d)) (turns-more (t .rows) ys n i l) refl $ rewrite ! 1 (λ (d : List Task). ‵ (Bor d)) (turns-more (t .rows) ys n i l) refl $
+        rewrite ! 0 (λ (d : List Task). ‵ (Seen d)) (turns-more (t .rows) ys n i l) refl $
+        rewrite ! 1 (λ (d : List Task). ‵ (Bor d)) (turns-more (t .rows) ys n i l) refl $
         move ! (2 ∷ []) $ again ! Fewer I i (i + 1) fewer)
       where
         in-room : i < 32
@@ -202,13 +223,19 @@ module _ {M : Type 1} (𝓤 : URA M) (H : Heap 𝓤) (A : Atoms 𝓤) (W : Given
     ends : (i : ℕ) → n ≤ i → Sq W (I i) (runs (𝓣 .C) (𝓣 .Λ) E body.turn-1 (anyQ (afterTurn 𝓤 H (Below 𝓤 H A Fewer I i) Left)))
     unfolding afterTurn
     ends i l =
-        assigns ! (bin ! (load ! (from ! (stop !)) (look ! 17 refl)) (load ! (from ! (stop !)) (look ! 19 refl)) tt) (from ! (stop !)) (init ! 15 refl (tt, tt)) $
-        rewrite ! 15 (λ (u : Bool). ‵ (fat fullShare tyBool l₆ 0 (vbool u))) (le-ltb i n l) refl $ leaves-loop ! (load ! (from ! (stop !)) (look ! 15 refl)) $ exec ! (𝓣 .C) (𝓣 .Λ) E body.t-5 (atRet E Post) $
-        rewrite ! 1 (λ (d : List Task). ‵ (Seen d)) (turns-all (t .rows) ys n i l) refl $ rewrite ! 2 (λ (d : List Task). ‵ (Bor d)) (turns-all (t .rows) ys n i l) refl $
+        assigns ! (bin ! (load ! (from ! (stop !)) (look ! 17 refl)) (load ! (from ! (stop !)) (look ! 19 refl)) tt) (from ! (stop !))
+        (init ! 15 refl (tt, tt)) $
+        rewrite ! 15 (λ (u : Bool). ‵ (fat fullShare tyBool l₆ 0 (vbool u))) (le-ltb i n l) refl $
+        leaves-loop ! (load ! (from ! (stop !)) (look ! 15 refl)) $ exec ! (𝓣 .C) (𝓣 .Λ) E body.t-5 (atRet E Post) $
+        rewrite ! 1 (λ (d : List Task). ‵ (Seen d)) (turns-all (t .rows) ys n i l) refl $
+        rewrite ! 2 (λ (d : List Task). ‵ (Bor d)) (turns-all (t .rows) ys n i l) refl $
         assigns ! (of-opd ! (unit-lit !)) (from ! (stop !)) (init ! 27 refl (tt, tt)) $
-        returns ! (look ! 27 refl) $ forget ! 15 refl $ forget ! 17 refl $ forget ! 19 refl $ forget ! 21 refl $ forget ! 23 refl $ forget ! 25 refl $ forget ! 27 refl $
-        move ! (27 ∷ 28 ∷ []) $ free1 ! $ move ! (25 ∷ 26 ∷ []) $ free1 ! $ move ! (23 ∷ 24 ∷ []) $ free1 ! $ move ! (21 ∷ 22 ∷ []) $ free1 ! $ move ! (19 ∷ 20 ∷ []) $ free1 ! $ move ! (17 ∷ 18 ∷ []) $ free1 ! $ move ! (15 ∷ 16 ∷ []) $ free1 ! $
-        move ! (13 ∷ 14 ∷ []) $ free1 ! $ move ! (11 ∷ 12 ∷ []) $ free1 ! $ move ! (9 ∷ 10 ∷ []) $ free1 ! $ move ! (7 ∷ 8 ∷ []) $ free1 ! $ move ! (5 ∷ 6 ∷ []) $ free1 ! $ move ! (3 ∷ 4 ∷ []) $ free1 ! $ free0 ! $
+        returns ! (look ! 27 refl) $ forget ! 15 refl $ forget ! 17 refl $ forget ! 19 refl $ forget ! 21 refl $ forget ! 23 refl $ forget ! 25 refl $
+        forget ! 27 refl $
+        move ! (27 ∷ 28 ∷ []) $ free1 ! $ move ! (25 ∷ 26 ∷ []) $ free1 ! $ move ! (23 ∷ 24 ∷ []) $ free1 ! $ move ! (21 ∷ 22 ∷ []) $ free1 ! $
+        move ! (19 ∷ 20 ∷ []) $ free1 ! $ move ! (17 ∷ 18 ∷ []) $ free1 ! $ move ! (15 ∷ 16 ∷ []) $ free1 ! $
+        move ! (13 ∷ 14 ∷ []) $ free1 ! $ move ! (11 ∷ 12 ∷ []) $ free1 ! $ move ! (9 ∷ 10 ∷ []) $ free1 ! $ move ! (7 ∷ 8 ∷ []) $ free1 ! $
+        move ! (5 ∷ 6 ∷ []) $ free1 ! $ move ! (3 ∷ 4 ∷ []) $ free1 ! $ free0 ! $
         keep ! (1 ∷ 2 ∷ 0 ∷ []) $ by ! (exits gn)
 
     turn : (i : ℕ) → Sq W (I i) (runs (𝓣 .C) (𝓣 .Λ) E body.turn-1 (anyQ (afterTurn 𝓤 H (Below 𝓤 H A Fewer I i) Left)))
@@ -226,17 +253,23 @@ module _ {M : Type 1} (𝓤 : URA M) (H : Heap 𝓤) (A : Atoms 𝓤) (W : Given
   walk : (𝓣 : Tables 𝓤 H) → Room P.the-row (length ys) → (n ≤ 32) × (n ≤ length ys)
       → ent 𝓤 (onEntry 𝓤 H A scatter.signature (κ, tt) (q, tt) (t, (x ys, tt)) at) (WpFn 𝓤 H (𝓣 .C) (𝓣 .Λ) code.function (T′.lowered t ∷ s ∷ []) Post)
   walk 𝓣 gn pre =
-      qed W ((‵ (flft κ q) ⊛ ‵ ftrue) ∷ ‵ (owns (T.the-row ∷ MutSlice (named 0) κ P.the-row ∷ []) (t, (x ys, tt)) at) ∷ []) ∵ enter ! (𝓣 .C) (𝓣 .Λ) code.function (T′.lowered t ∷ s ∷ []) _ $
-      alloc1 ! (λ l₀. alloc1 ! (λ l₁. alloc1 ! (λ l₂. alloc1 ! (λ l₃. alloc1 ! (λ l₄. alloc1 ! (λ l₅. alloc1 ! (λ l₆. alloc1 ! (λ l₇. alloc1 ! (λ l₈. alloc1 ! (λ l₉. alloc1 ! (λ l₁₀. alloc1 ! (λ l₁₁. alloc1 ! (λ l₁₂. alloc0 ! $ params1 ! $
-      pass1 ! (init ! 22 refl (LL.lawful T.the-type T′.the-laws 𝓤 H A W .typed t _ is .0)) $ pass1 ! (init ! 20 refl (tt, (tt, (record { fits = gn .0 }, tt)))) $ pass0 ! $
-      assigns ! (of-opd ! (load ! (from ! (stop !)) (look ! 22 refl))) (from ! (stop !)) (init ! 18 refl (LL.lawful T.the-type T′.the-laws 𝓤 H A W .typed t _ is .0)) $
-      assigns ! (of-opd ! (load ! (from ! (fld ! refl (stop !))) (look-in ! 18 (sub ! 1 refl (whole !))))) (from ! (stop !)) (init ! 16 refl (tt, record { fits = n-fits })) $
+      qed W ((‵ (flft κ q) ⊛ ‵ ftrue) ∷ ‵ (owns (T.the-row ∷ MutSlice (named 0) κ P.the-row ∷ []) (t, (x ys, tt)) at) ∷ []) ∵
+      enter ! (𝓣 .C) (𝓣 .Λ) code.function (T′.lowered t ∷ s ∷ []) _ $
+      alloc1 ! (λ l₀. alloc1 ! (λ l₁. alloc1 ! (λ l₂. alloc1 ! (λ l₃. alloc1 ! (λ l₄. alloc1 ! (λ l₅. alloc1 ! (λ l₆.
+      alloc1 ! (λ l₇. alloc1 ! (λ l₈. alloc1 ! (λ l₉. alloc1 ! (λ l₁₀. alloc1 ! (λ l₁₁. alloc1 ! (λ l₁₂. alloc0 ! $ params1 ! $
+      pass1 ! (init ! 22 refl (LL.lawful T.the-type T′.the-laws 𝓤 H A W .typed t _ is .0)) $
+      pass1 ! (init ! 20 refl (tt, (tt, (record { fits = gn .0 }, tt)))) $ pass0 ! $
+      assigns ! (of-opd ! (load ! (from ! (stop !)) (look ! 22 refl))) (from ! (stop !))
+      (init ! 18 refl (LL.lawful T.the-type T′.the-laws 𝓤 H A W .typed t _ is .0)) $
+      assigns ! (of-opd ! (load ! (from ! (fld ! refl (stop !))) (look-in ! 18 (sub ! 1 refl (whole !))))) (from ! (stop !))
+      (init ! 16 refl (tt, record { fits = n-fits })) $
       assigns ! (of-opd ! (lit ! tt)) (from ! (stop !)) (init ! 14 refl (tt, record { fits = lit< tt })) $
       -- [_12; …; _0; …; the token; what the parameters own]
       move ! (27 ∷ []) $ fsplit ! $ drop ! $ fsplit ! $ move ! (1 ∷ []) $ drop ! $ fsplit ! $ drop ! $ fsplit ! $
       -- [obs; the borrow; _12; …; _0; …; the token]
       move ! (28 ∷ []) $ split ! $ move ! (1 ∷ []) $ drop ! $
-      rewrite ! 1 (λ (d : List Task). ‵ (Seen d)) (turns-none (t .rows) ys n) refl $ rewrite ! 2 (λ (d : List Task). ‵ (Bor d)) (turns-none (t .rows) ys n) refl $
+      rewrite ! 1 (λ (d : List Task). ‵ (Seen d)) (turns-none (t .rows) ys n) refl $
+      rewrite ! 2 (λ (d : List Task). ‵ (Bor d)) (turns-none (t .rows) ys n) refl $
       looped 𝓣 gn (pre .0) (pre .1) l₀ l₁ l₂ l₃ l₄ l₅ l₆ l₇ l₈ l₉ l₁₀ l₁₁ l₁₂)))))))))))))
     where
       n-fits : n < 2 ^ 64

@@ -21,11 +21,13 @@ put-text-requires c κs = search needs
 
 returns : tie.Need-returns
 returns c =
-    rw (sheet-refused _ _ (c .before .before .before .before .before .read .ensures) _ (c .before .before .before .verdict .given .1)) (c .put-refusal .ensures)
+    let verdict = c .before .before .before in
+    rw (sheet-refused _ _ (verdict .before .before .read .ensures) _ (verdict .verdict .given .1)) (c .put-refusal .ensures)
 
 returns-2 : tie.Need-returns-2
 returns-2 c =
-    rw (sheet-taken _ _ (c .before .before .before .before .before .before .read .ensures) (c .before .before .before .before .enum-told .given .1)) (c .put-text .ensures)
+    let taken = c .before .before .before .before in
+    rw (sheet-taken _ _ (taken .before .before .read .ensures) (taken .enum-told .given .1)) (c .put-text .ensures)
 
 pub take-out-spec : {M : Type 1} → statement M
 take-out-spec =

@@ -20,7 +20,8 @@ use contract.Monad.{Fun}
 use contract.Running.{givenOf, tables, tablesOf}
 use types.Kit.{Given, ‵, raw, _⊛_, ⋆, _$_, _∵_, !, qed, by, move, keep, drop, group, use0, use1, split, join, fsplit, fjoin, feqL, suffices, frame, done}
 use types.Part.{agg, whole, sub, look-in}
-use types.Run.{look, init, forget, stop, hop, fld, from, load, addr, and-then, no-more, assigns, land, returns, enter, alloc1, alloc0, params1, pass1, pass0, free1, free0}
+use types.Run.{look, init, forget, stop, hop, fld, from, load, addr, and-then, no-more}
+use types.Run.{assigns, land, returns, enter, alloc1, alloc0, params1, pass1, pass0, free1, free0}
 use sound.WpLaws.{fmOf, WpFn-mono}
 use denote.RattleType.{owns}
 use denote.Laws.{Is, shows}
@@ -125,10 +126,12 @@ module _ {M : Type 1} (𝓤 : URA M) (H : Heap 𝓤) (A : Atoms 𝓤) (W : Given
   asks-import : ent 𝓤 (⋆ 𝓤 H A (‵ (flft κ q) ∷ ‵ (flft κ₁ q₁) ∷ ‵ OwnX ∷ ‵ OwnY ∷ [])) (Core 𝓤 H A mem run .pre to-import)
   asks-import =
       qed W (‵ (flft κ q) ∷ ‵ (flft κ₁ q₁) ∷ ‵ OwnX ∷ ‵ OwnY ∷ []) ∵
-      nothing ! $ move ! (1 ∷ 2 ∷ 0 ∷ []) $ group ! 3 $ nothing ! $ move ! (3 ∷ 0 ∷ []) $ fjoin ! $ move ! (2 ∷ 0 ∷ []) $ fjoin ! $ move ! (1 ∷ 0 ∷ []) $ join ! $ frame ! $ done !
+      nothing ! $ move ! (1 ∷ 2 ∷ 0 ∷ []) $ group ! 3 $ nothing ! $ move ! (3 ∷ 0 ∷ []) $ fjoin ! $ move ! (2 ∷ 0 ∷ []) $ fjoin ! $ move ! (1 ∷ 0 ∷ []) $
+      join ! $ frame ! $ done !
 
   asks-tell : (r : Counted) (u : Val) → Is C.the-row r (u ∷ []) → ent 𝓤 (emp 𝓤) (Tell 𝓤 H A mem run .pre (to-tell r u))
-  asks-tell r u is = qed W [] ∵ nothing ! $ owned ! C.the-row (Is C.the-row) (EL.makes C.the-type C′.the-plain 𝓤 H A) r _ is $ fjoin ! $ nothing ! $ join ! $ frame ! $ done !
+  asks-tell r u is =
+      qed W [] ∵ nothing ! $ owned ! C.the-row (Is C.the-row) (EL.makes C.the-type C′.the-plain 𝓤 H A) r _ is $ fjoin ! $ nothing ! $ join ! $ frame ! $ done !
 
   walk : (𝓣 : Tables 𝓤 H) → Known 𝓤 H A mem run 𝓣 → Room u8 (length (x .now)) → Room P.the-row (length (y .now))
       → ent 𝓤 (onEntry 𝓤 H A call.signature (κ, (κ₁, tt)) (q, (q₁, tt)) args at) (WpFn 𝓤 H (𝓣 .C) (𝓣 .Λ) code.function (v ∷ vy ∷ []) Post)
@@ -141,22 +144,29 @@ module _ {M : Type 1} (𝓤 : URA M) (H : Heap 𝓤) (A : Atoms 𝓤) (W : Given
       move ! (14 ∷ []) $ split ! $ move ! (1 ∷ []) $ split ! $ move ! (1 ∷ []) $ drop ! $
       -- [κ₁; κ; rows'; text's; _5 at 4; _4 at 6; _3 at 8; _2 at 10; _1 at 12; _0 at 14]
       assigns ! (addr ! (from ! (fld ! refl (hop ! (look-in ! 10 (sub ! 0 refl (whole !))) (stop !))))) (from ! (stop !)) (init ! 6 refl (tt, tt)) $
-      assigns ! (agg ! (and-then ! (load ! (from ! (stop !)) (look ! 6 refl)) (and-then ! (load ! (from ! (fld ! refl (stop !))) (look-in ! 10 (sub ! 1 refl (whole !)))) (no-more !)))) (from ! (stop !)) (init ! 4 refl (tt, (tt, (record { fits = gy .0 }, tt)))) $
+      assigns ! (agg ! (and-then ! (load ! (from ! (stop !)) (look ! 6 refl))
+      (and-then ! (load ! (from ! (fld ! refl (stop !))) (look-in ! 10 (sub ! 1 refl (whole !)))) (no-more !)))) (from ! (stop !))
+      (init ! 4 refl (tt, (tt, (record { fits = gy .0 }, tt)))) $
       move ! (3 ∷ []) $ use1 W (‵ OwnX ⊛ ‵ OwnX) (shr-slice-copy 𝓤 H A W (named 0) κ u8 .twice x (v ∷ [])) $ split ! $
       -- [text's; text's; κ₁; κ; rows'; _5 at 5; …]
       move ! (3 ∷ 2 ∷ 0 ∷ 4 ∷ []) $ group ! 4 $ use1 W (raw (Core 𝓤 H A mem run .pre to-import)) asks-import $
       -- [what `import` asks; text's; _5 at 2; _4 at 4; _3 at 6; _2 at 8; _1 at 10; _0 at 12]
-      gets ! (fmOf 𝓤 H (W .laws) 𝓣) core.ended (core.clauses 𝓤 H A mem run) (known .0) to-import (λ r ws. Imports (x .now) (y .now) r (ws .1 .0)) (λ r ws. id⊢ 𝓤 _)
+      gets ! (fmOf 𝓤 H (W .laws) 𝓣) core.ended (core.clauses 𝓤 H A mem run) (known .0) to-import (λ r ws. Imports (x .now) (y .now) r (ws .1 .0))
+      (λ r ws. id⊢ 𝓤 _)
       (and-then ! (load ! (from ! (stop !)) (look ! 10 refl)) (and-then ! (load ! (from ! (stop !)) (look ! 2 refl)) (no-more !))) (λ u r ws f.
       -- [the answer's; the lifetimes; what says the last values; text's; _5 at 4; …; _3 at 8; …; _0 at 14]
-      peeks ! C.the-row (Is C.the-row) (shows 𝓤 H A C.the-row) r (u ∷ []) (λ is. land ! (from ! (stop !)) (init ! 8 refl (EL.lawful C.the-type C′.the-laws 𝓤 H A W tt .typed r _ is .0)) $ drop ! $
+      peeks ! C.the-row (Is C.the-row) (shows 𝓤 H A C.the-row) r (u ∷ [])
+      (λ is. land ! (from ! (stop !)) (init ! 8 refl (EL.lawful C.the-type C′.the-laws 𝓤 H A W tt .typed r _ is .0)) $ drop ! $
       -- [the lifetimes; what says the last values; text's; _5 at 3; …; _3 at 7; …; _0 at 13]
       use0 W (raw (Tell 𝓤 H A mem run .pre (to-tell r u))) (asks-tell r u is) $
-      gets-val ! (fmOf 𝓤 H (W .laws) 𝓣) tell.ended (tell.clauses 𝓤 H A mem run) (known .1) (to-tell r u) (λ t. toldCount t ≡ handedCount r) R′.lowered (R′.lowers .val-is) (λ t ws. id⊢ 𝓤 _)
-      (and-then ! (load ! (from ! (stop !)) (look ! 8 refl)) (no-more !)) (λ t e it. drop ! $ drop ! $ land ! (from ! (stop !)) (init ! 13 refl (LL.lawful R.the-type R′.the-laws 𝓤 H A W .typed t _ it .0)) $
+      gets-val ! (fmOf 𝓤 H (W .laws) 𝓣) tell.ended (tell.clauses 𝓤 H A mem run) (known .1) (to-tell r u) (λ t. toldCount t ≡ handedCount r) R′.lowered
+      (R′.lowers .val-is) (λ t ws. id⊢ 𝓤 _)
+      (and-then ! (load ! (from ! (stop !)) (look ! 8 refl)) (no-more !))
+      (λ t e it. drop ! $ drop ! $ land ! (from ! (stop !)) (init ! 13 refl (LL.lawful R.the-type R′.the-laws 𝓤 H A W .typed t _ it .0)) $
       -- [the lifetimes; what says the last values; text's; _5 at 3; …; _0 at 13]
       returns ! (look ! 13 refl) $ forget ! 3 refl $ forget ! 5 refl $ forget ! 7 refl $ forget ! 9 refl $ forget ! 11 refl $ forget ! 13 refl $
-      move ! (13 ∷ 14 ∷ []) $ free1 ! $ move ! (11 ∷ 12 ∷ []) $ free1 ! $ move ! (9 ∷ 10 ∷ []) $ free1 ! $ move ! (7 ∷ 8 ∷ []) $ free1 ! $ move ! (5 ∷ 6 ∷ []) $ free1 ! $ move ! (3 ∷ 4 ∷ []) $ free1 ! $ free0 ! $
+      move ! (13 ∷ 14 ∷ []) $ free1 ! $ move ! (11 ∷ 12 ∷ []) $ free1 ! $ move ! (9 ∷ 10 ∷ []) $ free1 ! $ move ! (7 ∷ 8 ∷ []) $ free1 ! $
+      move ! (5 ∷ 6 ∷ []) $ free1 ! $ move ! (3 ∷ 4 ∷ []) $ free1 ! $ free0 ! $
       -- what says the last values has a part for each parameter of `import`, nothing for the first
       move ! (1 ∷ []) $ fsplit ! $ drop ! $ fsplit ! $ fsplit ! $ move ! (1 ∷ []) $ feqL ! (λ lz.
       -- [the rows' last list; true; the lifetimes; text's]
@@ -168,9 +178,11 @@ module _ {M : Type 1} (𝓤 : URA M) (H : Heap 𝓤) (A : Atoms 𝓤) (W : Given
   import-walks : (𝓣 : Tables 𝓤 H) → Known 𝓤 H A mem run 𝓣 → Walks 𝓤 H A call.ended stayed (WpFn 𝓤 H (𝓣 .C) (𝓣 .Λ) code.function) (call.clauses 𝓤 H A mem run)
   import-walks 𝓣 known = walked 𝓤 H A call.ended stayed (call.clauses 𝓤 H A mem run) (WpFn 𝓤 H (𝓣 .C) (𝓣 .Λ) code.function)
       (λ κs. (slice-vals, (slice-vals, tt))) (λ κs. (shr-slice-tells (named 0) (κs .0) u8, (mut-slice-tells (named 1) (κs .1 .0) P.the-row, tt)))
-      (λ κs qs bounds a g are. via 𝓤 _ (fst∗ 𝓤 _ (emp 𝓤)) (walk 𝓤 H A W mem run (κs .0) (κs .1 .0) (qs .0) (qs .1 .0) (a .0) (a .1 .0) 𝓣 known (are .0 .0 .1) (are .1 .0 .0 .1)))
+      (λ κs qs bounds a g are. via 𝓤 _ (fst∗ 𝓤 _ (emp 𝓤)) (walk 𝓤 H A W mem run (κs .0) (κs .1 .0) (qs .0) (qs .1 .0) (a .0) (a .1 .0) 𝓣 known
+      (are .0 .0 .1) (are .1 .0 .0 .1)))
 
-import-meets : {M : Type 1} (𝓤 : URA M) (H : Heap 𝓤) (A : Atoms 𝓤) → Given 𝓤 H A → (mem : Memory → SProp 𝓤) (run : Routine → Fun 𝓤) (𝓣 : Tables 𝓤 H) → Known 𝓤 H A mem run 𝓣
+import-meets : {M : Type 1} (𝓤 : URA M) (H : Heap 𝓤) (A : Atoms 𝓤) → Given 𝓤 H A → (mem : Memory → SProp 𝓤) (run : Routine → Fun 𝓤) (𝓣 : Tables 𝓤 H)
+    → Known 𝓤 H A mem run 𝓣
     → Meets 𝓤 H A call.signature (WpFn 𝓤 H (𝓣 .C) (𝓣 .Λ) code.function) (call.spec 𝓤 H A mem run)
 import-meets 𝓤 H A W mem run 𝓣 known = walk-meets 𝓤 H A call.ended stayed W
     (goes-none-slice 𝓤 H A W 2 (0 ∷ []) tt (plain (λ _. u8)) yes, (goes-gave-slice 𝓤 H A W 2 1 tt (plain (λ _. P.the-row)), tt))
@@ -183,5 +195,6 @@ eelbasket-import-spec 𝓤 H 𝓜 𝓖 𝓡 =
     (tables 𝓤 H 𝓜 𝓡 code.env .C) (tables 𝓤 H 𝓜 𝓡 code.env .Λ) #texts·eelbasket-import code.function (code.unfolded 𝓤 H 𝓜 𝓡)
     (import-meets 𝓤 H (𝓖 .A) (givenOf 𝓤 H 𝓜 𝓖) (𝓜 .mem) (𝓡 .run) (tablesOf 𝓤 H 𝓜 (tables 𝓤 H 𝓜 𝓡 code.env)) (
       cited 𝓤 H (Core 𝓤 H (𝓖 .A) (𝓜 .mem) (𝓡 .run)) 𝓜 𝓡 code.env #office-rows·import core-def.routine code.calls-office-rows·import (core-thm.met 𝓤 H 𝓜 𝓖 𝓡),
-      cited 𝓤 H (Tell 𝓤 H (𝓖 .A) (𝓜 .mem) (𝓡 .run)) 𝓜 𝓡 code.env #told-sheets·tell-count tell-def.routine code.calls-told-sheets·tell-count (tell-thm.met 𝓤 H 𝓜 𝓖 𝓡),
+      cited 𝓤 H (Tell 𝓤 H (𝓖 .A) (𝓜 .mem) (𝓡 .run)) 𝓜 𝓡 code.env #told-sheets·tell-count tell-def.routine code.calls-told-sheets·tell-count
+          (tell-thm.met 𝓤 H 𝓜 𝓖 𝓡),
     ))

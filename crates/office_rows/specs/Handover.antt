@@ -1,4 +1,4 @@
--- A lent slice of tasks whose first entries are those of a table.
+-- What the functions of this crate hand each other: a lent slice of tasks whose first entries are those of a table.
 -- Assumes nothing.
 use Prim.Native.Nat.{ℕ, zero, suc}
 use mathlib.Core.List.{List}
