@@ -32,7 +32,8 @@ unfolding stored
 put-none out at = record { next-is = sym (add-zero at); run-long = refl; new-is = refl }
 
 -- a run after a run is one run
-pub put-then : {out mid new : List ℕ} {at m next n end : ℕ} {xs ys : List ℕ} → Put out at m xs next mid → Put mid next n ys end new → Put out at (m + n) (xs ++ ys) end new
+pub put-then : {out mid new : List ℕ} {at m next n end : ℕ} {xs ys : List ℕ} → Put out at m xs next mid → Put mid next n ys end new
+    → Put out at (m + n) (xs ++ ys) end new
 unfolding stored
 put-then {out} {mid} {new} {at} {m} {next} {n} {end} {xs} {ys} p q =
     let e : next ≡ at + length xs = omega (arith, p .next-is, p .run-long) in

@@ -28,7 +28,8 @@ module _ (s : List ℕ) (settings at-policy : ℕ) (g₁ : Got s settingsPlace 2
     pub ends-in-head : length s < recordsPlace → refused noSheet (SheetEnds (length s)) ≡ readSheet s
     ends-in-head h = tasks-missing s (omega arith) stands h
 
-    module _ (number at-m m at-tasks n from : ℕ) (g₂ : Got s at-policy 2 u16At number at-m) (g₃ : Got s at-m 2 u16At m at-tasks) (g₄ : Got s at-tasks 2 u16At n from) where
+    module _ (number at-m m at-tasks n from : ℕ) (g₂ : Got s at-policy 2 u16At number at-m) (g₃ : Got s at-m 2 u16At m at-tasks)
+        (g₄ : Got s at-tasks 2 u16At n from) where
       at-m-is : at-m ≡ mPlace
       at-m-is = omega arith
 

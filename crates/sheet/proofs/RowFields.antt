@@ -101,7 +101,8 @@ module _ {A R : Type 0} (made : Bool → List A → ℕ → R) (none : A) (size 
   rows-missing : length s < from + size * n → rowsBy made none size rowAt s from n ≡ made false (replicate mostTasks none) from
   rows-missing h = rw (lt-leb (from + size * n) (length s) h)
 
-  module _ (whole : R → Bool) (tells : (b : Bool) (rows : List A) (next : ℕ) → whole (made b rows next) ≡ b) (r : R) (e : r ≡ rowsBy made none size rowAt s from n) where
+  module _ (whole : R → Bool) (tells : (b : Bool) (rows : List A) (next : ℕ) → whole (made b rows next) ≡ b) (r : R)
+      (e : r ≡ rowsBy made none size rowAt s from n) where
     rows-got : whole r ≡ true → (from + size * n ≤ length s) × (r ≡ made true (rowsAt none size rowAt s from n) (from + size * n))
     rows-got w =
         by-le (from + size * n) (length s)
@@ -130,7 +131,8 @@ module _ (s : List ℕ) (from n : ℕ) where
   unfolding taskRows
   tasks-missed = rows-missed madeTasks noTask taskSize taskAt s from n (λ (r : TaskRows). r .whole) (λ b rows next. refl)
 
-  pub results-there : from + grantedSize * n ≤ length s → grantedRows s from n ≡ madeGranted true (rowsAt noGranted grantedSize grantedAt s from n) (from + grantedSize * n)
+  pub results-there : from + grantedSize * n ≤ length s
+      → grantedRows s from n ≡ madeGranted true (rowsAt noGranted grantedSize grantedAt s from n) (from + grantedSize * n)
   unfolding grantedRows
   results-there = rows-there madeGranted noGranted grantedSize grantedAt s from n
 

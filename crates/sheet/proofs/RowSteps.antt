@@ -58,7 +58,8 @@ module _ {s : List ℕ} {settings : Settings} {n from : ℕ} {t : TaskRows} (b :
       let g = tasks-got s recordsPlace (taskCount s) t same w .1 in
       record { begins = b; rows-is = ap (λ (x : TaskRows). x .rows) g; next-is = ap (λ (x : TaskRows). x .next) g }
 
-module _ {s : List ℕ} {settings : Settings} {n from : ℕ} {t : TaskRows} {field : Field16} (p : TasksRead s settings n from t) (e : field ≡ field16 s (t .next)) where
+module _ {s : List ℕ} {settings : Settings} {n from : ℕ} {t : TaskRows} {field : Field16} (p : TasksRead s settings n from t)
+    (e : field ≡ field16 s (t .next)) where
   pub count-end : {refusal : Refusal} → field ≡ two.Refused refusal → refused noSheet (SheetEnds (length s)) ≡ readRows s
   count-end {refusal} k =
       let m = missed16 s (t .next) field refusal e k in

@@ -40,7 +40,8 @@ module _ (s : List ℕ) (bytes : Bytes s) (x : Sheet) (e : readSheet s ≡ accep
   read-length = sym (encode-long x) ∙ ap length read-encode
 
   -- into any buffer that has the room
-  pub read-write : (old new : List ℕ) (r : Counted) → Writes x old r new → length s ≤ length old → (r ≡ counted.Count (length s)) × (new ≡ s ++ drop (length s) old)
+  pub read-write : (old new : List ℕ) (r : Counted) → Writes x old r new → length s ≤ length old
+      → (r ≡ counted.Count (length s)) × (new ≡ s ++ drop (length s) old)
   unfolding sheetIn
   read-write old new r p room =
       let w = whole s x e in
@@ -61,7 +62,8 @@ write-read x h old new k p =
     ap readSheet front ∙ forth x h (a .few) (a .fit)
 
 -- which is the sheet itself exactly where its policy is the one meant and its unused places are zeros
-pub canonical-same : (x : Sheet) → length (x .table .rows) ≡ mostTasks → length (x .results .rows) ≡ mostTasks → x .table .n ≤ mostTasks → x .results .n ≤ mostTasks
+pub canonical-same : (x : Sheet) → length (x .table .rows) ≡ mostTasks → length (x .results .rows) ≡ mostTasks → x .table .n ≤ mostTasks
+    → x .results .n ≤ mostTasks
     → Canonical x → canonical x ≡ x
 unfolding canonical
 canonical-same x room room′ few few′ c =
