@@ -1,12 +1,12 @@
 // Fields: numbers of 2 and of 4 bytes, lowest byte first, read at a place of a lent slice and put at a place of a lent buffer. Contracts
-// cite `specs/Number`, `specs/Field` and `specs/Stored`.
+// cite `specs/Number`, `specs/Field` and `specs/Handover`.
 use kinds::Refusal;
 ghost use mathlib.Core.Path.{_≡_};
 ghost use Prim.Native.Nat.{_+_, _-_, _≤_, _<_};
 ghost use lib.ListN.{length};
 ghost use Rattle.field.specs.Number.{bytesOf};
 ghost use Rattle.field.specs.Field.{field16, field32};
-ghost use Rattle.field.specs.Stored.{Put};
+ghost use Rattle.field.specs.Handover.{Put};
 
 // A field of 2 bytes: its value and the place after it, or the refusal.
 pub enum Field16 {

@@ -40,7 +40,7 @@ use Rattle.writer.specs.Canonical.{grantedIn}
 use Rattle.fill.specs.Results.{withPlan}
 use Rattle.fill.proofs.Held.{list-in}
 use Rattle.filled_sheet.specs.Checked.{differ, differsAt, firstDiffering, compared, checkedSheet, checked}
-use Rattle.filled_sheet.specs.Agrees.{grantedAt, Agrees}
+use Rattle.filled_sheet.proofs.Agrees.{grantedAt, Agrees}
 use Rattle.filled_sheet.proofs.Compared.{planned-at}
 
 -- number 0 from the plain finder is an acceptance

@@ -26,7 +26,7 @@ use Rattle.fill.proofs.Readings.{filled-planned}
 use Rattle.fill.proofs.Again.{reads-again}
 use Rattle.fill.proofs.Held.{plan-room, plan-unused}
 use Rattle.filled_sheet.specs.Checked.{checked}
-use Rattle.filled_sheet.specs.Agrees.{Agrees}
+use Rattle.filled_sheet.proofs.Agrees.{Agrees}
 use Rattle.filled_sheet.proofs.Exactly.{plan-at, read-few, accepted-agrees, agrees-accepted}
 
 -- a sheet with its plan agrees

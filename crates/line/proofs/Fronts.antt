@@ -6,7 +6,7 @@ use mathlib.Core.Path.{_≡_, sym, ap, ap₂, _∙_}
 use native.Mathlib.Omega.{arith}
 use lib.ListN.{length, take, drop, length-append, length-drop, take-append-drop}
 use lib.Seq.{take-at, drop-at, length-take-le}
-use Rattle.field.specs.Stored.{Put}
+use Rattle.field.specs.Handover.{Put}
 use Rattle.field.proofs.Stores.{stored-front}
 use Rattle.line.specs.Fronts.{Fronts}
 

@@ -13,7 +13,8 @@ use Rattle.kinds.specs.Answer.{refused}
 use Rattle.field.specs.Number.{u16At}
 use Rattle.field.proofs.Fields.{Got}
 use Rattle.sheet.specs.Sections.{settingsCount, settingsPlace, policyPlace, mPlace, tasksPlace, recordsPlace}
-use Rattle.sheet.specs.Reading.{noSheet, taskCount, settingsIn, readSheet, Begins}
+use Rattle.sheet.specs.Reading.{noSheet, taskCount, settingsIn, readSheet}
+use Rattle.sheet.specs.Handover.{Begins}
 use Rattle.sheet.proofs.Stages.{settings-wrong, tasks-missing, too-many, head-whole}
 
 module _ (s : List ℕ) (settings at-policy : ℕ) (g₁ : Got s settingsPlace 2 u16At settings at-policy) where

@@ -21,7 +21,8 @@ use Rattle.sheet.specs.declared.TaskRows.{TaskRows}
 use Rattle.sheet.specs.declared.GrantedRows.{GrantedRows}
 use Rattle.sheet.specs.Sections.{taskSize, grantedSize, recordsPlace, resultsPlace, grantedPlace, resultsFit}
 use Rattle.sheet.specs.Rows.{taskAt, grantedAt, noGranted, rowsAt, taskRows, grantedRows}
-use Rattle.sheet.specs.Reading.{noSheet, taskCount, resultCount, endOf, sheetIn, readRows, Begins}
+use Rattle.sheet.specs.Reading.{noSheet, taskCount, resultCount, endOf, sheetIn, readRows}
+use Rattle.sheet.specs.Handover.{Begins}
 use Rattle.sheet.proofs.RowFields.{tasks-got, tasks-missed, results-got, results-missed}
 use Rattle.sheet.proofs.Stages as stages
 

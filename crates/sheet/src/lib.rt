@@ -1,5 +1,5 @@
 // Reading a station sheet: fields, rows and sections on a slice and a place, and above them the `Reader`, which holds both. Callers use
-// `read`. Contracts cite `specs/Sections`, `specs/Rows` and `specs/Reading`.
+// `read`. Contracts cite `specs/Sections`, `specs/Rows`, `specs/Reading` and `specs/Handover`.
 use field::Field16;
 use field::Field32;
 use kinds::Granted;
@@ -18,7 +18,8 @@ ghost use Rattle.kinds.specs.Limits.{mostTasks};
 ghost use Rattle.kinds.specs.Answer.{refused};
 ghost use Rattle.sheet.specs.Sections.{recordsPlace, resultsPlace, endPlace, longestSheet, resultsFit};
 ghost use Rattle.sheet.specs.Rows.{taskField, grantedField, taskRows, grantedRows};
-ghost use Rattle.sheet.specs.Reading.{noSheet, readRows, readSheet, readFrom, Begins, HeadTells, handedReading};
+ghost use Rattle.sheet.specs.Reading.{noSheet, readRows, readSheet, readFrom, handedReading};
+ghost use Rattle.sheet.specs.Handover.{Begins, HeadTells};
 
 // A verdict, and the sheet: that of zeros where it was refused.
 pub struct Reading {
