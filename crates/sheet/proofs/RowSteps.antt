@@ -7,7 +7,6 @@ use mathlib.Core.Path.{_≡_, sym, ap, _∙_}
 use native.Mathlib.Omega.{arith}
 use lib.ListN.{length}
 use Rattle.kinds.specs.declared.Settings.{Settings}
-use Rattle.kinds.specs.declared.Refusal.{Refusal}
 use Rattle.kinds.specs.declared.Refusal.the-variants.{SheetEnds, WrongResultCount, BytesAfterLast}
 use Rattle.kinds.specs.Limits.{mostTasks}
 use Rattle.kinds.specs.Task.{noTask}
@@ -61,9 +60,9 @@ module _ {s : List ℕ} {settings : Settings} {n from : ℕ} {t : TaskRows} (b :
 
 module _ {s : List ℕ} {settings : Settings} {n from : ℕ} {t : TaskRows} {field : Field16} (p : TasksRead s settings n from t)
     (e : field ≡ field16 s (t .next)) where
-  pub count-end : {refusal : Refusal} → field ≡ two.Refused refusal → refused noSheet (SheetEnds (length s)) ≡ readRows s
-  count-end {refusal} k =
-      let m = missed16 s (t .next) field refusal e k in
+  pub count-end : field ≡ two.Missing → refused noSheet (SheetEnds (length s)) ≡ readRows s
+  count-end k =
+      let m = missed16 s (t .next) field e k in
       let h = p .next-is in
       stages.count-missing s (omega arith)
 

@@ -79,16 +79,16 @@ pub fn results_fit(r: usize, n: usize) -> bool
     r == n
 }
 
-// A task record and the place after it, or the refusal.
+// A task record and the place after it, or that it is not there.
 enum TaskField {
     Value(Task, usize),
-    Refused(Refusal),
+    Missing,
 }
 
-// A result and the place after it, or the refusal.
+// A result and the place after it, or that it is not there.
 enum GrantedField {
     Value(Granted, usize),
-    Refused(Refusal),
+    Missing,
 }
 
 // The task record at a place.
@@ -96,16 +96,16 @@ fn read_task(s: &[u8], at: usize) -> TaskField
     ensures { λ r. ⌜ r ≡ taskField (now (s .entry)) at ⌝ }
 {
     let Field32::Value(c, at_tmin) = field::read_u32(s, at) else {
-        return TaskField::Refused(Refusal::SheetEnds(s.len()));
+        return TaskField::Missing;
     };
     let Field32::Value(tmin, at_tmax) = field::read_u32(s, at_tmin) else {
-        return TaskField::Refused(Refusal::SheetEnds(s.len()));
+        return TaskField::Missing;
     };
     let Field32::Value(tmax, at_e) = field::read_u32(s, at_tmax) else {
-        return TaskField::Refused(Refusal::SheetEnds(s.len()));
+        return TaskField::Missing;
     };
     let Field32::Value(e, next) = field::read_u32(s, at_e) else {
-        return TaskField::Refused(Refusal::SheetEnds(s.len()));
+        return TaskField::Missing;
     };
     TaskField::Value(Task::new(c, tmin, tmax, e), next)
 }
@@ -115,10 +115,10 @@ fn read_granted(s: &[u8], at: usize) -> GrantedField
     ensures { λ r. ⌜ r ≡ grantedField (now (s .entry)) at ⌝ }
 {
     let Field32::Value(period, at_processor) = field::read_u32(s, at) else {
-        return GrantedField::Refused(Refusal::SheetEnds(s.len()));
+        return GrantedField::Missing;
     };
     let Field16::Value(processor, next) = field::read_u16(s, at_processor) else {
-        return GrantedField::Refused(Refusal::SheetEnds(s.len()));
+        return GrantedField::Missing;
     };
     GrantedField::Value(Granted { period, processor }, next)
 }

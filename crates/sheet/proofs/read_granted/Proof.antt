@@ -18,7 +18,7 @@ enum-told c = search needs
 
 returns : tie.Need-returns
 returns c =
-    let m = missed32 _ _ _ _ (c .before .before .read-u32 .ensures) (c .enum-told .given .1) in
+    let m = missed32 _ _ _ (c .before .before .read-u32 .ensures) (c .enum-told .given .1) in
     sym (granted-missing _ _ (omega arith))
 
 read-u16-requires : tie.Need-read-u16-requires
@@ -34,7 +34,7 @@ returns-2 : tie.Need-returns-2
 returns-2 c =
     let has-period = c .before .before .before .before in
     let g1 = got32 _ _ _ _ _ (has-period .before .before .read-u32 .ensures) (has-period .period .given .1) in
-    let m = missed16 _ _ _ _ (c .before .before .read-u16 .ensures) (c .enum-told2 .given .1) in
+    let m = missed16 _ _ _ (c .before .before .read-u16 .ensures) (c .enum-told2 .given .1) in
     sym (granted-missing _ _ (omega arith))
 
 returns-3 : tie.Need-returns-3

@@ -18,7 +18,7 @@ enum-told c = search needs
 
 returns : tie.Need-returns
 returns c =
-    let m = missed16 _ _ _ _ (c .before .before .read-u16 .ensures) (c .enum-told .given .1) in
+    let m = missed16 _ _ _ (c .before .before .read-u16 .ensures) (c .enum-told .given .1) in
     settings-missing _ (omega arith)
 
 returns-2 : tie.Need-returns-2
@@ -41,7 +41,7 @@ returns-3 c =
     let two = c .before .before .before in
     let has-settings = two .before .before in
     let g1 = got16 _ _ _ _ _ (has-settings .before .before .read-u16 .ensures) (has-settings .settings .given .1) in
-    let m = missed16 _ _ _ _ (c .before .before .read-u162 .ensures) (c .enum-told2 .given .1) in
+    let m = missed16 _ _ _ (c .before .before .read-u162 .ensures) (c .enum-told2 .given .1) in
     ends-in-head _ _ _ g1 (two .if1 .left) (omega arith)
 
 read-u16-requires-3 : tie.Need-read-u16-requires-3
@@ -60,7 +60,7 @@ returns-4 c =
     let has-settings = two .before .before in
     let g1 = got16 _ _ _ _ _ (has-settings .before .before .read-u16 .ensures) (has-settings .settings .given .1) in
     let g2 = got16 _ _ _ _ _ (has-number .before .before .read-u162 .ensures) (has-number .number .given .1) in
-    let m = missed16 _ _ _ _ (c .before .before .read-u163 .ensures) (c .enum-told3 .given .1) in
+    let m = missed16 _ _ _ (c .before .before .read-u163 .ensures) (c .enum-told3 .given .1) in
     ends-in-head _ _ _ g1 (two .if1 .left) (omega arith)
 
 read-u16-requires-4 : tie.Need-read-u16-requires-4
@@ -81,7 +81,7 @@ returns-5 c =
     let g1 = got16 _ _ _ _ _ (has-settings .before .before .read-u16 .ensures) (has-settings .settings .given .1) in
     let g2 = got16 _ _ _ _ _ (has-number .before .before .read-u162 .ensures) (has-number .number .given .1) in
     let g3 = got16 _ _ _ _ _ (has-m .before .before .read-u163 .ensures) (has-m .m .given .1) in
-    let m = missed16 _ _ _ _ (c .before .before .read-u164 .ensures) (c .enum-told4 .given .1) in
+    let m = missed16 _ _ _ (c .before .before .read-u164 .ensures) (c .enum-told4 .given .1) in
     ends-in-head _ _ _ g1 (two .if1 .left) (omega arith)
 
 cast-n : tie.Need-cast-n

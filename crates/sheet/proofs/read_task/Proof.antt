@@ -18,7 +18,7 @@ enum-told c = search needs
 
 returns : tie.Need-returns
 returns c =
-    let m = missed32 _ _ _ _ (c .before .before .read-u32 .ensures) (c .enum-told .given .1) in
+    let m = missed32 _ _ _ (c .before .before .read-u32 .ensures) (c .enum-told .given .1) in
     sym (task-missing _ _ (omega arith))
 
 read-u32-requires-2 : tie.Need-read-u32-requires-2
@@ -34,7 +34,7 @@ returns-2 : tie.Need-returns-2
 returns-2 c =
     let has-c = c .before .before .before .before in
     let g1 = got32 _ _ _ _ _ (has-c .before .before .read-u32 .ensures) (has-c .c .given .1) in
-    let m = missed32 _ _ _ _ (c .before .before .read-u322 .ensures) (c .enum-told2 .given .1) in
+    let m = missed32 _ _ _ (c .before .before .read-u322 .ensures) (c .enum-told2 .given .1) in
     sym (task-missing _ _ (omega arith))
 
 read-u32-requires-3 : tie.Need-read-u32-requires-3
@@ -52,7 +52,7 @@ returns-3 c =
     let has-c = has-tmin .before .before .before .before in
     let g1 = got32 _ _ _ _ _ (has-c .before .before .read-u32 .ensures) (has-c .c .given .1) in
     let g2 = got32 _ _ _ _ _ (has-tmin .before .before .read-u322 .ensures) (has-tmin .tmin .given .1) in
-    let m = missed32 _ _ _ _ (c .before .before .read-u323 .ensures) (c .enum-told3 .given .1) in
+    let m = missed32 _ _ _ (c .before .before .read-u323 .ensures) (c .enum-told3 .given .1) in
     sym (task-missing _ _ (omega arith))
 
 read-u32-requires-4 : tie.Need-read-u32-requires-4
@@ -72,7 +72,7 @@ returns-4 c =
     let g1 = got32 _ _ _ _ _ (has-c .before .before .read-u32 .ensures) (has-c .c .given .1) in
     let g2 = got32 _ _ _ _ _ (has-tmin .before .before .read-u322 .ensures) (has-tmin .tmin .given .1) in
     let g3 = got32 _ _ _ _ _ (has-tmax .before .before .read-u323 .ensures) (has-tmax .tmax .given .1) in
-    let m = missed32 _ _ _ _ (c .before .before .read-u324 .ensures) (c .enum-told4 .given .1) in
+    let m = missed32 _ _ _ (c .before .before .read-u324 .ensures) (c .enum-told4 .given .1) in
     sym (task-missing _ _ (omega arith))
 
 new-requires : tie.Need-new-requires
