@@ -33,7 +33,8 @@ module _ (standing proposed : List ℕ) where
   abbrev Fits : Part → Type 0
   Fits part = (part .from + part .size ≤ resultsPlace mostTasks) × (part .from + part .size ≤ length (oneOf (part .which) standing proposed))
 
-  tasks-fit : (which : Which) (section : Section) (other : Part) → sectionOf (oneOf which standing proposed) ≡ section → Fits other → Fits (tasksOr which section other)
+  tasks-fit : (which : Which) (section : Section) (other : Part) → sectionOf (oneOf which standing proposed) ≡ section → Fits other
+      → Fits (tasksOr which section other)
   tasks-fit which (Tasks n) other e fits =
       let few = section-fits (oneOf which standing proposed) n e in
       (omega (arith, few), omega (arith, few))

@@ -74,7 +74,8 @@ pub fn part_of(standing: &[u8], proposed: &[u8]) -> Part
 
 // That part itself, of the sheet that was lent and not a copy.
 pub fn change_over<'a>(standing: &'a [u8], proposed: &'a [u8]) -> &'a [u8]
-    ensures { λ r. ⌜ IsPart (changeOver (now (standing .entry)) (now (proposed .entry))) (now (standing .entry)) (now (proposed .entry)) (standing .entry .ptr) (proposed .entry .ptr) (now r) (r .ptr) ⌝ }
+    ensures { λ r. ⌜ IsPart (changeOver (now (standing .entry)) (now (proposed .entry)))
+        (now (standing .entry)) (now (proposed .entry)) (standing .entry .ptr) (proposed .entry .ptr) (now r) (r .ptr) ⌝ }
 {
     let part = part_of(standing, proposed);
     let from = part.from;

@@ -7,7 +7,7 @@ use native.Mathlib.Nat.{add-zero}
 use native.Mathlib.Omega.{arith}
 use lib.ListN.{length, set, drop, length-append}
 use lib.Seq.{sets, sets-eq, length-sets}
-use Rattle.field.specs.Stored.{stored, Put}
+use Rattle.field.specs.Handover.{stored, Put}
 
 sets-append : (out : List ℕ) (at : ℕ) (xs ys : List ℕ) → sets (sets out at xs) (at + length xs) ys ≡ sets out at (xs ++ ys)
 sets-append out at [] ys = rw (add-zero at)
@@ -32,7 +32,8 @@ unfolding stored
 put-none out at = record { next-is = sym (add-zero at); run-long = refl; new-is = refl }
 
 -- a run after a run is one run
-pub put-then : {out mid new : List ℕ} {at m next n end : ℕ} {xs ys : List ℕ} → Put out at m xs next mid → Put mid next n ys end new → Put out at (m + n) (xs ++ ys) end new
+pub put-then : {out mid new : List ℕ} {at m next n end : ℕ} {xs ys : List ℕ} → Put out at m xs next mid → Put mid next n ys end new
+    → Put out at (m + n) (xs ++ ys) end new
 unfolding stored
 put-then {out} {mid} {new} {at} {m} {next} {n} {end} {xs} {ys} p q =
     let e : next ≡ at + length xs = omega (arith, p .next-is, p .run-long) in

@@ -1,3 +1,3 @@
 pub mod Number
 pub mod Field
-pub mod Stored
+pub mod Handover

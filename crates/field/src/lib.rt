@@ -1,23 +1,22 @@
 // Fields: numbers of 2 and of 4 bytes, lowest byte first, read at a place of a lent slice and put at a place of a lent buffer. Contracts
-// cite `specs/Number`, `specs/Field` and `specs/Stored`.
-use kinds::Refusal;
+// cite `specs/Number`, `specs/Field` and `specs/Handover`.
 ghost use mathlib.Core.Path.{_≡_};
 ghost use Prim.Native.Nat.{_+_, _-_, _≤_, _<_};
 ghost use lib.ListN.{length};
 ghost use Rattle.field.specs.Number.{bytesOf};
 ghost use Rattle.field.specs.Field.{field16, field32};
-ghost use Rattle.field.specs.Stored.{Put};
+ghost use Rattle.field.specs.Handover.{Put};
 
-// A field of 2 bytes: its value and the place after it, or the refusal.
+// A field of 2 bytes: its value and the place after it, or that it is not there.
 pub enum Field16 {
     Value(u16, usize),
-    Refused(Refusal),
+    Missing,
 }
 
-// A field of 4 bytes: its value and the place after it, or the refusal.
+// A field of 4 bytes: its value and the place after it, or that it is not there.
 pub enum Field32 {
     Value(u32, usize),
-    Refused(Refusal),
+    Missing,
 }
 
 fn wide16(byte: u8) -> u16
@@ -44,7 +43,7 @@ pub fn read_u16(s: &[u8], at: usize) -> Field16
     ensures { λ r. ⌜ r ≡ field16 (now (s .entry)) at ⌝ }
 {
     if left(s, at) < 2 {
-        return Field16::Refused(Refusal::SheetEnds(s.len()));
+        return Field16::Missing;
     }
     Field16::Value(wide16(s[at]) + 256 * wide16(s[at + 1]), at + 2)
 }
@@ -54,7 +53,7 @@ pub fn read_u32(s: &[u8], at: usize) -> Field32
     ensures { λ r. ⌜ r ≡ field32 (now (s .entry)) at ⌝ }
 {
     if left(s, at) < 4 {
-        return Field32::Refused(Refusal::SheetEnds(s.len()));
+        return Field32::Missing;
     }
     let high = wide32(s[at + 2]) + 256 * wide32(s[at + 3]);
     Field32::Value(

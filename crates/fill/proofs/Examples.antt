@@ -25,8 +25,12 @@ use Rattle.fill.specs.Fill.{plannedSheet, planned, filled}
 -- "Output: the same without its last two bytes, then `01 00 0A 00 00 00 00 00`."
 whole-case : filled
     (2 ∷ 0 ∷ 1 ∷ 0 ∷ 1 ∷ 0 ∷ 1 ∷ 0 ∷ 6 ∷ 0 ∷ 0 ∷ 0 ∷ 10 ∷ 0 ∷ 0 ∷ 0 ∷ 20 ∷ 0 ∷ 0 ∷ 0 ∷ 232 ∷ 3 ∷ 0 ∷ 0 ∷ 0 ∷ 0 ∷ [])
-    ≡ 2 ∷ 0 ∷ 1 ∷ 0 ∷ 1 ∷ 0 ∷ 1 ∷ 0 ∷ 6 ∷ 0 ∷ 0 ∷ 0 ∷ 10 ∷ 0 ∷ 0 ∷ 0 ∷ 20 ∷ 0 ∷ 0 ∷ 0 ∷ 232 ∷ 3 ∷ 0 ∷ 0 ∷ 1 ∷ 0 ∷ 10 ∷ 0 ∷ 0 ∷ 0 ∷ 0 ∷ 0 ∷ []
-unfolding filled planned plannedSheet withPlan resultsOf firstFrom firstBelow leastUpTo sumTo maxTo listTo isGood shareAt saturationAt periodAt fullCompression firstBad periodsAt passes leastStep gate admission processorsAt found asked numberAt bytesOf resultsFit padded settingsIn sheetIn readRows readSheet taskBytes grantedBytes rowsBytes settingsBytes encode
+    ≡ 2 ∷ 0 ∷ 1 ∷ 0 ∷ 1 ∷ 0 ∷ 1 ∷ 0 ∷ 6 ∷ 0 ∷ 0 ∷ 0 ∷ 10 ∷ 0 ∷ 0 ∷ 0 ∷ 20 ∷ 0 ∷ 0 ∷ 0 ∷ 232 ∷ 3 ∷ 0 ∷ 0
+    ∷ 1 ∷ 0 ∷ 10 ∷ 0 ∷ 0 ∷ 0 ∷ 0 ∷ 0 ∷ []
+unfolding
+    filled planned plannedSheet withPlan resultsOf firstFrom firstBelow leastUpTo sumTo maxTo listTo isGood shareAt saturationAt periodAt
+    fullCompression firstBad periodsAt passes leastStep gate admission processorsAt found asked numberAt bytesOf resultsFit padded settingsIn
+    sheetIn readRows readSheet taskBytes grantedBytes rowsBytes settingsBytes encode
 whole-case = refl
 
 -- `refused 8 at 1` and a newline

@@ -46,7 +46,8 @@ pub list-in : (f : ℕ → ℕ) (n i : ℕ) → i < n → getD (listTo f n) i 0 
 list-in f n i l = rw (append-nil (listTo f n)) at (list-at f n i [] l)
 
 -- what holds of each row that is used, and of an unused place, holds at each number
-rows-held : {A : Type 0} (P : A → Type 0) (none : A) (f : ℕ → A) (n : ℕ) → n ≤ mostTasks → P none → ((i : ℕ) → i < n → P (f i)) → (i : ℕ) → P (getD (padded none f n) i none)
+rows-held : {A : Type 0} (P : A → Type 0) (none : A) (f : ℕ → A) (n : ℕ) → n ≤ mostTasks → P none → ((i : ℕ) → i < n → P (f i)) → (i : ℕ)
+    → P (getD (padded none f n) i none)
 rows-held P none f n few unused used i =
     by-le n i (λ h. rw (padded-out none f n i h) unused) (λ h. rw (padded-in none f n i h few) (used i h))
 
@@ -115,7 +116,8 @@ planned-held s bytes w k e =
     record {
       policy = rw (number-back (u16At s policyPlace)) (number-held s bytes 2 policyPlace);
       m = number-held s bytes 2 mPlace;
-      tasks = rows-held TaskHeld noTask tasks (taskCount s) (w .few) (record { c = omega arith; tmin = omega arith; tmax = omega arith; e = omega arith }) (λ i l. held i);
+      tasks = rows-held TaskHeld noTask tasks (taskCount s) (w .few)
+          (record { c = omega arith; tmin = omega arith; tmax = omega arith; e = omega arith }) (λ i l. held i);
       tasks-room = padded-long noTask tasks (taskCount s);
       results = results-held (sheetIn s) k (w .few) e;
       results-room = plan-room (sheetIn s) k;

@@ -26,7 +26,8 @@ use Rattle.fill.proofs.Plans.{answers, entry-is}
 use Rattle.filled_sheet.specs.Checked.{differ, unlike, differsAt, firstDiffering, compared, checkedSheet}
 
 -- result i of a sheet with a plan is entry i of the plan
-pub planned-at : (x : Sheet) (k i : ℕ) → x .table .n ≤ mostTasks → i < x .table .n → grantedIn (withPlan x k) i ≡ entryAt (planPeriods x k) (planProcessors x k) i
+pub planned-at : (x : Sheet) (k i : ℕ) → x .table .n ≤ mostTasks → i < x .table .n
+    → grantedIn (withPlan x k) i ≡ entryAt (planPeriods x k) (planProcessors x k) i
 unfolding withPlan resultsOf
 planned-at x k i few l = padded-in noGranted (entryAt (planPeriods x k) (planProcessors x k)) (x .table .n) i l few
 

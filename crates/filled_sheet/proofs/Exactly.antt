@@ -40,7 +40,7 @@ use Rattle.writer.specs.Canonical.{grantedIn}
 use Rattle.fill.specs.Results.{withPlan}
 use Rattle.fill.proofs.Held.{list-in}
 use Rattle.filled_sheet.specs.Checked.{differ, differsAt, firstDiffering, compared, checkedSheet, checked}
-use Rattle.filled_sheet.specs.Agrees.{grantedAt, Agrees}
+use Rattle.filled_sheet.proofs.Agrees.{grantedAt, Agrees}
 use Rattle.filled_sheet.proofs.Compared.{planned-at}
 
 -- number 0 from the plain finder is an acceptance
@@ -65,7 +65,8 @@ agree a b e =
     (λ p. true-false {b = either (not (eqb (a .period) (b .period))) (not (eqb (a .processor) (b .processor)))} (rw p) e)
 
 same : (a b : Granted) → a ≡ b → differ a b ≡ false
-same a b e = rw (eq-eqb (a .period) (b .period) (ap (λ (g : Granted). g .period) e), eq-eqb (a .processor) (b .processor) (ap (λ (g : Granted). g .processor) e))
+same a b e =
+    rw (eq-eqb (a .period) (b .period) (ap (λ (g : Granted). g .period) e), eq-eqb (a .processor) (b .processor) (ap (λ (g : Granted). g .processor) e))
 
 -- result i of a sheet with its plan
 pub plan-at : (x : Sheet) (k i : ℕ) → x .table .n ≤ mostTasks → i < x .table .n → grantedIn (withPlan x k) i ≡ grantedAt x k i

@@ -26,11 +26,12 @@ use Rattle.fill.proofs.Readings.{filled-planned}
 use Rattle.fill.proofs.Again.{reads-again}
 use Rattle.fill.proofs.Held.{plan-room, plan-unused}
 use Rattle.filled_sheet.specs.Checked.{checked}
-use Rattle.filled_sheet.specs.Agrees.{Agrees}
+use Rattle.filled_sheet.proofs.Agrees.{Agrees}
 use Rattle.filled_sheet.proofs.Exactly.{plan-at, read-few, accepted-agrees, agrees-accepted}
 
 -- a sheet with its plan agrees
-plan-agrees : (x : Sheet) (k : ℕ) → x .table .n ≤ mostTasks → asked x ≡ accepted k → (s : List ℕ) → readSheet s ≡ accepted (withPlan x k) → Agrees s (withPlan x k) k
+plan-agrees : (x : Sheet) (k : ℕ) → x .table .n ≤ mostTasks → asked x ≡ accepted k → (s : List ℕ) → readSheet s ≡ accepted (withPlan x k)
+    → Agrees s (withPlan x k) k
 unfolding withPlan resultsOf asked
 plan-agrees x k few p s r = record { reads = r; plans = p; counted = refl; each = λ i l. plan-at x k i few l }
 

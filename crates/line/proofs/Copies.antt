@@ -8,7 +8,7 @@ use native.Mathlib.Numerals.{add-one}
 use native.Mathlib.Omega.{arith}
 use lib.ListN.{length, set, take, getD}
 use lib.Seq.{take-suc, take-all}
-use Rattle.field.specs.Stored.{Put}
+use Rattle.field.specs.Handover.{Put}
 use Rattle.field.proofs.Stores.{put-none, put-then}
 use Rattle.numeral.proofs.Digits.{put-byte}
 

@@ -6,7 +6,7 @@ use mathlib.Core.Path.{_≡_, sym, ap, ap₂, _∙_}
 use native.Mathlib.Omega.{arith}
 use lib.ListN.{length, take, drop, length-append, length-drop, take-append-drop}
 use lib.Seq.{take-at, drop-at, length-take-le}
-use Rattle.field.specs.Stored.{Put}
+use Rattle.field.specs.Handover.{Put}
 use Rattle.field.proofs.Stores.{stored-front}
 use Rattle.line.specs.Fronts.{Fronts}
 
@@ -24,10 +24,13 @@ fronts bytes old new k counted room is =
 pub put-fronts : {bytes old new : List ℕ} {size k : ℕ} → size ≤ length old → Put old 0 size bytes k new → Fronts bytes old k new
 put-fronts {bytes} {old} {new} {size} {k} room p =
     let e : k ≡ size = omega (arith, p .next-is) in
-    fronts bytes old new k (e ∙ sym (p .run-long)) (omega arith) (p .new-is ∙ (stored-front old bytes size (p .run-long) room ∙ ap (λ (n : ℕ). bytes ++ drop n old) (sym e)))
+    fronts bytes old new k (e ∙ sym (p .run-long)) (omega arith)
+    (p .new-is ∙ (stored-front old bytes size (p .run-long) room ∙ ap (λ (n : ℕ). bytes ++ drop n old) (sym e)))
 
 -- the same bytes at the front of the same buffer: the same count and the same buffer
 pub fronts-one : (bytes old : List ℕ) (j k : ℕ) (new other : List ℕ) → Fronts bytes old j new → Fronts bytes old k other → (j ≡ k) × (new ≡ other)
 fronts-one bytes old j k new other a b =
-    let e : j ≡ k = a .taken ∙ (ap length (a .written ∙ sym (b .written)) ∙ sym (b .taken)) in
-    (e, sym (take-append-drop j new) ∙ (ap₂ _++_ (a .written ∙ sym (b .written)) (a .kept ∙ (ap (λ (n : ℕ). drop n old) e ∙ sym (b .kept))) ∙ take-append-drop k other))
+    let front : take j new ≡ take k other = a .written ∙ sym (b .written) in
+    let e : j ≡ k = a .taken ∙ (ap length front ∙ sym (b .taken)) in
+    let back : drop j new ≡ drop k other = a .kept ∙ (ap (λ (n : ℕ). drop n old) e ∙ sym (b .kept)) in
+    (e, sym (take-append-drop j new) ∙ (ap₂ _++_ front back ∙ take-append-drop k other))

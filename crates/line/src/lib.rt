@@ -3,7 +3,7 @@ use kinds::Refusal;
 ghost use Prim.Native.Nat.{_+_, _≤_};
 ghost use lib.ListN.{length};
 ghost use Rattle.kinds.specs.Refusal.{numberOf, placeOf};
-ghost use Rattle.field.specs.Stored.{Put};
+ghost use Rattle.field.specs.Handover.{Put};
 ghost use Rattle.line.specs.Line.{refusalLine, longestRefusalLine};
 ghost use Rattle.line.specs.Fronts.{Fronts};
 

@@ -8,7 +8,7 @@ use native.Mathlib.Omega.{arith}
 use lib.ListN.{length, set, length-append}
 use borrow.Author.Tests.{lt-ltb, le-ltb}
 use Rattle.ground.proofs.Cases.{by-le}
-use Rattle.field.specs.Stored.{stored, Put}
+use Rattle.field.specs.Handover.{stored, Put}
 use Rattle.field.proofs.Stores.{put-then}
 use Rattle.numeral.specs.Decimal.{lastDigit, digitsIn, decimal}
 

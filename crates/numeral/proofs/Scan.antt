@@ -13,7 +13,8 @@ use borrow.Author.Tests.{le-leb, lt-leb, leb-true, eq-eqb, ne-eqb}
 use Rattle.ground.proofs.Cases.{by-le, by-bool, both-true}
 use Rattle.numeral.specs.declared.Run.{Run}
 use Rattle.numeral.specs.declared.Numeral.the-variants.{Is, Bad}
-use Rattle.numeral.specs.Scan.{mostNumber, held, isDigit, digits, valueFrom, digitsAt, valueAt, pastDigits, plain, numeralAt, numeralIn, Runs}
+use Rattle.numeral.specs.Scan.{mostNumber, held, isDigit, digits, valueFrom, digitsAt, valueAt, pastDigits, plain, numeralAt, numeralIn}
+use Rattle.numeral.specs.Handover.{Runs}
 
 -- a digit lies from 48 to 57
 pub digit-is : (b : ℕ) → isDigit b ≡ true → (48 ≤ b) × (b ≤ 57)

@@ -1,10 +1,8 @@
 -- The decimal digits of a number, as text.
 -- Assumes nothing.
-use Prim.Native.Nat.{ℕ, zero, suc, _+_, _/_, _%_, _≤_}
+use Prim.Native.Nat.{ℕ, zero, suc, _+_, _/_, _%_}
 use mathlib.Core.List.{List, [], _∷_, _++_}
-use mathlib.Core.Path.{_≡_}
 use lib.Dec.{ltb}
-use lib.ListN.{length}
 use Rattle.ground.specs.Choice.{pick}
 
 -- the digit of a number's last place
@@ -19,8 +17,3 @@ digitsIn (suc more) n = pick (ltb n 10) (lastDigit n) (digitsIn more (n / 10) ++
 -- no number has more digits than it counts
 unfoldable pub decimal : ℕ → List ℕ
 decimal n = digitsIn n n
-
--- the length of a text, and the most that it can be
-pub record Sized (text : List ℕ) (most r : ℕ) : Type 0 where
-  pub is : r ≡ length text
-  pub few : r ≤ most

@@ -3,11 +3,9 @@
 use Prim.Native.Nat.{ℕ, _+_, _*_, _-_, min}
 use mathlib.Core.Bool.{Bool, true, false, not}
 use mathlib.Core.List.{List, [], _∷_}
-use mathlib.Core.Path.{_≡_}
 use lib.Dec.{leb, eqb}
 use lib.ListN.{length, getD, drop}
 use Rattle.ground.specs.Choice.{pick, both}
-use Rattle.numeral.specs.declared.Run.{Run}
 use Rattle.numeral.specs.declared.Numeral.{Numeral}
 use Rattle.numeral.specs.declared.Numeral.the-variants.{Is, Bad}
 
@@ -65,8 +63,3 @@ numeralIn s =
     (pick (eqb (pastDigits s 0) (length s)) (Is (valueAt s 0) (length s)) Bad)
     Bad)
     Bad
-
--- what a run of digits says: the place after it, and its value, held down
-pub record Runs (s : List ℕ) (at : ℕ) (r : Run) : Type 0 where
-  pub next-is : r .next ≡ pastDigits s at
-  pub value-is : r .value ≡ held (valueAt s at)

@@ -1,13 +1,14 @@
 // Numbers as text: the decimal digits of a number, put at a place of a lent buffer, and the number at a place of a lent text. Contracts
-// cite `specs/Decimal` and `specs/Scan`; the last laws of `proofs/OneText` and `proofs/Numerals` say that each number has exactly one
+// cite `specs/Decimal`, `specs/Scan` and `specs/Handover`; the last laws of `proofs/OneText` and `proofs/Numerals` say that each number has exactly one
 // text, and each accepted text exactly one number.
 ghost use mathlib.Core.Bool.{true};
 ghost use mathlib.Core.Path.{_≡_};
 ghost use Prim.Native.Nat.{_+_, _*_, _-_, _≤_, _<_};
 ghost use lib.ListN.{length, getD};
-ghost use Rattle.field.specs.Stored.{Put};
-ghost use Rattle.numeral.specs.Decimal.{decimal, Sized};
-ghost use Rattle.numeral.specs.Scan.{mostNumber, held, isDigit, digitsAt, pastDigits, plain, numeralAt, numeralIn, Runs};
+ghost use Rattle.field.specs.Handover.{Put};
+ghost use Rattle.numeral.specs.Decimal.{decimal};
+ghost use Rattle.numeral.specs.Scan.{mostNumber, held, isDigit, digitsAt, pastDigits, plain, numeralAt, numeralIn};
+ghost use Rattle.numeral.specs.Handover.{Sized, Runs};
 
 // The greatest number that a text may hold.
 pub const MOST_NUMBER: u64 = 4_294_967_295;

@@ -17,7 +17,7 @@ use Rattle.kinds.specs.Refusal.{numberOf}
 use Rattle.kinds.specs.Answer.{Handed, accepted, refused, handedCount}
 use Rattle.kinds.proofs.Refusals.{refusal-numbered}
 use Rattle.kinds.proofs.Answers.{not-refused, refused-one, count-one}
-use Rattle.field.specs.Stored.{Put}
+use Rattle.field.specs.Handover.{Put}
 use Rattle.field.proofs.Stores.{stored-front}
 use Rattle.kinds.specs.declared.Counted.{Counted}
 use Rattle.kinds.specs.declared.Counted.the-variants.{Count, Refused}

@@ -9,7 +9,7 @@ use native.Mathlib.Omega.{arith}
 use lib.ListN.{length, set, length-append}
 use Rattle.kinds.specs.declared.Task.{Task}
 use Rattle.kinds.specs.Task.{at}
-use Rattle.field.specs.Stored.{Put}
+use Rattle.field.specs.Handover.{Put}
 use Rattle.field.proofs.Stores.{put-none, put-then, put-sized}
 use Rattle.numeral.specs.Decimal.{decimal}
 use Rattle.numeral.proofs.Digits.{put-byte}

@@ -13,7 +13,8 @@ use Rattle.kinds.specs.Answer.{refused}
 use Rattle.field.specs.Number.{u16At}
 use Rattle.field.proofs.Fields.{Got}
 use Rattle.sheet.specs.Sections.{settingsCount, settingsPlace, policyPlace, mPlace, tasksPlace, recordsPlace}
-use Rattle.sheet.specs.Reading.{noSheet, taskCount, settingsIn, readSheet, Begins}
+use Rattle.sheet.specs.Reading.{noSheet, taskCount, settingsIn, readSheet}
+use Rattle.sheet.specs.Handover.{Begins}
 use Rattle.sheet.proofs.Stages.{settings-wrong, tasks-missing, too-many, head-whole}
 
 module _ (s : List ℕ) (settings at-policy : ℕ) (g₁ : Got s settingsPlace 2 u16At settings at-policy) where
@@ -28,7 +29,8 @@ module _ (s : List ℕ) (settings at-policy : ℕ) (g₁ : Got s settingsPlace 2
     pub ends-in-head : length s < recordsPlace → refused noSheet (SheetEnds (length s)) ≡ readSheet s
     ends-in-head h = tasks-missing s (omega arith) stands h
 
-    module _ (number at-m m at-tasks n from : ℕ) (g₂ : Got s at-policy 2 u16At number at-m) (g₃ : Got s at-m 2 u16At m at-tasks) (g₄ : Got s at-tasks 2 u16At n from) where
+    module _ (number at-m m at-tasks n from : ℕ) (g₂ : Got s at-policy 2 u16At number at-m) (g₃ : Got s at-m 2 u16At m at-tasks)
+        (g₄ : Got s at-tasks 2 u16At n from) where
       at-m-is : at-m ≡ mPlace
       at-m-is = omega arith
 

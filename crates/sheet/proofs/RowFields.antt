@@ -10,8 +10,6 @@ use borrow.Author.Tests.{le-leb, lt-leb}
 use Rattle.ground.proofs.Cases.{by-le, true-false}
 use Rattle.kinds.specs.declared.Task.{Task}
 use Rattle.kinds.specs.declared.Granted.{Granted}
-use Rattle.kinds.specs.declared.Refusal.{Refusal}
-use Rattle.kinds.specs.declared.Refusal.the-variants.{SheetEnds}
 use Rattle.kinds.specs.Limits.{mostTasks}
 use Rattle.kinds.specs.Task.{task, noTask}
 use Rattle.field.specs.Number.{u16At, u32At}
@@ -29,45 +27,45 @@ use Rattle.sheet.proofs.Padding.{padded-more}
 module _ (s : List ℕ) (at : ℕ) where
   pub task-there : at + taskSize ≤ length s → taskField s at ≡ task-field.Value (taskAt s at) (at + taskSize)
   unfolding taskField
-  task-there = there task-field.Value task-field.Refused taskSize taskAt s at
+  task-there = there task-field.Value task-field.Missing taskSize taskAt s at
 
-  pub task-missing : length s < at + taskSize → taskField s at ≡ task-field.Refused (SheetEnds (length s))
+  pub task-missing : length s < at + taskSize → taskField s at ≡ task-field.Missing
   unfolding taskField
-  task-missing = missing task-field.Value task-field.Refused taskSize taskAt s at
+  task-missing = missing task-field.Value task-field.Missing taskSize taskAt s at
 
   pub task-got : (r : TaskField) (v : Task) (next : ℕ) → r ≡ taskField s at → r ≡ task-field.Value v next → Got s at taskSize taskAt v next
   unfolding taskField
   task-got =
-      got-by task-field.Value task-field.Refused taskSize taskAt s at
-      (λ v n e k. let z : _≡_ {A = ℕ} 0 1 = cc in omega arith)
+      got-by task-field.Value task-field.Missing taskSize taskAt s at
+      (λ v n k. let z : _≡_ {A = ℕ} 0 1 = cc in omega arith)
       (λ v w m n k. (cc, cc))
 
-  pub task-missed : (r : TaskField) (e : Refusal) → r ≡ taskField s at → r ≡ task-field.Refused e → length s < at + taskSize
+  pub task-missed : (r : TaskField) → r ≡ taskField s at → r ≡ task-field.Missing → length s < at + taskSize
   unfolding taskField
   task-missed =
-      missed-by task-field.Value task-field.Refused taskSize taskAt s at
-      (λ v n e k. let z : _≡_ {A = ℕ} 0 1 = cc in omega arith)
+      missed-by task-field.Value task-field.Missing taskSize taskAt s at
+      (λ v n k. let z : _≡_ {A = ℕ} 0 1 = cc in omega arith)
 
   pub granted-there : at + grantedSize ≤ length s → grantedField s at ≡ granted-field.Value (grantedAt s at) (at + grantedSize)
   unfolding grantedField
-  granted-there = there granted-field.Value granted-field.Refused grantedSize grantedAt s at
+  granted-there = there granted-field.Value granted-field.Missing grantedSize grantedAt s at
 
-  pub granted-missing : length s < at + grantedSize → grantedField s at ≡ granted-field.Refused (SheetEnds (length s))
+  pub granted-missing : length s < at + grantedSize → grantedField s at ≡ granted-field.Missing
   unfolding grantedField
-  granted-missing = missing granted-field.Value granted-field.Refused grantedSize grantedAt s at
+  granted-missing = missing granted-field.Value granted-field.Missing grantedSize grantedAt s at
 
   pub granted-got : (r : GrantedField) (v : Granted) (next : ℕ) → r ≡ grantedField s at → r ≡ granted-field.Value v next → Got s at grantedSize grantedAt v next
   unfolding grantedField
   granted-got =
-      got-by granted-field.Value granted-field.Refused grantedSize grantedAt s at
-      (λ v n e k. let z : _≡_ {A = ℕ} 0 1 = cc in omega arith)
+      got-by granted-field.Value granted-field.Missing grantedSize grantedAt s at
+      (λ v n k. let z : _≡_ {A = ℕ} 0 1 = cc in omega arith)
       (λ v w m n k. (cc, cc))
 
-  pub granted-missed : (r : GrantedField) (e : Refusal) → r ≡ grantedField s at → r ≡ granted-field.Refused e → length s < at + grantedSize
+  pub granted-missed : (r : GrantedField) → r ≡ grantedField s at → r ≡ granted-field.Missing → length s < at + grantedSize
   unfolding grantedField
   granted-missed =
-      missed-by granted-field.Value granted-field.Refused grantedSize grantedAt s at
-      (λ v n e k. let z : _≡_ {A = ℕ} 0 1 = cc in omega arith)
+      missed-by granted-field.Value granted-field.Missing grantedSize grantedAt s at
+      (λ v n k. let z : _≡_ {A = ℕ} 0 1 = cc in omega arith)
 
 -- a row is read field by field
 module _ (s : List ℕ) (at : ℕ) where
@@ -101,7 +99,8 @@ module _ {A R : Type 0} (made : Bool → List A → ℕ → R) (none : A) (size 
   rows-missing : length s < from + size * n → rowsBy made none size rowAt s from n ≡ made false (replicate mostTasks none) from
   rows-missing h = rw (lt-leb (from + size * n) (length s) h)
 
-  module _ (whole : R → Bool) (tells : (b : Bool) (rows : List A) (next : ℕ) → whole (made b rows next) ≡ b) (r : R) (e : r ≡ rowsBy made none size rowAt s from n) where
+  module _ (whole : R → Bool) (tells : (b : Bool) (rows : List A) (next : ℕ) → whole (made b rows next) ≡ b) (r : R)
+      (e : r ≡ rowsBy made none size rowAt s from n) where
     rows-got : whole r ≡ true → (from + size * n ≤ length s) × (r ≡ made true (rowsAt none size rowAt s from n) (from + size * n))
     rows-got w =
         by-le (from + size * n) (length s)
@@ -130,7 +129,8 @@ module _ (s : List ℕ) (from n : ℕ) where
   unfolding taskRows
   tasks-missed = rows-missed madeTasks noTask taskSize taskAt s from n (λ (r : TaskRows). r .whole) (λ b rows next. refl)
 
-  pub results-there : from + grantedSize * n ≤ length s → grantedRows s from n ≡ madeGranted true (rowsAt noGranted grantedSize grantedAt s from n) (from + grantedSize * n)
+  pub results-there : from + grantedSize * n ≤ length s
+      → grantedRows s from n ≡ madeGranted true (rowsAt noGranted grantedSize grantedAt s from n) (from + grantedSize * n)
   unfolding grantedRows
   results-there = rows-there madeGranted noGranted grantedSize grantedAt s from n
 

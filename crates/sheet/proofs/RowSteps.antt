@@ -7,7 +7,6 @@ use mathlib.Core.Path.{_≡_, sym, ap, _∙_}
 use native.Mathlib.Omega.{arith}
 use lib.ListN.{length}
 use Rattle.kinds.specs.declared.Settings.{Settings}
-use Rattle.kinds.specs.declared.Refusal.{Refusal}
 use Rattle.kinds.specs.declared.Refusal.the-variants.{SheetEnds, WrongResultCount, BytesAfterLast}
 use Rattle.kinds.specs.Limits.{mostTasks}
 use Rattle.kinds.specs.Task.{noTask}
@@ -21,7 +20,8 @@ use Rattle.sheet.specs.declared.TaskRows.{TaskRows}
 use Rattle.sheet.specs.declared.GrantedRows.{GrantedRows}
 use Rattle.sheet.specs.Sections.{taskSize, grantedSize, recordsPlace, resultsPlace, grantedPlace, resultsFit}
 use Rattle.sheet.specs.Rows.{taskAt, grantedAt, noGranted, rowsAt, taskRows, grantedRows}
-use Rattle.sheet.specs.Reading.{noSheet, taskCount, resultCount, endOf, sheetIn, readRows, Begins}
+use Rattle.sheet.specs.Reading.{noSheet, taskCount, resultCount, endOf, sheetIn, readRows}
+use Rattle.sheet.specs.Handover.{Begins}
 use Rattle.sheet.proofs.RowFields.{tasks-got, tasks-missed, results-got, results-missed}
 use Rattle.sheet.proofs.Stages as stages
 
@@ -58,10 +58,11 @@ module _ {s : List ℕ} {settings : Settings} {n from : ℕ} {t : TaskRows} (b :
       let g = tasks-got s recordsPlace (taskCount s) t same w .1 in
       record { begins = b; rows-is = ap (λ (x : TaskRows). x .rows) g; next-is = ap (λ (x : TaskRows). x .next) g }
 
-module _ {s : List ℕ} {settings : Settings} {n from : ℕ} {t : TaskRows} {field : Field16} (p : TasksRead s settings n from t) (e : field ≡ field16 s (t .next)) where
-  pub count-end : {refusal : Refusal} → field ≡ two.Refused refusal → refused noSheet (SheetEnds (length s)) ≡ readRows s
-  count-end {refusal} k =
-      let m = missed16 s (t .next) field refusal e k in
+module _ {s : List ℕ} {settings : Settings} {n from : ℕ} {t : TaskRows} {field : Field16} (p : TasksRead s settings n from t)
+    (e : field ≡ field16 s (t .next)) where
+  pub count-end : field ≡ two.Missing → refused noSheet (SheetEnds (length s)) ≡ readRows s
+  count-end k =
+      let m = missed16 s (t .next) field e k in
       let h = p .next-is in
       stages.count-missing s (omega arith)
 

@@ -43,12 +43,22 @@ module _ (s : List ℕ) where
         pub too-many : mostTasks < taskCount s → refused noSheet (TooManyTasks tasksPlace) ≡ readSheet s
         unfolding readSheet
         too-many e =
-            rw (le-leb policyPlace (length s) a, eq-eqb (u16At s settingsPlace) settingsCount b, le-leb recordsPlace (length s) d, lt-leb (taskCount s) mostTasks e)
+            rw (
+              le-leb policyPlace (length s) a,
+              eq-eqb (u16At s settingsPlace) settingsCount b,
+              le-leb recordsPlace (length s) d,
+              lt-leb (taskCount s) mostTasks e,
+            )
 
         pub head-whole : taskCount s ≤ mostTasks → readSheet s ≡ readRows s
         unfolding readSheet
         head-whole e =
-            rw (le-leb policyPlace (length s) a, eq-eqb (u16At s settingsPlace) settingsCount b, le-leb recordsPlace (length s) d, le-leb (taskCount s) mostTasks e)
+            rw (
+              le-leb policyPlace (length s) a,
+              eq-eqb (u16At s settingsPlace) settingsCount b,
+              le-leb recordsPlace (length s) d,
+              le-leb (taskCount s) mostTasks e,
+            )
 
 -- the rows
 module _ (s : List ℕ) where

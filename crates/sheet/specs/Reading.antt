@@ -1,9 +1,8 @@
 -- What a reading of a list of bytes is: the sheet, or the first refusal from the left.
 -- Assumes nothing.
-use Prim.Native.Nat.{ℕ, _≤_}
+use Prim.Native.Nat.{ℕ}
 use mathlib.Core.Bool.{Bool}
 use mathlib.Core.List.{List}
-use mathlib.Core.Path.{_≡_}
 use lib.Dec.{leb, eqb}
 use lib.ListN.{length, drop, replicate}
 use Rattle.kinds.specs.declared.Policy.the-variants.{Further}
@@ -17,8 +16,6 @@ use Rattle.kinds.specs.Policy.{policyOf}
 use Rattle.kinds.specs.Answer.{Handed, accepted, refused, judged, handedWith}
 use Rattle.field.specs.Number.{u16At}
 use Rattle.sheet.specs.declared.Reading.{Reading}
-use Rattle.sheet.specs.declared.Head.{Head}
-use Rattle.sheet.specs.declared.Head.the-variants as head
 use Rattle.sheet.specs.Sections.{settingsCount, taskSize, grantedSize, settingsPlace, policyPlace, mPlace, tasksPlace, recordsPlace, resultsPlace, grantedPlace, endPlace, resultsFit}
 use Rattle.sheet.specs.Rows.{taskAt, grantedAt, noGranted, rowsAt}
 
@@ -84,17 +81,3 @@ readFrom s at = readSheet (drop at s)
 -- a reading in document 01's numbers
 abbrev pub handedReading : Reading → Handed Sheet
 handedReading r = handedWith (r .verdict) (r .sheet)
-
--- the front of a sheet was read: its settings, its task count, and where its records start
-pub record Begins (s : List ℕ) (settings : Settings) (n from : ℕ) : Type 0 where
-  pub settings-is : settings ≡ settingsIn s
-  pub n-is : n ≡ taskCount s
-  pub few : n ≤ mostTasks
-  pub from-is : from ≡ recordsPlace
-  pub within : recordsPlace ≤ length s
-  pub on : readSheet s ≡ readRows s
-
--- what the head says of the whole reading
-abbrev pub HeadTells : List ℕ → Head → Type 0
-HeadTells s (head.Value settings n from) = Begins s settings n from
-HeadTells s (head.Refused refusal) = refused noSheet refusal ≡ readSheet s

@@ -36,10 +36,10 @@ abbrev pub grantedAt : List ℕ → ℕ → Granted
 grantedAt s at = granted (u32At s at) (u16At s (at + 4))
 
 unfoldable pub taskField : List ℕ → ℕ → TaskField
-taskField s at = fieldBy task-field.Value task-field.Refused taskSize taskAt s at
+taskField s at = fieldBy task-field.Value task-field.Missing taskSize taskAt s at
 
 unfoldable pub grantedField : List ℕ → ℕ → GrantedField
-grantedField s at = fieldBy granted-field.Value granted-field.Refused grantedSize grantedAt s at
+grantedField s at = fieldBy granted-field.Value granted-field.Missing grantedSize grantedAt s at
 
 -- n rows, f 0, f 1, .., and then unused places up to the most tasks
 unfoldable pub padded : {A : Type 0} → A → (ℕ → A) → ℕ → List A

@@ -1,5 +1,5 @@
 // Reading a station sheet: fields, rows and sections on a slice and a place, and above them the `Reader`, which holds both. Callers use
-// `read`. Contracts cite `specs/Sections`, `specs/Rows` and `specs/Reading`.
+// `read`. Contracts cite `specs/Sections`, `specs/Rows`, `specs/Reading` and `specs/Handover`.
 use field::Field16;
 use field::Field32;
 use kinds::Granted;
@@ -18,7 +18,8 @@ ghost use Rattle.kinds.specs.Limits.{mostTasks};
 ghost use Rattle.kinds.specs.Answer.{refused};
 ghost use Rattle.sheet.specs.Sections.{recordsPlace, resultsPlace, endPlace, longestSheet, resultsFit};
 ghost use Rattle.sheet.specs.Rows.{taskField, grantedField, taskRows, grantedRows};
-ghost use Rattle.sheet.specs.Reading.{noSheet, readRows, readSheet, readFrom, Begins, HeadTells, handedReading};
+ghost use Rattle.sheet.specs.Reading.{noSheet, readRows, readSheet, readFrom, handedReading};
+ghost use Rattle.sheet.specs.Handover.{Begins, HeadTells};
 
 // A verdict, and the sheet: that of zeros where it was refused.
 pub struct Reading {
@@ -78,16 +79,16 @@ pub fn results_fit(r: usize, n: usize) -> bool
     r == n
 }
 
-// A task record and the place after it, or the refusal.
+// A task record and the place after it, or that it is not there.
 enum TaskField {
     Value(Task, usize),
-    Refused(Refusal),
+    Missing,
 }
 
-// A result and the place after it, or the refusal.
+// A result and the place after it, or that it is not there.
 enum GrantedField {
     Value(Granted, usize),
-    Refused(Refusal),
+    Missing,
 }
 
 // The task record at a place.
@@ -95,16 +96,16 @@ fn read_task(s: &[u8], at: usize) -> TaskField
     ensures { λ r. ⌜ r ≡ taskField (now (s .entry)) at ⌝ }
 {
     let Field32::Value(c, at_tmin) = field::read_u32(s, at) else {
-        return TaskField::Refused(Refusal::SheetEnds(s.len()));
+        return TaskField::Missing;
     };
     let Field32::Value(tmin, at_tmax) = field::read_u32(s, at_tmin) else {
-        return TaskField::Refused(Refusal::SheetEnds(s.len()));
+        return TaskField::Missing;
     };
     let Field32::Value(tmax, at_e) = field::read_u32(s, at_tmax) else {
-        return TaskField::Refused(Refusal::SheetEnds(s.len()));
+        return TaskField::Missing;
     };
     let Field32::Value(e, next) = field::read_u32(s, at_e) else {
-        return TaskField::Refused(Refusal::SheetEnds(s.len()));
+        return TaskField::Missing;
     };
     TaskField::Value(Task::new(c, tmin, tmax, e), next)
 }
@@ -114,10 +115,10 @@ fn read_granted(s: &[u8], at: usize) -> GrantedField
     ensures { λ r. ⌜ r ≡ grantedField (now (s .entry)) at ⌝ }
 {
     let Field32::Value(period, at_processor) = field::read_u32(s, at) else {
-        return GrantedField::Refused(Refusal::SheetEnds(s.len()));
+        return GrantedField::Missing;
     };
     let Field16::Value(processor, next) = field::read_u16(s, at_processor) else {
-        return GrantedField::Refused(Refusal::SheetEnds(s.len()));
+        return GrantedField::Missing;
     };
     GrantedField::Value(Granted { period, processor }, next)
 }

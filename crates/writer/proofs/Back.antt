@@ -21,7 +21,8 @@ use Rattle.writer.specs.Encode.{taskBytes, grantedBytes, rowsBytes, sett
 
 -- rows that were read, where each stands in its own bytes
 module _ {A : Type 0} (bytes : A → List ℕ) (none : A) (size : ℕ) (rowAt : List ℕ → ℕ → A) (s : List ℕ)
-    (stands : (at : ℕ) → at + size ≤ length s → Part s at size (bytes (rowAt s at))) (from N : ℕ) (few : N ≤ mostTasks) (within : from + size * N ≤ length s) where
+    (stands : (at : ℕ) → at + size ≤ length s → Part s at size (bytes (rowAt s at))) (from N : ℕ) (few : N ≤ mostTasks)
+    (within : from + size * N ≤ length s) where
   rows-stand : (n : ℕ) → n ≤ N → Part s from (size * n) (rowsBytes bytes none (rowsAt none size rowAt s from N) n)
   unfolding rowsBytes
   rows-stand zero h = rw (mul-zero size) (part-none s from (omega arith))

@@ -18,7 +18,8 @@ use Rattle.sheet.specs.Rows.{noGranted}
 use Rattle.writer.specs.Canonical.{TaskHeld, GrantedHeld}
 
 -- what holds of each row that is owned, and of an unused place, holds at each number
-module _ {A D : Type 0} (own : D → List Val → Fml) (to : A → D) (P : A → Type 0) (one : (a : A) (u : Val) → shadow (own (to a) (u ∷ [])) → P a) (none : A) (unused : P none) where
+module _ {A D : Type 0} (own : D → List Val → Fml) (to : A → D) (P : A → Type 0) (one : (a : A) (u : Val) → shadow (own (to a) (u ∷ [])) → P a)
+    (none : A) (unused : P none) where
   each-at : (rows : List A) (us : List Val) → shadow (each D own (map to rows) us) → (i : ℕ) → P (getD rows i none)
   each-at [] us s i = unused
   each-at (x ∷ rows) [] s i = absurd s
@@ -32,9 +33,15 @@ granted-held : (g : Granted) (u : Val) → shadow ((field granted-kind.the-type)
 granted-held g u s = record { period = s .1 .1 .0 .1; processor = s .1 .1 .1 .0 .1 }
 
 pub tasks-held : (rows : List Task) (us : List Val)
-    → shadow (each ((field task-kind.the-type) .row .Denot) ((field task-kind.the-type) .row .own) (map (task-kind.the-type .to) rows) us) → (i : ℕ) → TaskHeld (at rows i)
-tasks-held = each-at ((field task-kind.the-type) .row .own) (task-kind.the-type .to) TaskHeld task-held noTask (record { c = omega arith; tmin = omega arith; tmax = omega arith; e = omega arith })
+    → shadow (each ((field task-kind.the-type) .row .Denot) ((field task-kind.the-type) .row .own) (map (task-kind.the-type .to) rows) us)
+    → (i : ℕ) → TaskHeld (at rows i)
+tasks-held =
+    each-at ((field task-kind.the-type) .row .own) (task-kind.the-type .to) TaskHeld task-held noTask
+    (record { c = omega arith; tmin = omega arith; tmax = omega arith; e = omega arith })
 
 pub results-held : (rows : List Granted) (us : List Val)
-    → shadow (each ((field granted-kind.the-type) .row .Denot) ((field granted-kind.the-type) .row .own) (map (granted-kind.the-type .to) rows) us) → (i : ℕ) → GrantedHeld (getD rows i noGranted)
-results-held = each-at ((field granted-kind.the-type) .row .own) (granted-kind.the-type .to) GrantedHeld granted-held noGranted (record { period = omega arith; processor = omega arith })
+    → shadow (each ((field granted-kind.the-type) .row .Denot) ((field granted-kind.the-type) .row .own) (map (granted-kind.the-type .to) rows) us)
+    → (i : ℕ) → GrantedHeld (getD rows i noGranted)
+results-held =
+    each-at ((field granted-kind.the-type) .row .own) (granted-kind.the-type .to) GrantedHeld granted-held noGranted
+    (record { period = omega arith; processor = omega arith })

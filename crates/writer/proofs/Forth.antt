@@ -72,7 +72,8 @@ module _ {A : Type 0} (bytes : A → List ℕ) (none : A) (size : ℕ) (rows : L
       by-le n i (λ h. let e : i ≡ n = omega arith in rw e (part-right (size * n) size front last fl q)) below
 
   -- and so the rows are read as they were
-  rows-back : (rowAt : List ℕ → ℕ → A) (n : ℕ) → n ≤ mostTasks → ((i place : ℕ) → Part s place size (bytes (getD rows i none)) → rowAt s place ≡ getD rows i none)
+  rows-back : (rowAt : List ℕ → ℕ → A) (n : ℕ) → n ≤ mostTasks
+      → ((i place : ℕ) → Part s place size (bytes (getD rows i none)) → rowAt s place ≡ getD rows i none)
       → Part s from (size * n) (rowsBytes bytes none rows n) → rowsAt none size rowAt s from n ≡ padded none (λ i. getD rows i none) n
   rows-back rowAt n few one p =
       padded-cong none (λ i. rowAt s (from + size * i)) (λ i. getD rows i none) n few (λ i l. one i (from + size * i) (row-stands n i l p))
@@ -85,7 +86,8 @@ module _ (x : Sheet) (s : List ℕ) (p : Part s 0 (lengthOf x) (encode x)) where
   result-section : List ℕ
   result-section = bytesOf 2 (x .results .n) ++ resultsBytes (x .results .rows) (x .results .n)
 
-  all : Part s 0 (tasksPlace + ((2 + taskSize * x .table .n) + (2 + grantedSize * x .results .n))) (settingsBytes (x .settings) ++ (task-section ++ result-section))
+  all : Part s 0 (tasksPlace + ((2 + taskSize * x .table .n) + (2 + grantedSize * x .results .n)))
+      (settingsBytes (x .settings) ++ (task-section ++ result-section))
   unfolding encode task-section result-section
   all =
       let size : lengthOf x ≡ tasksPlace + ((2 + taskSize * x .table .n) + (2 + grantedSize * x .results .n)) = omega arith in
@@ -120,22 +122,26 @@ module _ (x : Sheet) (s : List ℕ) (p : Part s 0 (lengthOf x) (encode x)) where
     unfolding settingsBytes
     count-read =
         part-number 2 settingsCount (omega arith)
-        (part-left 2 4 (bytesOf 2 settingsCount) (bytesOf 2 (policyNumber (x .settings .policy)) ++ bytesOf 2 (x .settings .m)) (bytes-long 2 settingsCount) settings-part)
+        (part-left 2 4 (bytesOf 2 settingsCount) (bytesOf 2 (policyNumber (x .settings .policy)) ++ bytesOf 2 (x .settings .m))
+        (bytes-long 2 settingsCount) settings-part)
 
     settings-parts : Part s policyPlace (2 + 2) (bytesOf 2 (policyNumber (x .settings .policy)) ++ bytesOf 2 (x .settings .m))
     unfolding settingsBytes
     settings-parts =
-        part-right 2 4 (bytesOf 2 settingsCount) (bytesOf 2 (policyNumber (x .settings .policy)) ++ bytesOf 2 (x .settings .m)) (bytes-long 2 settingsCount) settings-part
+        part-right 2 4 (bytesOf 2 settingsCount) (bytesOf 2 (policyNumber (x .settings .policy)) ++ bytesOf 2 (x .settings .m))
+        (bytes-long 2 settingsCount) settings-part
 
     policy-read : u16At s policyPlace ≡ policyNumber (x .settings .policy)
     policy-read =
         part-number 2 (policyNumber (x .settings .policy)) (h .policy)
-        (part-left 2 2 (bytesOf 2 (policyNumber (x .settings .policy))) (bytesOf 2 (x .settings .m)) (bytes-long 2 (policyNumber (x .settings .policy))) settings-parts)
+        (part-left 2 2 (bytesOf 2 (policyNumber (x .settings .policy))) (bytesOf 2 (x .settings .m))
+        (bytes-long 2 (policyNumber (x .settings .policy))) settings-parts)
 
     m-read : u16At s mPlace ≡ x .settings .m
     m-read =
         part-number 2 (x .settings .m) (h .m)
-        (part-right 2 2 (bytesOf 2 (policyNumber (x .settings .policy))) (bytesOf 2 (x .settings .m)) (bytes-long 2 (policyNumber (x .settings .policy))) settings-parts)
+        (part-right 2 2 (bytesOf 2 (policyNumber (x .settings .policy))) (bytesOf 2 (x .settings .m))
+        (bytes-long 2 (policyNumber (x .settings .policy))) settings-parts)
 
     -- the sections as they are read
     module _ (few : x .table .n ≤ mostTasks) (fit : resultsFit (x .results .n) (x .table .n) ≡ true) where
@@ -162,7 +168,8 @@ module _ (x : Sheet) (s : List ℕ) (p : Part s 0 (lengthOf x) (encode x)) where
           let less = few-granted in
           ap (λ (n : ℕ). u16At s (resultsPlace n)) tasks-counted
           ∙ part-number 2 (x .results .n) (omega arith)
-          (part-left 2 (grantedSize * x .results .n) (bytesOf 2 (x .results .n)) (resultsBytes (x .results .rows) (x .results .n)) (bytes-long 2 (x .results .n)) results-part)
+          (part-left 2 (grantedSize * x .results .n) (bytesOf 2 (x .results .n)) (resultsBytes (x .results .rows) (x .results .n))
+          (bytes-long 2 (x .results .n)) results-part)
 
       results-read : rowsAt noGranted grantedSize grantedAt s (grantedPlace (taskCount s)) (resultCount s) ≡ padded noGranted (grantedIn x) (x .results .n)
       unfolding result-section
@@ -171,7 +178,8 @@ module _ (x : Sheet) (s : List ℕ) (p : Part s 0 (lengthOf x) (encode x)) where
           ∙ (ap (rowsAt noGranted grantedSize grantedAt s (grantedPlace (x .table .n))) results-counted
           ∙ rows-back grantedBytes noGranted grantedSize (x .results .rows) granted-long grantedAt (x .results .n) few-granted
           (λ i place q. granted-back (grantedIn x i) (h .results i) q)
-          (part-right 2 (grantedSize * x .results .n) (bytesOf 2 (x .results .n)) (resultsBytes (x .results .rows) (x .results .n)) (bytes-long 2 (x .results .n)) results-part))
+          (part-right 2 (grantedSize * x .results .n) (bytesOf 2 (x .results .n)) (resultsBytes (x .results .rows) (x .results .n))
+          (bytes-long 2 (x .results .n)) results-part))
 
       sheet-read : sheetIn s ≡ canonical x
       unfolding sheetIn settingsIn canonical
@@ -190,7 +198,8 @@ module _ (x : Sheet) (s : List ℕ) (p : Part s 0 (lengthOf x) (encode x)) where
           record { two = count-read; few = omega arith; fit = rw (r, n) fit; end = omega arith }
 
 -- document 01's sheet, written and read, is its canonical form
-pub forth : (x : Sheet) → SheetHeld x → x .table .n ≤ mostTasks → resultsFit (x .results .n) (x .table .n) ≡ true → readSheet (encode x) ≡ accepted (canonical x)
+pub forth : (x : Sheet) → SheetHeld x → x .table .n ≤ mostTasks → resultsFit (x .results .n) (x .table .n) ≡ true
+    → readSheet (encode x) ≡ accepted (canonical x)
 forth x h few fit =
     let p : Part (encode x) 0 (lengthOf x) (encode x) = rw (encode-long x) at (part-all (encode x)) in
     whole-accepted (encode x) (is-whole x (encode x) p h few fit (sym (encode-long x)))

@@ -11,7 +11,7 @@ use Rattle.kinds.specs.declared.Granted.{Granted}
 use Rattle.kinds.specs.declared.Sheet.{Sheet}
 use Rattle.kinds.specs.Limits.{mostTasks}
 use Rattle.kinds.specs.Task.{noTask, at}
-use Rattle.kinds.specs.Policy.{policyOf}
+use Rattle.kinds.specs.Policy.{policyOf, meant}
 use Rattle.kinds.specs.Answer.{accepted}
 use Rattle.kinds.proofs.Policies.{number-back}
 use Rattle.field.specs.Number.{Bytes, u16At}
@@ -25,7 +25,7 @@ use Rattle.kinds.specs.declared.Counted.the-variants as counted
 use Rattle.kinds.proofs.Answers.{count-one}
 use Rattle.writer.specs.Encode.{encode, lengthOf}
 use Rattle.writer.specs.Writing.{writeSheet, Writes}
-use Rattle.writer.specs.Canonical.{grantedIn, canonical, Canonical, SheetHeld}
+use Rattle.writer.specs.Canonical.{grantedIn, canonical, SheetHeld}
 use Rattle.writer.proofs.Rows.{encode-long}
 use Rattle.writer.proofs.Answers.{accepts, accepted-after, write-accepts}
 use Rattle.writer.proofs.Back.{back}
@@ -40,7 +40,8 @@ module _ (s : List ℕ) (bytes : Bytes s) (x : Sheet) (e : readSheet s ≡ accep
   read-length = sym (encode-long x) ∙ ap length read-encode
 
   -- into any buffer that has the room
-  pub read-write : (old new : List ℕ) (r : Counted) → Writes x old r new → length s ≤ length old → (r ≡ counted.Count (length s)) × (new ≡ s ++ drop (length s) old)
+  pub read-write : (old new : List ℕ) (r : Counted) → Writes x old r new → length s ≤ length old
+      → (r ≡ counted.Count (length s)) × (new ≡ s ++ drop (length s) old)
   unfolding sheetIn
   read-write old new r p room =
       let w = whole s x e in
@@ -60,8 +61,15 @@ write-read x h old new k p =
     ap (take k) (p .buffer ∙ accepted-after x old k (sym (p .answer))) ∙ take-at (encode x) (drop (lengthOf x) old) k (encode-long x ∙ sym (a .is)) in
     ap readSheet front ∙ forth x h (a .few) (a .fit)
 
--- which is the sheet itself exactly where its policy is the one meant and its unused places are zeros
-pub canonical-same : (x : Sheet) → length (x .table .rows) ≡ mostTasks → length (x .results .rows) ≡ mostTasks → x .table .n ≤ mostTasks → x .results .n ≤ mostTasks
+-- its policy is the one meant, and its unused places are zeros
+pub record Canonical (x : Sheet) : Type 0 where
+  pub policy-meant : meant (x .settings .policy) ≡ x .settings .policy
+  pub tasks-unused : (i : ℕ) → x .table .n ≤ i → at (x .table .rows) i ≡ noTask
+  pub results-unused : (i : ℕ) → x .results .n ≤ i → grantedIn x i ≡ noGranted
+
+-- exactly then a sheet is its own canonical form
+pub canonical-same : (x : Sheet) → length (x .table .rows) ≡ mostTasks → length (x .results .rows) ≡ mostTasks → x .table .n ≤ mostTasks
+    → x .results .n ≤ mostTasks
     → Canonical x → canonical x ≡ x
 unfolding canonical
 canonical-same x room room′ few few′ c =

@@ -12,7 +12,7 @@ use Rattle.kinds.specs.declared.Granted.{Granted}
 use Rattle.kinds.specs.declared.Settings.{Settings}
 use Rattle.kinds.specs.declared.Sheet.{Sheet}
 use Rattle.kinds.specs.Task.{noTask}
-use Rattle.field.specs.Stored.{Put}
+use Rattle.field.specs.Handover.{Put}
 use Rattle.field.proofs.Numbers.{bytes-long}
 use Rattle.field.proofs.Stores.{put-none, put-then}
 use Rattle.sheet.specs.Sections.{taskSize, grantedSize, tasksPlace}

@@ -1,6 +1,6 @@
 -- The canonical form of a sheet: what comes back when it is written and read.
 -- Assumes nothing.
-use Prim.Native.Nat.{ℕ, _≤_, _<_}
+use Prim.Native.Nat.{ℕ, _<_}
 use mathlib.Core.Path.{_≡_}
 use lib.ListN.{length, getD}
 use Rattle.kinds.specs.declared.Task.{Task}
@@ -23,12 +23,6 @@ canonical x =
       table = record { rows = padded noTask (at (x .table .rows)) (x .table .n); n = x .table .n };
       results = record { rows = padded noGranted (grantedIn x) (x .results .n); n = x .results .n };
     }
-
--- exactly then a sheet is its own canonical form
-pub record Canonical (x : Sheet) : Type 0 where
-  pub policy-meant : meant (x .settings .policy) ≡ x .settings .policy
-  pub tasks-unused : (i : ℕ) → x .table .n ≤ i → at (x .table .rows) i ≡ noTask
-  pub results-unused : (i : ℕ) → x .results .n ≤ i → grantedIn x i ≡ noGranted
 
 -- what every value of the kind has: its numbers fit their fields
 pub record TaskHeld (t : Task) : Type 0 where

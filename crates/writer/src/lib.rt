@@ -10,7 +10,7 @@ use kinds::Task;
 ghost use Prim.Native.Nat.{_+_, _*_, _≤_};
 ghost use lib.ListN.{length};
 ghost use Rattle.kinds.specs.Limits.{mostTasks};
-ghost use Rattle.field.specs.Stored.{Put};
+ghost use Rattle.field.specs.Handover.{Put};
 ghost use Rattle.sheet.specs.Sections.{taskSize, grantedSize, tasksPlace};
 ghost use Rattle.writer.specs.Encode.{taskBytes, grantedBytes, settingsBytes, tasksBytes, resultsBytes, encode, lengthOf};
 ghost use Rattle.writer.specs.Writing.{Writes};

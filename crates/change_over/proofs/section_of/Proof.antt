@@ -26,12 +26,18 @@ accepted-requires c κs = search needs
 returns-2 : tie.Need-returns-2
 unfolding asked
 returns-2 c =
-    accepts _ _ (c .before .before .before .before .before .before .before .before .read .ensures) (c .before .before .before .before .before .before .enum-told .given .1) (c .before .before .decide .result) (c .before .before .decide .ensures) _ (c .before .accepted .ensures) (c .if1 .taken)
+    let decided = c .before .before in
+    let has-read = decided .before .before .before .before in
+    accepts _ _ (has-read .before .before .read .ensures) (has-read .enum-told .given .1)
+    (decided .decide .result) (decided .decide .ensures) _ (c .before .accepted .ensures) (c .if1 .taken)
 
 returns-3 : tie.Need-returns-3
 unfolding asked
 returns-3 c =
-    refuses _ _ (c .before .before .before .before .before .before .before .before .read .ensures) (c .before .before .before .before .before .before .enum-told .given .1) (c .before .before .decide .result) (c .before .before .decide .ensures) _ (c .before .accepted .ensures) (c .if1 .left)
+    let decided = c .before .before in
+    let has-read = decided .before .before .before .before in
+    refuses _ _ (has-read .before .before .read .ensures) (has-read .enum-told .given .1)
+    (decided .decide .result) (decided .decide .ensures) _ (c .before .accepted .ensures) (c .if1 .left)
 
 pub section-of-spec : {M : Type 1} → statement M
 section-of-spec =

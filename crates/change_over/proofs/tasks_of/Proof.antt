@@ -18,8 +18,10 @@ sub-size c = search needs
 
 returns : tie.Need-returns
 returns c =
-    let from = c .before .records-place .ensures in
-    let size : c .results-place .result - c .before .records-place .result ≡ taskSize * c .before .before .args .n = omega (arith, from, c .results-place .ensures) in
+    let records = c .before in
+    let from = records .records-place .ensures in
+    let size : c .results-place .result - records .records-place .result ≡ taskSize * records .before .args .n =
+    omega (arith, from, c .results-place .ensures) in
     rw (size, from)
 
 pub tasks-of-spec : {M : Type 1} → statement M

@@ -28,14 +28,14 @@ shared-slice-read-wide16-2 c = search needs
 wide16-requires-2 : tie.Need-wide16-requires-2
 wide16-requires-2 c κs = search needs
 
-mul-t13 : tie.Need-mul-t13
-mul-t13 c = search needs
+mul-t11 : tie.Need-mul-t11
+mul-t11 c = search needs
 
-add-t14 : tie.Need-add-t14
-add-t14 c = search needs
+add-t12 : tie.Need-add-t12
+add-t12 c = search needs
 
-add-t15 : tie.Need-add-t15
-add-t15 c = search needs
+add-t13 : tie.Need-add-t13
+add-t13 c = search needs
 
 returns-2 : tie.Need-returns-2
 returns-2 c =
@@ -53,7 +53,7 @@ read-u16-spec =
     add-wide16
     shared-slice-read-wide16-2
     wide16-requires-2
-    mul-t13
-    add-t14
-    add-t15
+    mul-t11
+    add-t12
+    add-t13
     returns-2)

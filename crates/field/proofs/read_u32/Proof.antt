@@ -52,17 +52,17 @@ shared-slice-read-wide32-4 c = search needs
 wide32-requires-4 : tie.Need-wide32-requires-4
 wide32-requires-4 c κs = search needs
 
-mul-t11 : tie.Need-mul-t11
-mul-t11 c = search needs
+mul-t9 : tie.Need-mul-t9
+mul-t9 c = search needs
+
+add-t16 : tie.Need-add-t16
+add-t16 c = search needs
+
+mul-t17 : tie.Need-mul-t17
+mul-t17 c = search needs
 
 add-t18 : tie.Need-add-t18
 add-t18 c = search needs
-
-mul-t19 : tie.Need-mul-t19
-mul-t19 c = search needs
-
-add-t20 : tie.Need-add-t20
-add-t20 c = search needs
 
 add-t4 : tie.Need-add-t4
 add-t4 c = search needs
@@ -91,9 +91,9 @@ read-u32-spec =
     add-wide32-3
     shared-slice-read-wide32-4
     wide32-requires-4
-    mul-t11
+    mul-t9
+    add-t16
+    mul-t17
     add-t18
-    mul-t19
-    add-t20
     add-t4
     returns-2)

@@ -30,7 +30,8 @@ returns-2 : tie.Need-returns-2
 returns-2 c =
     let found = c .before .before .before .before .before .before in
     let entry = found .before .before .before .before .before .before in
-    without-results (entry .args .x) (entry .pre) _ _ _ _ refl refl (found .find .result) (found .find .ensures) _ (c .before .before .enum-told .given .1) (c .if1 .taken)
+    without-results (entry .args .x) (entry .pre) _ _ _ _ refl refl (found .find .result) (found .find .ensures) _
+    (c .before .before .enum-told .given .1) (c .if1 .taken)
 
 first-unlike-requires : tie.Need-first-unlike-requires
 first-unlike-requires c κs = search needs
@@ -39,14 +40,16 @@ returns-3 : tie.Need-returns-3
 returns-3 c =
     let found = c .before .before .before .before .before .before .before .before in
     let entry = found .before .before .before .before .before .before in
-    one-differs (entry .args .x) (entry .pre) _ _ _ _ refl refl (found .find .result) (found .find .ensures) _ (c .before .before .before .before .enum-told .given .1)
+    one-differs (entry .args .x) (entry .pre) _ _ _ _ refl refl (found .find .result) (found .find .ensures) _
+    (c .before .before .before .before .enum-told .given .1)
     (c .before .before .if1 .left) _ (c .before .first-unlike .ensures) (c .if2 .taken)
 
 returns-4 : tie.Need-returns-4
 returns-4 c =
     let found = c .before .before .before .before .before .before .before .before in
     let entry = found .before .before .before .before .before .before in
-    all-agree (entry .args .x) (entry .pre) _ _ _ _ refl refl (found .find .result) (found .find .ensures) _ (c .before .before .before .before .enum-told .given .1)
+    all-agree (entry .args .x) (entry .pre) _ _ _ _ refl refl (found .find .result) (found .find .ensures) _
+    (c .before .before .before .before .enum-told .given .1)
     (c .before .before .if1 .left) _ (c .before .first-unlike .ensures) (c .if2 .left)
 
 pub check-sheet-spec : {M : Type 1} → statement M

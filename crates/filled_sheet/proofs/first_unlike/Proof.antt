@@ -43,7 +43,8 @@ returns : tie.Need-returns Inv-loop μ-loop
 returns c =
     let a = c .before .before .before .before .before .args in
     let l = c .before .before .before .before .loop in
-    first-here (unlike (a .t1 .rows) (a .t2) (a .t3)) (a .n) (l .i) (l .inv .1) (c .before .before .before .loop-test .taken) (sym (c .before .differ .ensures) ∙ c .if1 .taken)
+    first-here (unlike (a .t1 .rows) (a .t2) (a .t3)) (a .n) (l .i) (l .inv .1) (c .before .before .before .loop-test .taken)
+    (sym (c .before .differ .ensures) ∙ c .if1 .taken)
 
 add-i : tie.Need-add-i Inv-loop μ-loop
 add-i c = search needs

@@ -3,7 +3,7 @@ use Prim.Native.Nat.{_+_, _-_, _≤_}
 use mathlib.Core.Path.{_≡_, refl}
 use lib.ListN.{length, take, length-set}
 use borrow.Author.Needs.{needs}
-use Rattle.field.specs.Stored.{Put}
+use Rattle.field.specs.Handover.{Put}
 use Rattle.line.proofs.Copies.{copied-none, copied-more, copied-all}
 use Rattle.line.proofs.put_bytes.Statement.{statement}
 use Rattle.line.proofs.put_bytes.Tie as tie

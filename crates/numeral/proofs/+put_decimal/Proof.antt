@@ -80,13 +80,19 @@ put-decimal-slice-write-out-2 : (t : ℕ) → put-decimal-lts.Need-slice-write-o
   put-decimal-below t,
   put-decimal.Post,
 ) (put-decimal-at t) put-decimal.Post
-put-decimal-slice-write-out-2 t c = omega (arith, more-long (c .before .before .before .before .before .before .args .n) (c .before .before .before .before .if1 .left), c .before .before .put-decimal .ensures .next-is)
+put-decimal-slice-write-out-2 t c =
+    let put = c .before .before in
+    let more = put .before .before in
+    omega (arith, more-long (more .before .before .args .n) (more .if1 .left), put .put-decimal .ensures .next-is)
 
 put-decimal-add-result-2 : (t : ℕ) → put-decimal-lts.Need-add-result-2 (
   put-decimal-below t,
   put-decimal.Post,
 ) (put-decimal-at t) put-decimal.Post
-put-decimal-add-result-2 t c = omega (arith, more-long (c .before .before .before .before .before .before .args .n) (c .before .before .before .before .if1 .left), c .before .before .put-decimal .ensures .next-is)
+put-decimal-add-result-2 t c =
+    let put = c .before .before in
+    let more = put .before .before in
+    omega (arith, more-long (more .before .before .args .n) (more .if1 .left), put .put-decimal .ensures .next-is)
 
 put-decimal-same-length-2 : (t : ℕ) → put-decimal-lts.Need-same-length-2 (
   put-decimal-below t,

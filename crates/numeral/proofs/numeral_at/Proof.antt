@@ -21,29 +21,40 @@ returns c = sym (not-plain _ _ _ (sym (c .before .is-plain .ensures) ∙ not-tru
 
 returns-2 : tie.Need-returns-2
 returns-2 c =
-    sym (read-large _ _ _ _ (c .before .before .before .run-at .ensures) (sym (c .before .before .is-plain .ensures) ∙ not-false _ (c .before .if1 .left)) (c .if2 .taken))
+    let judged = c .before .before in
+    let is-plain = sym (judged .is-plain .ensures) ∙ not-false _ (c .before .if1 .left) in
+    sym (read-large _ _ _ _ (judged .before .run-at .ensures) is-plain (c .if2 .taken))
 
 byte-at-requires : tie.Need-byte-at-requires
 byte-at-requires c κs = search needs
 
 returns-3 : tie.Need-returns-3
 returns-3 c =
-    sym (read-other _ _ _ _ (c .before .before .before .before .before .run-at .ensures) (sym (c .before .before .before .before .is-plain .ensures) ∙ not-false _ (c .before .before .before .if1 .left)) (c .before .before .if2 .left) _ (c .before .byte-at .ensures) (c .if3 .taken))
+    let small = c .before .before in
+    let judged = small .before .before in
+    let is-plain = sym (judged .is-plain .ensures) ∙ not-false _ (small .before .if1 .left) in
+    sym (read-other _ _ _ _ (judged .before .run-at .ensures) is-plain (small .if2 .left) _ (c .before .byte-at .ensures) (c .if3 .taken))
 
 cast-t10 : tie.Need-cast-t10
 cast-t10 c = search needs
 
 add-t11 : tie.Need-add-t11
 add-t11 c =
-    let s = c .before .before .before .before .before .before .before .args .s .now in
-    let i = c .before .before .before .before .before .run-at .result .next in
-    let h : 0 < getD s i 0 = omega (arith, c .before .byte-at .ensures, c .if3 .left, c .before .before .before .before .before .before .before .pre) in
+    let judged = c .before .before .before .before in
+    let run = judged .before in
+    let given = run .before .before in
+    let s = given .args .s .now in
+    let i = run .run-at .result .next in
+    let h : 0 < getD s i 0 = omega (arith, c .before .byte-at .ensures, c .if3 .left, given .pre) in
     let w : i < length s = within s i h in
     omega arith
 
 returns-4 : tie.Need-returns-4
 returns-4 c =
-    read-whole _ _ _ _ (c .before .before .before .before .before .run-at .ensures) (sym (c .before .before .before .before .is-plain .ensures) ∙ not-false _ (c .before .before .before .if1 .left)) (c .before .before .if2 .left) _ (c .before .byte-at .ensures) (c .if3 .left)
+    let small = c .before .before in
+    let judged = small .before .before in
+    let is-plain = sym (judged .is-plain .ensures) ∙ not-false _ (small .before .if1 .left) in
+    read-whole _ _ _ _ (judged .before .run-at .ensures) is-plain (small .if2 .left) _ (c .before .byte-at .ensures) (c .if3 .left)
 
 pub numeral-at-spec : {M : Type 1} → statement M
 numeral-at-spec =

@@ -17,18 +17,24 @@ returns c = sym (in-not-plain _ (sym (c .before .is-plain .ensures) ∙ not-true
 
 returns-2 : tie.Need-returns-2
 returns-2 c =
-    sym (in-large _ _ (c .before .before .before .run-at .ensures) (sym (c .before .before .is-plain .ensures) ∙ not-false _ (c .before .if1 .left)) (c .if2 .taken))
+    let judged = c .before .before in
+    let is-plain = sym (judged .is-plain .ensures) ∙ not-false _ (c .before .if1 .left) in
+    sym (in-large _ _ (judged .before .run-at .ensures) is-plain (c .if2 .taken))
 
 returns-3 : tie.Need-returns-3
 returns-3 c =
-    sym (in-longer _ _ (c .before .before .before .before .run-at .ensures) (sym (c .before .before .before .is-plain .ensures) ∙ not-false _ (c .before .before .if1 .left)) (c .before .if2 .left) (c .if3 .taken))
+    let judged = c .before .before .before in
+    let is-plain = sym (judged .is-plain .ensures) ∙ not-false _ (c .before .before .if1 .left) in
+    sym (in-longer _ _ (judged .before .run-at .ensures) is-plain (c .before .if2 .left) (c .if3 .taken))
 
 cast-t8 : tie.Need-cast-t8
 cast-t8 c = search needs
 
 returns-4 : tie.Need-returns-4
 returns-4 c =
-    in-whole _ _ (c .before .before .before .before .run-at .ensures) (sym (c .before .before .before .is-plain .ensures) ∙ not-false _ (c .before .before .if1 .left)) (c .before .if2 .left) (c .if3 .left)
+    let judged = c .before .before .before in
+    let is-plain = sym (judged .is-plain .ensures) ∙ not-false _ (c .before .before .if1 .left) in
+    in-whole _ _ (judged .before .run-at .ensures) is-plain (c .before .if2 .left) (c .if3 .left)
 
 pub numeral-in-spec : {M : Type 1} → statement M
 numeral-in-spec =

@@ -29,21 +29,33 @@ grown-requires c κs = (c .before .before .before .loop .inv .low, sym (c .befor
 
 add-next : tie.Need-add-next Inv-loop μ-loop
 add-next c =
-    let w : c .before .before .before .before .loop .next < length (c .before .before .before .before .before .before .args .s .now) = digit-within (c .before .before .before .before .before .before .args .s .now) (c .before .before .before .before .loop .next) (c .before .before .before .byte-at .result) (c .before .before .before .byte-at .ensures) (sym (c .before .before .is-digit .ensures) ∙ not-false _ (c .before .if1 .left)) in
+    let looked = c .before .before .before in
+    let turn = looked .before in
+    let s = turn .before .before .args .s .now in
+    let digit = sym (c .before .before .is-digit .ensures) ∙ not-false _ (c .before .if1 .left) in
+    let w : turn .loop .next < length s = digit-within s (turn .loop .next) (looked .byte-at .result) (looked .byte-at .ensures) digit in
     omega arith
 
 loop-less : tie.Need-loop-less Inv-loop μ-loop
 loop-less c =
-    let w : c .before .before .before .before .loop .next < length (c .before .before .before .before .before .before .args .s .now) = digit-within (c .before .before .before .before .before .before .args .s .now) (c .before .before .before .before .loop .next) (c .before .before .before .byte-at .result) (c .before .before .before .byte-at .ensures) (sym (c .before .before .is-digit .ensures) ∙ not-false _ (c .before .if1 .left)) in
+    let looked = c .before .before .before in
+    let turn = looked .before in
+    let s = turn .before .before .args .s .now in
+    let digit = sym (c .before .before .is-digit .ensures) ∙ not-false _ (c .before .if1 .left) in
+    let w : turn .loop .next < length s = digit-within s (turn .loop .next) (looked .byte-at .result) (looked .byte-at .ensures) digit in
     omega arith
 
 loop-again : tie.Need-loop-again Inv-loop μ-loop
 loop-again c =
-    going-more _ _ _ _ _ (c .before .before .before .before .loop .inv) (c .before .before .before .byte-at .ensures) (sym (c .before .before .is-digit .ensures) ∙ not-false _ (c .before .if1 .left)) _ (c .grown .ensures)
+    let looked = c .before .before .before in
+    let digit = sym (c .before .before .is-digit .ensures) ∙ not-false _ (c .before .if1 .left) in
+    going-more _ _ _ _ _ (looked .before .loop .inv) (looked .byte-at .ensures) digit _ (c .grown .ensures)
 
 returns : tie.Need-returns Inv-loop μ-loop
 returns c =
-    going-end _ _ _ _ _ (c .before .before .before .loop .inv) (c .before .before .byte-at .ensures) (sym (c .before .is-digit .ensures) ∙ not-true _ (c .if1 .taken))
+    let looked = c .before .before in
+    let end = sym (c .before .is-digit .ensures) ∙ not-true _ (c .if1 .taken) in
+    going-end _ _ _ _ _ (looked .before .loop .inv) (looked .byte-at .ensures) end
 
 pub run-at-spec : {M : Type 1} → statement M
 run-at-spec =

@@ -4,7 +4,7 @@ use native.Mathlib.Omega.{arith}
 use Prim.Native.Nat.{_+_, _-_, _≤_}
 use mathlib.Core.Path.{_≡_, refl, _∙_}
 use lib.ListN.{length}
-use Rattle.field.specs.Stored.{Put}
+use Rattle.field.specs.Handover.{Put}
 use Rattle.field.proofs.Stores.{put-long}
 use Rattle.office.specs.Text.{textTo}
 use Rattle.office.proofs.Widths.{text-long, text-within, puts-none, puts-more}

@@ -18,7 +18,7 @@ enum-told c = search needs
 
 returns : tie.Need-returns
 returns c =
-    let m = missed32 _ _ _ _ (c .before .before .read-u32 .ensures) (c .enum-told .given .1) in
+    let m = missed32 _ _ _ (c .before .before .read-u32 .ensures) (c .enum-told .given .1) in
     sym (granted-missing _ _ (omega arith))
 
 read-u16-requires : tie.Need-read-u16-requires
@@ -32,14 +32,17 @@ enum-told-2 c = search needs
 
 returns-2 : tie.Need-returns-2
 returns-2 c =
-    let g1 = got32 _ _ _ _ _ (c .before .before .before .before .before .before .read-u32 .ensures) (c .before .before .before .before .period .given .1) in
-    let m = missed16 _ _ _ _ (c .before .before .read-u16 .ensures) (c .enum-told2 .given .1) in
+    let has-period = c .before .before .before .before in
+    let g1 = got32 _ _ _ _ _ (has-period .before .before .read-u32 .ensures) (has-period .period .given .1) in
+    let m = missed16 _ _ _ (c .before .before .read-u16 .ensures) (c .enum-told2 .given .1) in
     sym (granted-missing _ _ (omega arith))
 
 returns-3 : tie.Need-returns-3
 returns-3 c =
-    let g1 = got32 _ _ _ _ _ (c .before .before .before .before .before .before .before .read-u32 .ensures) (c .before .before .before .before .before .period .given .1) in
-    let g2 = got16 _ _ _ _ _ (c .before .before .before .read-u16 .ensures) (c .before .processor .given .1) in
+    let has-processor = c .before in
+    let has-period = has-processor .before .before .before .before in
+    let g1 = got32 _ _ _ _ _ (has-period .before .before .read-u32 .ensures) (has-period .period .given .1) in
+    let g2 = got16 _ _ _ _ _ (has-processor .before .before .read-u16 .ensures) (has-processor .processor .given .1) in
     granted-read _ _ _ _ _ _ g1 g2
 
 pub read-granted-spec : {M : Type 1} → statement M

@@ -32,7 +32,7 @@ enum-told c = search needs
 
 returns : tie.Need-returns Inv-loop μ-loop
 returns c =
-    let m = granted-missed _ _ _ _ (c .before .before .read-granted .ensures) (c .enum-told .given .1) in
+    let m = granted-missed _ _ _ (c .before .before .read-granted .ensures) (c .enum-told .given .1) in
     sym (results-missing _ _ _ (omega arith))
 
 mul-rows : tie.Need-mul-rows Inv-loop μ-loop

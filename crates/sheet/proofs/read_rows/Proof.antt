@@ -13,7 +13,9 @@ refusing-requires : tie.Need-refusing-requires
 refusing-requires c κs = search needs
 
 returns : tie.Need-returns
-returns c = c .refusing .ensures ∙ tasks-end (c .before .before .before .before .pre) (c .before .before .read-tasks .ensures) (not-true _ (c .before .if1 .taken))
+returns c =
+    let read = c .before .before in
+    c .refusing .ensures ∙ tasks-end (read .before .before .pre) (read .read-tasks .ensures) (not-true _ (c .before .if1 .taken))
 
 read-u16-requires : tie.Need-read-u16-requires
 read-u16-requires c κs = search needs
@@ -29,7 +31,9 @@ refusing-requires-2 c κs = search needs
 
 returns-2 : tie.Need-returns-2
 returns-2 c =
-    let tasks = tasks-read (c .before .before .before .before .before .before .before .pre) (c .before .before .before .before .before .read-tasks .ensures) (not-false _ (c .before .before .before .before .if1 .left)) in
+    let there = c .before .before .before .before in
+    let read = there .before in
+    let tasks = tasks-read (read .before .before .pre) (read .read-tasks .ensures) (not-false _ (there .if1 .left)) in
     c .refusing2 .ensures ∙ count-end tasks (c .before .before .before .read-u16 .ensures) (c .before .enum-told .given .1)
 
 cast-r : tie.Need-cast-r
@@ -43,15 +47,23 @@ refusing-requires-3 c κs = search needs
 
 returns-3 : tie.Need-returns-3
 returns-3 c =
-    let tasks = tasks-read (c .before .before .before .before .before .before .before .before .before .before .pre) (c .before .before .before .before .before .before .before .before .read-tasks .ensures) (not-false _ (c .before .before .before .before .before .before .before .if1 .left)) in
-    let count = count-read tasks (c .before .before .before .before .before .before .read-u16 .ensures) (c .before .before .before .before .count .given .1) in
-    c .refusing3 .ensures ∙ count-wrong count (sym (c .before .before .results-fit .ensures) ∙ not-true _ (c .before .if2 .taken))
+    let judged = c .before .before in
+    let counted = judged .before .before in
+    let there = counted .before .before .before in
+    let read = there .before in
+    let tasks = tasks-read (read .before .before .pre) (read .read-tasks .ensures) (not-false _ (there .if1 .left)) in
+    let count = count-read tasks (counted .before .before .read-u16 .ensures) (counted .count .given .1) in
+    c .refusing3 .ensures ∙ count-wrong count (sym (judged .results-fit .ensures) ∙ not-true _ (c .before .if2 .taken))
 
 read-results-requires : tie.Need-read-results-requires
 read-results-requires c κs =
-    let tasks = tasks-read (c .before .before .before .before .before .before .before .before .before .pre) (c .before .before .before .before .before .before .before .read-tasks .ensures) (not-false _ (c .before .before .before .before .before .before .if1 .left)) in
-    let count = count-read tasks (c .before .before .before .before .before .read-u16 .ensures) (c .before .before .before .count .given .1) in
-    let fit = sym (c .before .results-fit .ensures) ∙ not-false _ (c .if2 .left) in
+    let judged = c .before in
+    let counted = judged .before .before in
+    let there = counted .before .before .before in
+    let read = there .before in
+    let tasks = tasks-read (read .before .before .pre) (read .read-tasks .ensures) (not-false _ (there .if1 .left)) in
+    let count = count-read tasks (counted .before .before .read-u16 .ensures) (counted .count .given .1) in
+    let fit = sym (judged .results-fit .ensures) ∙ not-false _ (c .if2 .left) in
     results-due count fit
 
 refusing-requires-4 : tie.Need-refusing-requires-4
@@ -59,20 +71,33 @@ refusing-requires-4 c κs = search needs
 
 returns-4 : tie.Need-returns-4
 returns-4 c =
-    let tasks = tasks-read (c .before .before .before .before .before .before .before .before .before .before .before .before .pre) (c .before .before .before .before .before .before .before .before .before .before .read-tasks .ensures) (not-false _ (c .before .before .before .before .before .before .before .before .before .if1 .left)) in
-    let count = count-read tasks (c .before .before .before .before .before .before .before .before .read-u16 .ensures) (c .before .before .before .before .before .before .count .given .1) in
-    let fit = sym (c .before .before .before .before .results-fit .ensures) ∙ not-false _ (c .before .before .before .if2 .left) in
-    c .refusing4 .ensures ∙ results-end count fit (c .before .before .read-results .ensures) (not-true _ (c .before .if3 .taken))
+    let granted = c .before .before in
+    let fits = granted .before in
+    let judged = fits .before in
+    let counted = judged .before .before in
+    let there = counted .before .before .before in
+    let read = there .before in
+    let tasks = tasks-read (read .before .before .pre) (read .read-tasks .ensures) (not-false _ (there .if1 .left)) in
+    let count = count-read tasks (counted .before .before .read-u16 .ensures) (counted .count .given .1) in
+    let fit = sym (judged .results-fit .ensures) ∙ not-false _ (fits .if2 .left) in
+    c .refusing4 .ensures ∙ results-end count fit (granted .read-results .ensures) (not-true _ (c .before .if3 .taken))
 
 refusing-requires-5 : tie.Need-refusing-requires-5
 refusing-requires-5 c κs = search needs
 
 returns-5 : tie.Need-returns-5
 returns-5 c =
-    let tasks = tasks-read (c .before .before .before .before .before .before .before .before .before .before .before .before .before .pre) (c .before .before .before .before .before .before .before .before .before .before .before .read-tasks .ensures) (not-false _ (c .before .before .before .before .before .before .before .before .before .before .if1 .left)) in
-    let count = count-read tasks (c .before .before .before .before .before .before .before .before .before .read-u16 .ensures) (c .before .before .before .before .before .before .before .count .given .1) in
-    let fit = sym (c .before .before .before .before .before .results-fit .ensures) ∙ not-false _ (c .before .before .before .before .if2 .left) in
-    let results = results-read count fit (c .before .before .before .read-results .ensures) (not-false _ (c .before .before .if3 .left)) in
+    let whole = c .before .before in
+    let granted = whole .before in
+    let fits = granted .before in
+    let judged = fits .before in
+    let counted = judged .before .before in
+    let there = counted .before .before .before in
+    let read = there .before in
+    let tasks = tasks-read (read .before .before .pre) (read .read-tasks .ensures) (not-false _ (there .if1 .left)) in
+    let count = count-read tasks (counted .before .before .read-u16 .ensures) (counted .count .given .1) in
+    let fit = sym (judged .results-fit .ensures) ∙ not-false _ (fits .if2 .left) in
+    let results = results-read count fit (granted .read-results .ensures) (not-false _ (whole .if3 .left)) in
     c .refusing5 .ensures ∙ bytes-after results (c .before .if4 .taken)
 
 new-requires : tie.Need-new-requires
@@ -80,12 +105,19 @@ new-requires c κs = search needs
 
 returns-6 : tie.Need-returns-6
 returns-6 c =
-    let made = c .before in
-    let tasks = tasks-read (made .before .before .before .before .before .before .before .before .before .before .before .before .before .before .pre) (made .before .before .before .before .before .before .before .before .before .before .before .before .read-tasks .ensures) (not-false _ (made .before .before .before .before .before .before .before .before .before .before .before .if1 .left)) in
-    let count = count-read tasks (made .before .before .before .before .before .before .before .before .before .before .read-u16 .ensures) (made .before .before .before .before .before .before .before .before .count .given .1) in
-    let fit = sym (made .before .before .before .before .before .before .results-fit .ensures) ∙ not-false _ (made .before .before .before .before .before .if2 .left) in
-    let results = results-read count fit (made .before .before .before .before .read-results .ensures) (not-false _ (made .before .before .before .if3 .left)) in
-    rw (c .before .new .ensures) (all-read results (made .before .before .if4 .left))
+    let ended = c .before .before .before in
+    let whole = ended .before in
+    let granted = whole .before in
+    let fits = granted .before in
+    let judged = fits .before in
+    let counted = judged .before .before in
+    let there = counted .before .before .before in
+    let read = there .before in
+    let tasks = tasks-read (read .before .before .pre) (read .read-tasks .ensures) (not-false _ (there .if1 .left)) in
+    let count = count-read tasks (counted .before .before .read-u16 .ensures) (counted .count .given .1) in
+    let fit = sym (judged .results-fit .ensures) ∙ not-false _ (fits .if2 .left) in
+    let results = results-read count fit (granted .read-results .ensures) (not-false _ (whole .if3 .left)) in
+    rw (c .before .new .ensures) (all-read results (ended .if4 .left))
 
 pub read-rows-spec : {M : Type 1} → statement M
 read-rows-spec =

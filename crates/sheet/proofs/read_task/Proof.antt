@@ -18,7 +18,7 @@ enum-told c = search needs
 
 returns : tie.Need-returns
 returns c =
-    let m = missed32 _ _ _ _ (c .before .before .read-u32 .ensures) (c .enum-told .given .1) in
+    let m = missed32 _ _ _ (c .before .before .read-u32 .ensures) (c .enum-told .given .1) in
     sym (task-missing _ _ (omega arith))
 
 read-u32-requires-2 : tie.Need-read-u32-requires-2
@@ -32,8 +32,9 @@ enum-told-2 c = search needs
 
 returns-2 : tie.Need-returns-2
 returns-2 c =
-    let g1 = got32 _ _ _ _ _ (c .before .before .before .before .before .before .read-u32 .ensures) (c .before .before .before .before .c .given .1) in
-    let m = missed32 _ _ _ _ (c .before .before .read-u322 .ensures) (c .enum-told2 .given .1) in
+    let has-c = c .before .before .before .before in
+    let g1 = got32 _ _ _ _ _ (has-c .before .before .read-u32 .ensures) (has-c .c .given .1) in
+    let m = missed32 _ _ _ (c .before .before .read-u322 .ensures) (c .enum-told2 .given .1) in
     sym (task-missing _ _ (omega arith))
 
 read-u32-requires-3 : tie.Need-read-u32-requires-3
@@ -47,9 +48,11 @@ enum-told-3 c = search needs
 
 returns-3 : tie.Need-returns-3
 returns-3 c =
-    let g1 = got32 _ _ _ _ _ (c .before .before .before .before .before .before .before .before .before .before .read-u32 .ensures) (c .before .before .before .before .before .before .before .before .c .given .1) in
-    let g2 = got32 _ _ _ _ _ (c .before .before .before .before .before .before .read-u322 .ensures) (c .before .before .before .before .tmin .given .1) in
-    let m = missed32 _ _ _ _ (c .before .before .read-u323 .ensures) (c .enum-told3 .given .1) in
+    let has-tmin = c .before .before .before .before in
+    let has-c = has-tmin .before .before .before .before in
+    let g1 = got32 _ _ _ _ _ (has-c .before .before .read-u32 .ensures) (has-c .c .given .1) in
+    let g2 = got32 _ _ _ _ _ (has-tmin .before .before .read-u322 .ensures) (has-tmin .tmin .given .1) in
+    let m = missed32 _ _ _ (c .before .before .read-u323 .ensures) (c .enum-told3 .given .1) in
     sym (task-missing _ _ (omega arith))
 
 read-u32-requires-4 : tie.Need-read-u32-requires-4
@@ -63,10 +66,13 @@ enum-told-4 c = search needs
 
 returns-4 : tie.Need-returns-4
 returns-4 c =
-    let g1 = got32 _ _ _ _ _ (c .before .before .before .before .before .before .before .before .before .before .before .before .before .before .read-u32 .ensures) (c .before .before .before .before .before .before .before .before .before .before .before .before .c .given .1) in
-    let g2 = got32 _ _ _ _ _ (c .before .before .before .before .before .before .before .before .before .before .read-u322 .ensures) (c .before .before .before .before .before .before .before .before .tmin .given .1) in
-    let g3 = got32 _ _ _ _ _ (c .before .before .before .before .before .before .read-u323 .ensures) (c .before .before .before .before .tmax .given .1) in
-    let m = missed32 _ _ _ _ (c .before .before .read-u324 .ensures) (c .enum-told4 .given .1) in
+    let has-tmax = c .before .before .before .before in
+    let has-tmin = has-tmax .before .before .before .before in
+    let has-c = has-tmin .before .before .before .before in
+    let g1 = got32 _ _ _ _ _ (has-c .before .before .read-u32 .ensures) (has-c .c .given .1) in
+    let g2 = got32 _ _ _ _ _ (has-tmin .before .before .read-u322 .ensures) (has-tmin .tmin .given .1) in
+    let g3 = got32 _ _ _ _ _ (has-tmax .before .before .read-u323 .ensures) (has-tmax .tmax .given .1) in
+    let m = missed32 _ _ _ (c .before .before .read-u324 .ensures) (c .enum-told4 .given .1) in
     sym (task-missing _ _ (omega arith))
 
 new-requires : tie.Need-new-requires
@@ -74,11 +80,14 @@ new-requires c κs = search needs
 
 returns-5 : tie.Need-returns-5
 returns-5 c =
-    let made = c .before in
-    let g1 = got32 _ _ _ _ _ (made .before .before .before .before .before .before .before .before .before .before .before .before .before .before .before .read-u32 .ensures) (made .before .before .before .before .before .before .before .before .before .before .before .before .before .c .given .1) in
-    let g2 = got32 _ _ _ _ _ (made .before .before .before .before .before .before .before .before .before .before .before .read-u322 .ensures) (made .before .before .before .before .before .before .before .before .before .tmin .given .1) in
-    let g3 = got32 _ _ _ _ _ (made .before .before .before .before .before .before .before .read-u323 .ensures) (made .before .before .before .before .before .tmax .given .1) in
-    let g4 = got32 _ _ _ _ _ (made .before .before .before .read-u324 .ensures) (made .before .e .given .1) in
+    let has-e = c .before .before in
+    let has-tmax = has-e .before .before .before .before in
+    let has-tmin = has-tmax .before .before .before .before in
+    let has-c = has-tmin .before .before .before .before in
+    let g1 = got32 _ _ _ _ _ (has-c .before .before .read-u32 .ensures) (has-c .c .given .1) in
+    let g2 = got32 _ _ _ _ _ (has-tmin .before .before .read-u322 .ensures) (has-tmin .tmin .given .1) in
+    let g3 = got32 _ _ _ _ _ (has-tmax .before .before .read-u323 .ensures) (has-tmax .tmax .given .1) in
+    let g4 = got32 _ _ _ _ _ (has-e .before .before .read-u324 .ensures) (has-e .e .given .1) in
     rw (c .new .ensures) (task-read _ _ _ _ _ _ _ _ _ _ g1 g2 g3 g4)
 
 pub read-task-spec : {M : Type 1} → statement M

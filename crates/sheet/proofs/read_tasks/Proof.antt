@@ -33,7 +33,7 @@ enum-told c = search needs
 
 returns : tie.Need-returns Inv-loop μ-loop
 returns c =
-    let m = task-missed _ _ _ _ (c .before .before .read-task .ensures) (c .enum-told .given .1) in
+    let m = task-missed _ _ _ (c .before .before .read-task .ensures) (c .enum-told .given .1) in
     sym (tasks-missing _ _ _ (omega arith))
 
 mul-rows : tie.Need-mul-rows Inv-loop μ-loop

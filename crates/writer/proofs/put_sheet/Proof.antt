@@ -33,12 +33,15 @@ same-length c = search needs
 returns : tie.Need-returns
 unfolding encode
 returns c =
-    let settings = c .before .before .before .before .before .before .before .before .before .before .before .before .before .before .before .before .before .before .put-settings .ensures in
-    let task-count = c .before .before .before .before .before .before .before .before .before .before .before .before .before .before .put-u16 .ensures in
-    let tasks = c .before .before .before .before .before .before .before .before .before .before .put-tasks .ensures in
-    let result-count = c .before .before .before .before .before .before .put-u162 .ensures in
-    let results = c .before .before .put-results .ensures in
-    put-sized (omega arith) (put-then settings (put-then (put-then task-count tasks) (put-then result-count results)))
+    let results = c .before .before in
+    let result-count = results .before .before .before .before in
+    let tasks = result-count .before .before .before .before in
+    let task-count = tasks .before .before .before .before in
+    let settings = task-count .before .before .before .before in
+    put-sized (omega arith)
+    (put-then (settings .put-settings .ensures)
+    (put-then (put-then (task-count .put-u16 .ensures) (tasks .put-tasks .ensures))
+    (put-then (result-count .put-u162 .ensures) (results .put-results .ensures))))
 
 pub put-sheet-spec : {M : Type 1} → statement M
 put-sheet-spec =

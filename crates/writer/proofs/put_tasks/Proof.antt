@@ -5,7 +5,7 @@ use native.Mathlib.Omega.{arith}
 use lib.ListN.{length}
 use borrow.Author.Needs.{needs}
 use Rattle.kinds.specs.Task.{noTask}
-use Rattle.field.specs.Stored.{Put}
+use Rattle.field.specs.Handover.{Put}
 use Rattle.field.proofs.Stores.{put-long}
 use Rattle.sheet.specs.Sections.{taskSize}
 use Rattle.writer.specs.Encode.{taskBytes, tasksBytes}

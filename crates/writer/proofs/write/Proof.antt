@@ -26,14 +26,19 @@ end-place-requires c κs =
 
 returns-3 : tie.Need-returns-3
 returns-3 c =
-    let fit = sym (c .before .before .before .results-fit .ensures) ∙ not-false _ (c .before .before .if2 .left) in
-    rw (c .before .end-place .ensures) (too-short _ _ (c .before .before .before .before .if1 .left) fit (rw (c .before .end-place .ensures) at (c .if3 .taken)))
+    let fits = c .before .before in
+    let judged = fits .before in
+    let fit = sym (judged .results-fit .ensures) ∙ not-false _ (fits .if2 .left) in
+    let end = c .before .end-place .ensures in
+    rw end (too-short _ _ (judged .before .if1 .left) fit (rw end at (c .if3 .taken)))
 
 put-sheet-requires : tie.Need-put-sheet-requires
 put-sheet-requires c κs =
-    let fit = sym (c .before .before .before .before .results-fit .ensures) ∙ not-false _ (c .before .before .before .if2 .left) in
+    let fits = c .before .before .before in
+    let judged = fits .before in
+    let fit = sym (judged .results-fit .ensures) ∙ not-false _ (fits .if2 .left) in
     let most = fits-few _ _ fit in
-    let few = c .before .before .before .before .before .if1 .left in
+    let few = judged .before .if1 .left in
     (few, (omega arith, rw (c .before .before .end-place .ensures) at (c .before .if3 .left)))
 
 same-length : tie.Need-same-length
@@ -41,8 +46,12 @@ same-length c = search needs
 
 returns-4 : tie.Need-returns-4
 returns-4 c =
-    let fit = sym (c .before .before .before .before .before .before .before .results-fit .ensures) ∙ not-false _ (c .before .before .before .before .before .before .if2 .left) in
-    wrote _ _ (c .before .before .before .before .before .before .before .before .if1 .left) fit (rw (c .before .before .before .before .before .end-place .ensures) at (c .before .before .before .before .if3 .left)) _ _ (c .before .before .put-sheet .ensures)
+    let put = c .before .before in
+    let room = put .before .before in
+    let fits = room .before .before in
+    let judged = fits .before in
+    let fit = sym (judged .results-fit .ensures) ∙ not-false _ (fits .if2 .left) in
+    wrote _ _ (judged .before .if1 .left) fit (rw (room .before .end-place .ensures) at (room .if3 .left)) _ _ (put .put-sheet .ensures)
 
 pub write-spec : {M : Type 1} → statement M
 write-spec =

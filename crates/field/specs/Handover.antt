@@ -1,4 +1,4 @@
--- A run of bytes stored in a lent buffer.
+-- What functions hand each other: a run of bytes stored in a lent buffer.
 -- Assumes nothing.
 use Prim.Native.Nat.{ℕ, _+_}
 use mathlib.Core.List.{List}

@@ -1,0 +1,27 @@
+-- What functions hand each other: the front of a sheet that was read.
+-- Assumes nothing.
+use Prim.Native.Nat.{ℕ, _≤_}
+use mathlib.Core.List.{List}
+use mathlib.Core.Path.{_≡_}
+use lib.ListN.{length}
+use Rattle.kinds.specs.declared.Settings.{Settings}
+use Rattle.kinds.specs.Limits.{mostTasks}
+use Rattle.kinds.specs.Answer.{refused}
+use Rattle.sheet.specs.declared.Head.{Head}
+use Rattle.sheet.specs.declared.Head.the-variants as head
+use Rattle.sheet.specs.Sections.{recordsPlace}
+use Rattle.sheet.specs.Reading.{noSheet, settingsIn, taskCount, readRows, readSheet}
+
+-- the front of a sheet was read: its settings, its task count, and where its records start
+pub record Begins (s : List ℕ) (settings : Settings) (n from : ℕ) : Type 0 where
+  pub settings-is : settings ≡ settingsIn s
+  pub n-is : n ≡ taskCount s
+  pub few : n ≤ mostTasks
+  pub from-is : from ≡ recordsPlace
+  pub within : recordsPlace ≤ length s
+  pub on : readSheet s ≡ readRows s
+
+-- what the head says of the whole reading
+abbrev pub HeadTells : List ℕ → Head → Type 0
+HeadTells s (head.Value settings n from) = Begins s settings n from
+HeadTells s (head.Refused refusal) = refused noSheet refusal ≡ readSheet s
