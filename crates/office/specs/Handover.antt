@@ -3,8 +3,8 @@
 use mathlib.Core.List.{[]}
 use Rattle.kinds.specs.declared.Counted.the-variants.{Refused}
 use Rattle.kinds.specs.declared.Refusal.{Refusal}
+use Rattle.kinds.specs.Task.{tableOf}
 use Rattle.office.specs.declared.Imported.{Imported}
-use Rattle.office.specs.Carrying.{tableOf}
 
 -- a refused import by value
 abbrev pub importedNot : Refusal → Imported

@@ -73,13 +73,13 @@ fn sheet_of(x: StationSheet) -> Sheet
 }
 
 // A sheet in numbers.
-fn numbers_of(x: Sheet) -> StationSheet
-    ensures { λ r. ⌜ r ≡ numbersOf x ⌝ }
+fn numbers_of(sheet: Sheet) -> StationSheet
+    ensures { λ r. ⌜ r ≡ numbersOf sheet ⌝ }
 {
-    let settings = x.settings;
+    let settings = sheet.settings;
     let policy = settings.policy;
-    let table = x.table;
-    let results = x.results;
+    let table = sheet.table;
+    let results = sheet.results;
     let station = Station {
         policy: policy.number(),
         m: settings.m,

@@ -39,6 +39,15 @@ impl WideTask {
 
     pub const GREATEST_ELASTICITY: u32 = Task::GREATEST_ELASTICITY;
 
+    // An unused place of a table.
+    pub const NONE: WideTask = WideTask {
+        c: 0,
+        l: 0,
+        tmin: 0,
+        tmax: 0,
+        e: 0,
+    };
+
     pub fn new(c: u64, l: u32, tmin: u32, tmax: u32, e: u32) -> WideTask
         ensures { λ r. ⌜ r ≡ wideTask c l tmin tmax e ⌝ }
     {

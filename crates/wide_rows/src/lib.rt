@@ -7,7 +7,7 @@ ghost use lib.ListN.{length};
 ghost use Rattle.kinds.specs.Limits.{mostTasks};
 ghost use Rattle.plan.specs.Plan.{Meets};
 ghost use Rattle.wide.specs.Wide.{outcome};
-ghost use Rattle.wide_rows.specs.Gathered.{tableOf, tableWith};
+ghost use Rattle.wide.specs.WideTask.{tableOf, tableWith};
 use kinds::Answer;
 use kinds::Table;
 use wide::WideTable;
@@ -28,15 +28,8 @@ fn capped(n: usize) -> usize
 fn empty(n: usize) -> WideTable
     ensures { λ r. ⌜ r ≡ tableWith [] n ⌝ }
 {
-    let unused = WideTask {
-        c: 0,
-        l: 0,
-        tmin: 0,
-        tmax: 0,
-        e: 0,
-    };
     WideTable {
-        rows: [unused; Table::MOST_TASKS],
+        rows: [WideTask::NONE; Table::MOST_TASKS],
         n,
     }
 }

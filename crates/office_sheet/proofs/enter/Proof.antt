@@ -1,9 +1,25 @@
 -- `office_sheet::enter` meets its contract: each `return` is one law of `Entering`. Assumes nothing.
-use mathlib.Core.Path.{sym, _∙_}
+use mathlib.Core.Path.{_≡_, sym, _∙_}
+use Rattle.office_sheet.specs.Written.{enteredText, entered}
 use Rattle.office_sheet.proofs.Entering.{policy-bad, processors-bad, text-entered, text-refused, table-few, text-taken}
 use borrow.Author.Needs.{needs}
 use Rattle.office_sheet.proofs.enter.Statement.{statement}
 use Rattle.office_sheet.proofs.enter.Tie as tie
+
+-- both arguments are settings, so the text is entered with them
+entered-with : (read : tie.After-import) →
+    let processors = read .before .before .before .before in
+    let policy = processors .before .before .before .before in
+    let a = policy .before .before .before .before .args in
+    entered (a .policy .now) (a .processors .now) (a .text .now)
+    ≡ enteredText (processors .before .before .p .given .0 .0) (read .before .before .m .given .0 .0) (a .text .now)
+entered-with read =
+    let processors = read .before .before .before .before in
+    let policy = processors .before .before .before .before in
+    let a = policy .before .before .before .before .args in
+    let p = sym (policy .setting-of .ensures) ∙ processors .before .before .p .given .1 in
+    let m = sym (processors .setting-of2 .ensures) ∙ read .before .before .m .given .1 in
+    text-entered (a .policy .now) (a .processors .now) (a .text .now) _ p _ m
 
 setting-of-requires : tie.Need-setting-of-requires
 setting-of-requires c κs = search needs
@@ -56,14 +72,9 @@ put-refusal-requires-3 c κs = search needs
 
 returns-3 : tie.Need-returns-3
 returns-3 c =
-    let read = c .before .before .before .before .before in
-    let processors = read .before .before .before .before in
-    let policy = processors .before .before .before .before in
-    let a = policy .before .before .before .before .args in
-    let p = sym (policy .setting-of .ensures) ∙ processors .before .before .p .given .1 in
-    let m = sym (processors .setting-of2 .ensures) ∙ read .before .before .m .given .1 in
-    let both = text-entered (a .policy .now) (a .processors .now) (a .text .now) _ p _ m in
-    rw (both ∙ text-refused _ _ _ _ (read .import .ensures) _ (c .before .before .before .answer .given .1)) (c .put-refusal3 .ensures)
+    let answer = c .before .before .before in
+    let read = answer .before .before in
+    rw (entered-with read ∙ text-refused _ _ _ _ (read .import .ensures) _ (answer .answer .given .1)) (c .put-refusal3 .ensures)
 
 enum-told-3 : tie.Need-enum-told-3
 enum-told-3 c = search needs
@@ -74,14 +85,9 @@ put-unfilled-requires c κs =
 
 returns-4 : tie.Need-returns-4
 returns-4 c =
-    let read = c .before .before .before .before .before in
-    let processors = read .before .before .before .before in
-    let policy = processors .before .before .before .before in
-    let a = policy .before .before .before .before .args in
-    let p = sym (policy .setting-of .ensures) ∙ processors .before .before .p .given .1 in
-    let m = sym (processors .setting-of2 .ensures) ∙ read .before .before .m .given .1 in
-    let both = text-entered (a .policy .now) (a .processors .now) (a .text .now) _ p _ m in
-    rw (both ∙ text-taken _ _ _ _ (read .import .ensures) _ (c .before .before .before .enum-told3 .given .1)) (c .put-unfilled .ensures)
+    let told = c .before .before .before in
+    let read = told .before .before in
+    rw (entered-with read ∙ text-taken _ _ _ _ (read .import .ensures) _ (told .enum-told3 .given .1)) (c .put-unfilled .ensures)
 
 pub enter-spec : {M : Type 1} → statement M
 enter-spec =
