@@ -2,10 +2,12 @@
 -- Assumes nothing.
 use Prim.Native.Nat.{ℕ, _≤_, _<_}
 use mathlib.Core.List.{List}
-use mathlib.Core.Path.{_≡_, sym, ap, _∙_}
+use mathlib.Core.Path.{_≡_, sym, ap, subst, _∙_}
 use native.Mathlib.Omega.{arith}
 use lib.ListN.{length}
 use Rattle.kinds.specs.declared.Policy.{Policy}
+use Rattle.kinds.specs.declared.Settings.{Settings}
+use Rattle.kinds.specs.declared.Refusal.{Refusal}
 use Rattle.kinds.specs.declared.Refusal.the-variants.{TooManyTasks, SheetEnds, NotTwoSettings}
 use Rattle.kinds.specs.Limits.{mostTasks}
 use Rattle.kinds.specs.Policy.{policyOf}
@@ -14,7 +16,9 @@ use Rattle.field.specs.Number.{u16At}
 use Rattle.field.proofs.Fields.{Got}
 use Rattle.sheet.specs.Sections.{settingsCount, settingsPlace, policyPlace, mPlace, tasksPlace, recordsPlace}
 use Rattle.sheet.specs.Reading.{noSheet, taskCount, settingsIn, readSheet}
-use Rattle.sheet.specs.Handover.{Begins}
+use Rattle.sheet.specs.declared.Head.{Head}
+use Rattle.sheet.specs.declared.Head.the-variants as head
+use Rattle.sheet.specs.Handover.{Begins, RestDue}
 use Rattle.sheet.proofs.Stages.{settings-wrong, tasks-missing, too-many, head-whole}
 
 module _ (s : List ℕ) (settings at-policy : ℕ) (g₁ : Got s settingsPlace 2 u16At settings at-policy) where
@@ -58,3 +62,11 @@ module _ (s : List ℕ) (settings at-policy : ℕ) (g₁ : Got s settingsPlace 2
             within = omega arith;
             on = head-whole s (omega arith) stands (omega arith) (omega arith);
           }
+
+-- what is due after a head, by what the head says
+module _ (s : List ℕ) (at : ℕ) (h : Head) (due : RestDue s at h) where
+  pub due-rows : {settings : Settings} {n next : ℕ} → h ≡ head.Value settings n next → Begins s settings n at
+  due-rows e = let d = subst (RestDue s at) e due in rw (d .1) (d .0)
+
+  pub due-refused : {refusal : Refusal} → h ≡ head.Refused refusal → refused noSheet refusal ≡ readSheet s
+  due-refused e = subst (RestDue s at) e due .0

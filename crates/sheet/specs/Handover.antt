@@ -25,3 +25,12 @@ pub record Begins (s : List ℕ) (settings : Settings) (n from : ℕ) : Type 0 w
 abbrev pub HeadTells : List ℕ → Head → Type 0
 HeadTells s (head.Value settings n from) = Begins s settings n from
 HeadTells s (head.Refused refusal) = refused noSheet refusal ≡ readSheet s
+
+-- the place after a head that was read
+abbrev pub placeAfter : Head → ℕ
+placeAfter (head.Value settings n next) = next
+placeAfter (head.Refused refusal) = 0
+
+-- a head was read, and what follows it is due at the place after it
+abbrev pub RestDue : List ℕ → ℕ → Head → Type 0
+RestDue s at h = HeadTells s h × (at ≡ placeAfter h)

@@ -4,7 +4,7 @@ use Prim.Native.Nat.{ℕ}
 use mathlib.Core.Bool.{Bool}
 use mathlib.Core.List.{List}
 use lib.Dec.{leb, eqb}
-use lib.ListN.{length, drop, replicate}
+use lib.ListN.{length, replicate}
 use Rattle.kinds.specs.declared.Policy.the-variants.{Further}
 use Rattle.kinds.specs.declared.Settings.{Settings}
 use Rattle.kinds.specs.declared.Sheet.{Sheet}
@@ -13,7 +13,7 @@ use Rattle.kinds.specs.declared.Refusal.the-variants.{TooManyTasks, SheetEnds, 
 use Rattle.kinds.specs.Limits.{mostTasks}
 use Rattle.kinds.specs.Task.{noTask}
 use Rattle.kinds.specs.Policy.{policyOf}
-use Rattle.kinds.specs.Answer.{Handed, accepted, refused, judged, handedWith}
+use Rattle.kinds.specs.Answer.{Handed, accepted, judged, handedWith}
 use Rattle.field.specs.Number.{u16At}
 use Rattle.sheet.specs.declared.Reading.{Reading}
 use Rattle.sheet.specs.Sections.{settingsCount, taskSize, grantedSize, settingsPlace, policyPlace, mPlace, tasksPlace, recordsPlace, resultsPlace, grantedPlace, endPlace, resultsFit}
@@ -73,10 +73,6 @@ readSheet s =
     due s policyPlace
     (judge (eqb (u16At s settingsPlace) settingsCount) NotTwoSettings
     (due s recordsPlace (judge (leb (taskCount s) mostTasks) (TooManyTasks tasksPlace) (readRows s))))
-
--- the sheet that stands from a place on
-abbrev pub readFrom : List ℕ → ℕ → Handed Sheet
-readFrom s at = readSheet (drop at s)
 
 -- a reading in document 01's numbers
 abbrev pub handedReading : Reading → Handed Sheet

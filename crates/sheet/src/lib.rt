@@ -18,8 +18,8 @@ ghost use Rattle.kinds.specs.Limits.{mostTasks};
 ghost use Rattle.kinds.specs.Answer.{refused};
 ghost use Rattle.sheet.specs.Sections.{recordsPlace, resultsPlace, endPlace, longestSheet, resultsFit};
 ghost use Rattle.sheet.specs.Rows.{taskField, grantedField, taskRows, grantedRows};
-ghost use Rattle.sheet.specs.Reading.{noSheet, readRows, readSheet, readFrom, handedReading};
-ghost use Rattle.sheet.specs.Handover.{Begins, HeadTells};
+ghost use Rattle.sheet.specs.Reading.{noSheet, readRows, readSheet, handedReading};
+ghost use Rattle.sheet.specs.Handover.{Begins, HeadTells, placeAfter, RestDue};
 
 // A verdict, and the sheet: that of zeros where it was refused.
 pub struct Reading {
@@ -292,24 +292,25 @@ fn read_rows(s: &[u8], settings: Settings, n: usize, from: usize) -> Reading
     Reading { verdict, sheet }
 }
 
-// The sheet that a slice is, from its front to its end.
-fn read_sheet(s: &[u8]) -> Reading
-    ensures { λ r. ⌜ handedReading r ≡ readSheet (now (s .entry)) ⌝ }
+// The place after a head that was read.
+fn place_after(head: Head) -> usize
+    ensures { λ r. ⌜ r ≡ placeAfter head ⌝ }
 {
-    match read_head(s) {
-        Head::Refused(refusal) => refusing(refusal),
-        Head::Value(settings, n, from) => read_rows(s, settings, n, from),
+    match head {
+        Head::Value(_, _, next) => next,
+        Head::Refused(_) => 0,
     }
 }
 
-// The sheet that stands from a place on; past the end none does.
-fn read_from(s: &[u8], at: usize) -> Reading
-    ensures { λ r. ⌜ handedReading r ≡ readFrom (now (s .entry)) at ⌝ }
+// What follows a head that was read: the rows from a place on, or the head's refusal.
+fn read_rest(s: &[u8], at: usize, head: Head) -> Reading
+    requires { ⌜ RestDue (now s) at head ⌝ }
+    ensures { λ r. ⌜ handedReading r ≡ readSheet (now (s .entry)) ⌝ }
 {
-    if s.len() < at {
-        return read_sheet(&s[..0]);
+    match head {
+        Head::Refused(refusal) => refusing(refusal),
+        Head::Value(settings, n, _) => read_rows(s, settings, n, at),
     }
-    read_sheet(&s[at..])
 }
 
 // Document 01: "a reader that holds the lent sheet and its place in it."
@@ -325,18 +326,39 @@ pub fn open<'a>(sheet: &'a [u8]) -> Reader<'a>
     Reader { sheet, at: 0 }
 }
 
-// What a reader reads from its place on.
-pub fn rest<'a>(reader: Reader<'a>) -> Reading
-    ensures { λ r. ⌜ handedReading r ≡ readFrom (now (reader .entry .sheet)) (reader .entry .at) ⌝ }
+// The reader moved on to a place.
+pub fn moved<'a>(reader: Reader<'a>, at: usize) -> Reader<'a>
+    ensures { λ r. ⌜ (r .sheet ≡ reader .entry .sheet) × (r .at ≡ at) ⌝ }
 {
-    read_from(reader.sheet, reader.at)
+    Reader {
+        sheet: reader.sheet,
+        at,
+    }
+}
+
+// The head of the sheet that a reader holds.
+fn front<'a>(reader: Reader<'a>) -> Head
+    ensures { λ r. ⌜ HeadTells (now (reader .entry .sheet)) r ⌝ }
+{
+    read_head(reader.sheet)
+}
+
+// What a reader reads from its place on, where that is the place after the head.
+fn rest<'a>(reader: Reader<'a>, head: Head) -> Reading
+    requires { ⌜ RestDue (now (reader .sheet)) (reader .at) head ⌝ }
+    ensures { λ r. ⌜ handedReading r ≡ readSheet (now (reader .entry .sheet)) ⌝ }
+{
+    read_rest(reader.sheet, reader.at, head)
 }
 
 // Reads a station sheet.
 pub fn read(bytes: &[u8]) -> Reading
     ensures { λ r. ⌜ handedReading r ≡ readSheet (now (bytes .entry)) ⌝ }
 {
-    rest(open(bytes))
+    let reader = open(bytes);
+    let head = front(reader);
+    let next = place_after(head);
+    rest(moved(reader, next), head)
 }
 
 // The longest sheet that definitions name is the one that the code names.
