@@ -19,7 +19,8 @@ use Rattle.share.specs.Share.{shareAt}
 use Rattle.springs.specs.Handover.{SharesOf}
 use Rattle.springs.proofs.Columns.{held-most}
 use Rattle.fit.specs.declared.Fit.{Fit}
-use Rattle.fit.specs.Fit.{loadIn, placeAt, stuckAt, fits, placesTo, FitIs}
+use Rattle.fit.specs.Fit.{loadIn, placeAt, stuckAt, fits, placesTo}
+use Rattle.fit.specs.Handover.{FitIs}
 use Rattle.fit.proofs.Placing.{place-same}
 use Rattle.policy.specs.Passing.{passes, passesAt}
 use Rattle.policy.proofs.Tests.{first-fit-passes, passes-same}

@@ -14,7 +14,8 @@ use Rattle.kinds.specs.Limits.{mostProcessors}
 use Rattle.kinds.specs.Policy.{meant}
 use Rattle.springs.specs.Columns.{periodIn}
 use Rattle.springs.specs.Handover.{Held, Allowed}
-use Rattle.fit.specs.Fit.{loadIn, Loads}
+use Rattle.fit.specs.Fit.{loadIn}
+use Rattle.fit.specs.Handover.{Loads}
 use Rattle.policy.specs.Passing.{passes}
 use Rattle.plan.specs.Plan.{processorOn, found}
 

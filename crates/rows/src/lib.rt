@@ -59,7 +59,8 @@ pub fn find_plain(
     periods: &mut [u32],
     processors: &mut [u16],
 ) -> Answer
-    ensures { λ r. ⌜ Meets (outcome true settings (now (rows .entry)) (length (now (rows .entry))) (now (periods .entry)) (now (processors .entry))) r (now (periods .exit)) (now (processors .exit)) ⌝ }
+    ensures { λ r. ⌜ Meets (outcome true settings (now (rows .entry)) (length (now (rows .entry))) (now (periods .entry)) (now (processors .entry)))
+        r (now (periods .exit)) (now (processors .exit)) ⌝ }
 {
     plain::find(gather(rows), settings, periods, processors)
 }
@@ -71,7 +72,8 @@ pub fn find_quick(
     periods: &mut [u32],
     processors: &mut [u16],
 ) -> Looked
-    ensures { λ r. ⌜ MeetsLooked settings (now (rows .entry)) (length (now (rows .entry))) (now (periods .entry)) (now (processors .entry)) r (now (periods .exit)) (now (processors .exit)) ⌝ }
+    ensures { λ r. ⌜ MeetsLooked settings (now (rows .entry)) (length (now (rows .entry))) (now (periods .entry)) (now (processors .entry))
+        r (now (periods .exit)) (now (processors .exit)) ⌝ }
 {
     quick::find(gather(rows), settings, periods, processors)
 }

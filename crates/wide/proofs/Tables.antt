@@ -15,13 +15,15 @@ use Rattle.ground.proofs.First.{first-is, first-cong}
 use Rattle.ground.proofs.Folds.{sum-none, sum-more, sum-cong, max-to-le, max-cong}
 use Rattle.ground.proofs.Least.{least-cong}
 use Rattle.kinds.specs.Limits.{mostTasks}
-use Rattle.wide.specs.declared.WideTask.{WideTask}
-use Rattle.wide.specs.declared.WideTable.{WideTable}
-use Rattle.wide.specs.WideTask.{at, Good, isGood}
-use Rattle.wide.specs.Cores.{saturationAt, periodAt, coresAt, StepIs, CoresIs}
-use Rattle.wide.specs.Table.{fullCompression, firstBad, coresSum, passesAt, leastStep, periodsAt, coreCountsAt, GoodTable, SumIs}
-use Rattle.wide.proofs.Records.{good-is}
-use Rattle.wide.proofs.Tasks.{saturation-most}
+use Rattle.wide_task.specs.declared.WideTask.{WideTask}
+use Rattle.wide_task.specs.declared.WideTable.{WideTable}
+use Rattle.wide_task.specs.WideTask.{at, Good, isGood}
+use Rattle.wide_task.specs.Cores.{saturationAt, periodAt, coresAt}
+use Rattle.wide_task.specs.Handover.{StepIs, CoresIs}
+use Rattle.wide.specs.Table.{fullCompression, firstBad, coresSum, passesAt, leastStep, periodsAt, coreCountsAt}
+use Rattle.wide.specs.Handover.{GoodTable, SumIs}
+use Rattle.wide_task.proofs.Records.{good-is}
+use Rattle.wide_task.proofs.Tasks.{saturation-most}
 
 -- Ask 4: "K is at most 14,999,999"
 pub full-most : (rows : List WideTask) (n : ℕ) → ((i : ℕ) → i < n → Good (at rows i)) → fullCompression rows n ≤ 14999999

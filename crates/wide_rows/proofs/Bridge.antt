@@ -5,8 +5,8 @@ use mathlib.Core.List.{List}
 use mathlib.Core.Path.{_≡_}
 use lib.ListN.{length}
 use Rattle.kinds.specs.Limits.{mostTasks}
-use Rattle.wide.specs.declared.WideTask.{WideTask}
-use Rattle.wide.specs.WideTask.{noWideTask, tableOf}
+use Rattle.wide_task.specs.declared.WideTask.{WideTask}
+use Rattle.wide_task.specs.WideTask.{noWideTask, tableOf}
 use Rattle.wide.specs.Wide.{outcome}
 use Rattle.wide.proofs.Outcomes.{outcome-same}
 use Rattle.ground.proofs.Padding.{padded-at}

@@ -5,10 +5,10 @@ use mathlib.Core.List.{[], _∷_}
 use mir.Syntax.{w32, w64}
 use Rattle.walk.proofs.Tabled.{Tabled, tabled, numbers-are}
 use Rattle.kinds.specs.Limits.{mostTasks}
-use Rattle.wide.specs.WideTask.{noWideTask, table}
-use Rattle.wide.proofs.WideTable as T
-use Rattle.wide.proofs.WideTask as P
-use Rattle.wide.proofs.WideTask.Laws as P′
+use Rattle.wide_task.specs.WideTask.{noWideTask, table}
+use Rattle.wide_task.proofs.WideTable as T
+use Rattle.wide_task.proofs.WideTask as P
+use Rattle.wide_task.proofs.WideTask.Laws as P′
 use Rattle.wide_rows.proofs.Values as values
 
 abbrev pub tasks : Tabled P.the-row T.the-row

@@ -4,8 +4,8 @@ use mathlib.Core.Path.{_≡_, sym}
 use native.Mathlib.Omega.{arith}
 use Rattle.ground.specs.Folds.{maxTo}
 use Rattle.ground.proofs.Folds.{max-none, max-step}
-use Rattle.wide.specs.WideTask.{at}
-use Rattle.wide.specs.Cores.{saturationAt}
+use Rattle.wide_task.specs.WideTask.{at}
+use Rattle.wide_task.specs.Cores.{saturationAt}
 use Rattle.wide.proofs.Tables.{full-done}
 use Rattle.wide.proofs.full_compression.Statement.{statement}
 use Rattle.wide.proofs.full_compression.Tie as tie

@@ -8,9 +8,9 @@ use lib.ListN.{length, getD}
 use Rattle.ground.specs.Choice.{both}
 use Rattle.ground.specs.Padded.{padded}
 use Rattle.kinds.specs.Limits.{longestPeriod, greatestElasticity, mostTasks}
-use Rattle.wide.specs.declared.WideTask.{WideTask}
-use Rattle.wide.specs.declared.WideTable.{WideTable}
-use Rattle.wide.specs.Limits.{mostTmins}
+use Rattle.wide_task.specs.declared.WideTask.{WideTask}
+use Rattle.wide_task.specs.declared.WideTable.{WideTable}
+use Rattle.wide_task.specs.Limits.{mostTmins}
 
 abbrev pub wideTask : ℕ → ℕ → ℕ → ℕ → ℕ → WideTask
 wideTask c l tmin tmax e = record { c = c; l = l; tmin = tmin; tmax = tmax; e = e }
