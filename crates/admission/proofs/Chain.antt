@@ -5,6 +5,7 @@ use mathlib.Core.Bool.{Bool, true, false, not}
 use mathlib.Core.List.{List}
 use mathlib.Core.Path.{_≡_, refl}
 use native.Mathlib.Omega.{arith}
+use lib.Dec.{ltb, lit≤}
 use borrow.Author.Tests.{ltb-false}
 use Rattle.ground.specs.Choice.{both, either}
 use Rattle.ground.proofs.Cases.{true-false}
@@ -14,13 +15,15 @@ use Rattle.kinds.specs.declared.Policy.{Policy}
 use Rattle.kinds.specs.declared.Refusal.{Refusal}
 use Rattle.kinds.specs.declared.Verdict.{Verdict}
 use Rattle.kinds.specs.declared.Verdict.the-variants.{Accepted, Refused}
-use Rattle.kinds.specs.Answer.{check}
+use Rattle.kinds.specs.declared.Refusal.the-variants.{NoSuchPolicy, NoSuchProcessors, TooManyTasks, PolicyNotServed, OutputTooShort, BadRecord}
+use Rattle.kinds.specs.Answer.{check, handedVerdict}
+use Rattle.kinds.specs.Refusal.{numberOf}
 use Rattle.kinds.specs.Limits.{mostTasks, mostProcessors}
 use Rattle.kinds.specs.Policy.{meant, isFirstFit, isFurther}
 use Rattle.kinds.specs.Task.{at}
 use Rattle.share.specs.Table.{firstBad}
 use Rattle.share.proofs.Tables.{bad-same}
-use Rattle.admission.specs.Admission.{andThen, misset, gate, roomy, gateOf, recordsGood, admission}
+use Rattle.admission.specs.Admission.{andThen, knows, misset, gate, served, roomy, gateOf, recordsGood, admission}
 
 -- a verdict of a chain was refused nowhere
 pub unchecked : (test : Bool) (r : Refusal) (rest : Verdict) → check test (Refused r) rest ≡ Accepted → (test ≡ false) × (rest ≡ Accepted)
@@ -89,6 +92,31 @@ unfolding admission
 admitted serves s rows n room e =
     let a = then-admitted _ _ e in
     record { passed = all-passed serves s n room (a .0); none-bad = ltb-false _ _ (unchecked _ _ _ (a .1) .0) }
+
+-- no check of the admission gives a number above 6
+check-six : (test : Bool) (r : Refusal) (rest : Verdict) → numberOf r ≤ 6 → handedVerdict rest .number ≤ 6
+    → handedVerdict (check test (Refused r) rest) .number ≤ 6
+check-six true r rest h g = h
+check-six false r rest h g = g
+
+then-six : (a rest : Verdict) → handedVerdict a .number ≤ 6 → handedVerdict rest .number ≤ 6 → handedVerdict (andThen a rest) .number ≤ 6
+then-six Accepted rest h g = g
+then-six (Refused r) rest h g = h
+
+pub admission-six : (serves : Bool) (s : Settings) (rows : List Task) (n room : ℕ) → handedVerdict (admission serves s rows n room) .number ≤ 6
+unfolding admission gate
+admission-six serves s rows n room =
+    let p = meant (s .policy) in
+    let bad = firstBad rows n in
+    let one = check-six (isFurther p) NoSuchPolicy Accepted (lit≤ tt) (lit≤ tt) in
+    let three = check-six (ltb mostTasks n) (TooManyTasks n) Accepted (lit≤ tt) (lit≤ tt) in
+    let two = check-six (misset (s .m)) NoSuchProcessors (check (ltb mostTasks n) (Refused (TooManyTasks n)) Accepted) (lit≤ tt) three in
+    let four = check-six (both (isFirstFit p) (not serves)) PolicyNotServed Accepted (lit≤ tt) (lit≤ tt) in
+    let five = check-six (ltb room n) (OutputTooShort n) Accepted (lit≤ tt) (lit≤ tt) in
+    let six = check-six (ltb bad n) (BadRecord bad) Accepted (lit≤ tt) (lit≤ tt) in
+    then-six (gateOf serves s n room) (recordsGood rows n)
+    (then-six (knows p) _ one (then-six (gate (misset (s .m)) n) _ two (then-six (served serves p) (roomy n room) four five)))
+    six
 
 -- the admission looks at the first n records, and where there are too many at none
 module _ (serves : Bool) (s : Settings) (xs ys : List Task) (n room : ℕ) where

@@ -2,3 +2,4 @@ pub mod Processors
 pub mod Writing
 pub mod Found
 pub mod Outcomes
+pub mod Demand

@@ -14,6 +14,7 @@ use Rattle.kinds.specs.declared.Settings.{Settings}
 use Rattle.kinds.specs.Limits.{mostTasks}
 use Rattle.kinds.specs.Policy.{meant, isFirstFit}
 use Rattle.kinds.specs.Task.{at}
+use Rattle.kinds.proofs.Answers.{handed-one}
 use Rattle.policy.specs.Looks.{looksOf}
 use Rattle.policy.specs.Passing.{leastStep}
 use Rattle.policy.proofs.Demand.{step-same}
@@ -24,10 +25,16 @@ use Rattle.admission.proofs.Chain.{admitted, admission-same, admission-many}
 use Rattle.plan.specs.Plan.{outcome, Meets}
 use Rattle.plan.proofs.Outcomes.{no-second-answer, outcome-same, outcome-serves}
 use Rattle.quick.specs.declared.Looked.{Looked}
-use Rattle.quick.specs.Looked.{looksAfter, looks, MeetsLooked}
+use Rattle.quick.specs.Looked.{looksAfter, looks, FoundLooked, MeetsLooked}
 
 looked : Answer → ℕ → Looked
 looked answer looks = record { answer = answer; looks = looks }
+
+-- of a call that lends no outputs
+pub no-second-found : (s : Settings) (rows : List Task) (n room : ℕ) (r q : Looked) → FoundLooked s rows n room r → FoundLooked s rows n room q → r ≡ q
+unfolding looked
+no-second-found s rows n room r q x y =
+    ap₂ looked (handed-one (r .answer) (q .answer) (x .answers ∙ sym (y .answers))) (x .count ∙ sym (y .count))
 
 module _ (s : Settings) (rows : List Task) (n : ℕ) (periods processors : List ℕ) where
   pub no-second-look : (r q : Looked) (ps qs ps′ qs′ : List ℕ) → MeetsLooked s rows n periods processors r ps qs → MeetsLooked s rows n periods processors q ps′ qs′

@@ -1,0 +1,113 @@
+-- An accepted call in the words of demand 2: the least passing step, each task's shortest period and its processor, and nothing past them;
+-- and a call refused by 7: no step from 0 to K passes. For the finder that serves policy 4 and the one that does not.
+-- Assumes nothing.
+use Prim.Native.Nat.{ℕ, _+_, _≤_, _<_, min}
+use mathlib.Core.Bool.{Bool, true, false}
+use mathlib.Core.List.{List}
+use mathlib.Core.Path.{_≡_, sym, _∙_}
+use native.Mathlib.Omega.{arith}
+use lib.ListN.{length, getD}
+use borrow.Author.Tests.{leb-true, leb-false}
+use Rattle.ground.specs.Least.{LeastAt}
+use Rattle.ground.proofs.Buffer.{list-at, list-past}
+use Rattle.ground.proofs.Least.{least-none}
+use Rattle.kinds.specs.declared.Task.{Task}
+use Rattle.kinds.specs.declared.Policy.{Policy}
+use Rattle.kinds.specs.declared.Settings.{Settings}
+use Rattle.kinds.specs.declared.Answer.the-variants.{Accepted}
+use Rattle.kinds.specs.declared.Verdict.the-variants as verdict
+use Rattle.kinds.specs.Limits.{scale}
+use Rattle.kinds.specs.Policy.{meant, isFirstFit}
+use Rattle.kinds.specs.Task.{at, Good}
+use Rattle.rule.specs.Rule.{Shortest}
+use Rattle.share.specs.Share.{costOf, shareAt, periodAt}
+use Rattle.share.specs.Table.{shares, fullCompression, periodsAt}
+use Rattle.share.proofs.Tasks.{shortest}
+use Rattle.share.proofs.Tables.{all-good}
+use Rattle.fit.specs.Fit.{loadsAfter, placeAt, fits}
+use Rattle.fit.proofs.Placing.{lowest, fits-placed}
+use Rattle.policy.specs.Passing.{passesAt, leastStep}
+use Rattle.policy.proofs.Demand.{step-at, step-nothing}
+use Rattle.policy.proofs.Tests.{first-fit-passes}
+use Rattle.admission.specs.Admission.{admission}
+use Rattle.plan.specs.Plan.{processorAt, processorsAt, found, outcome, Meets}
+use Rattle.plan.proofs.Found.{accepting, refused-seven}
+
+-- "1 to m", and "the lowest-numbered processor whose load with it is at most S": the task number i, once those before it are placed
+pub record Lowest (m : ℕ) (load : ℕ → ℕ) (i processor : ℕ) : Type 0 where
+  pub from-one : 1 ≤ processor
+  pub to-m : processor ≤ m
+  pub room : (j : ℕ) → j + 1 ≡ processor → getD (loadsAfter m load i) j 0 + load i ≤ scale
+  pub none-lower : (j : ℕ) → j + 1 < processor → scale < getD (loadsAfter m load i) j 0 + load i
+
+-- "1 to m under policy 4, and 0 ("any") under 1 to 3"
+pub record Assigned (p : Policy) (m : ℕ) (load : ℕ → ℕ) (i processor : ℕ) : Type 0 where
+  pub placed : isFirstFit p ≡ true → Lowest m load i processor
+  pub any : isFirstFit p ≡ false → processor ≡ 0
+
+-- entry i of the outputs is that of task i, and what stands past the tasks is as it was
+pub record Granted (s : Settings) (rows : List Task) (n k : ℕ) (oldPeriods oldProcessors periods processors : List ℕ) : Type 0 where
+  pub good : (i : ℕ) → i < n → Good (at rows i)
+  pub step : LeastAt (passesAt (meant (s .policy)) (s .m) rows n) (fullCompression rows n) k
+  pub each-period : (i : ℕ) → i < n → let task = at rows i in Shortest (costOf task) (task .tmin) (task .tmax) (shareAt task k) (getD periods i 0)
+  pub each-processor : (i : ℕ) → i < n → Assigned (meant (s .policy)) (s .m) (shares rows k) i (getD processors i 0)
+  pub periods-past : (i : ℕ) → n ≤ i → getD periods i 0 ≡ getD oldPeriods i 0
+  pub processors-past : (i : ℕ) → n ≤ i → getD processors i 0 ≡ getD oldProcessors i 0
+
+lowest-place : (m : ℕ) (load : ℕ → ℕ) (i : ℕ) → placeAt m load i < m → Lowest m load i (placeAt m load i + 1)
+lowest-place m load i placed =
+    let first = lowest m load i in
+    record {
+      from-one = omega arith;
+      to-m = omega arith;
+      room = λ j e. let q : j ≡ placeAt m load i = omega arith in rw q (leb-true _ _ (first .there placed));
+      none-lower = λ j l. leb-false _ _ (first .before j (omega arith));
+    }
+
+assigned : (p : Policy) (m : ℕ) (rows : List Task) (n k i : ℕ) → passesAt p m rows n k ≡ true → i < n
+    → Assigned p m (shares rows k) i (processorAt p m rows k i)
+assigned p m rows n k i passing l =
+    record {
+      placed = λ first.
+          let all : fits m (shares rows k) n ≡ true = sym (first-fit-passes p m (shares rows k) n first) ∙ passing in
+          rw first (lowest-place m (shares rows k) i (fits-placed m (shares rows k) n all i l));
+      any = λ other. rw other;
+    }
+
+pub accepted-granted : (serves : Bool) (s : Settings) (rows : List Task) (n k : ℕ) (oldPeriods oldProcessors periods processors : List ℕ)
+    → Meets (outcome serves s rows n oldPeriods oldProcessors) (Accepted k) periods processors
+    → Granted s rows n k oldPeriods oldProcessors periods processors
+unfolding outcome periodsAt processorsAt
+accepted-granted serves s rows n k oldPeriods oldProcessors periods processors x =
+    let room = min (length oldPeriods) (length oldProcessors) in
+    let p = meant (s .policy) in
+    let g = accepting serves s rows n room k (x .answers) in
+    let good = all-good rows n (g .ready .none-bad) in
+    let step = step-at p (s .m) rows n k (g .step) in
+    let ps = rw (← x .answers) at (x .grants) in
+    let qs = rw (← x .answers) at (x .places) in
+    record {
+      good = good;
+      step = step;
+      each-period = λ i l. rw (ps, list-at (λ j. periodAt (at rows j) k) n i _ l) (shortest (at rows i) (good i l) k);
+      each-processor = λ i l. rw (qs, list-at (processorAt p (s .m) rows k) n i _ l) (assigned p (s .m) rows n k i (step .passes) l);
+      periods-past = λ i l. rw ps (list-past (λ j. periodAt (at rows j) k) n i oldPeriods l);
+      processors-past = λ i l. rw qs (list-past (processorAt p (s .m) rows k) n i oldProcessors l);
+    }
+
+-- refusal 7 is given exactly when the call is admitted and no step from 0 to K passes
+module _ (serves : Bool) (s : Settings) (rows : List Task) (n room : ℕ) where
+  pub seven-none : found serves s rows n room .number ≡ 7
+      → (admission serves s rows n room ≡ verdict.Accepted)
+      × ((k : ℕ) → k ≤ fullCompression rows n → passesAt (meant (s .policy)) (s .m) rows n k ≡ false)
+  seven-none e = let x = refused-seven serves s rows n room e in (x .0, step-nothing (meant (s .policy)) (s .m) rows n (x .1))
+
+  pub none-seven : admission serves s rows n room ≡ verdict.Accepted
+      → ((k : ℕ) → k ≤ fullCompression rows n → passesAt (meant (s .policy)) (s .m) rows n k ≡ false)
+      → found serves s rows n room .number ≡ 7
+  unfolding found leastStep
+  none-seven a h =
+      let test = passesAt (meant (s .policy)) (s .m) rows n in
+      let K = fullCompression rows n in
+      let e = least-none test K (K + 1) (λ j l. h j (omega arith)) (omega arith) in
+      rw (a, ← e)
