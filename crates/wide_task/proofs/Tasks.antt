@@ -1,9 +1,10 @@
 -- What document 01 and Ask 4 say of the shares, the saturation step, the periods and the cores of a good task.
 -- Assumes nothing.
 use Prim.Native.Nat.{ℕ, _-_, _*_, _≤_, _<_}
-use mathlib.Core.Path.{_≡_}
+use mathlib.Core.Path.{_≡_, ap, _∙_}
 use native.Mathlib.Nat.{mul-le-mul-left}
 use native.Mathlib.Omega.{arith}
+use Rattle.ground.specs.Rounding.{ceilDiv}
 use Rattle.ground.proofs.Rounding.{ceil-enough, ceil-least, ceil-over, ceil-falls}
 use Rattle.kinds.specs.Limits.{scale, longestPeriod}
 use Rattle.rule.specs.Rule.{Shortest}
@@ -123,5 +124,8 @@ module _ (t : WideTask) (g : Good t) where
   pub period-is : (k r : ℕ) → r ≡ periodAt t k → PeriodIs t k r
   period-is k r e = record { is = e; span = omega (arith, span-ends k); most = omega (arith, shortest k .high) }
 
-  pub cores-is : (k r : ℕ) → r ≡ coresAt t k → CoresIs t k r
-  cores-is k r e = record { is = e; most = omega (arith, cores-most k) }
+  pub cores-is : (k l p r : ℕ) → l ≡ t .l → p ≡ periodAt t k → r ≡ ceilDiv (t .c - l) (p - l) → CoresIs t k r
+  unfolding coresAt
+  cores-is k l p r a b e =
+      let is : r ≡ coresAt t k = e ∙ (ap (λ (x : ℕ). ceilDiv (t .c - x) (p - x)) a ∙ ap (λ (x : ℕ). ceilDiv (t .c - t .l) (x - t .l)) b) in
+      record { is = is; most = omega (arith, is, cores-most k) }

@@ -1,5 +1,5 @@
 -- `wide_task::cores_at` meets its contract. Assumes nothing.
-use Rattle.wide_task.specs.Cores.{coresAt}
+use mathlib.Core.Path.{_∙_}
 use Rattle.wide_task.proofs.Tasks.{cores-is}
 use borrow.Author.Needs.{needs}
 use Rattle.wide_task.proofs.cores_at.Statement.{statement}
@@ -24,8 +24,11 @@ ceil-div-requires : tie.Need-ceil-div-requires
 ceil-div-requires c κs = search needs
 
 returns : tie.Need-returns
-unfolding coresAt
-returns c = cores-is _ (c .before .before .before .before .before .pre) _ _ (cc)
+returns c =
+    let widened = c .before .before in
+    let period = widened .before in
+    let span = period .before in
+    cores-is _ (span .before .pre) _ _ _ _ (span .widened .ensures) (widened .widened2 .ensures ∙ period .period-at .ensures .is) (c .ceil-div .ensures)
 
 pub cores-at-spec : {M : Type 1} → statement M
 cores-at-spec =
