@@ -3,7 +3,7 @@
 use Prim.Native.Nat.{ℕ, _≤_, _<_}
 use mathlib.Core.Bool.{Bool, true, false, not}
 use mathlib.Core.List.{List}
-use mathlib.Core.Path.{_≡_, refl}
+use mathlib.Core.Path.{_≡_, refl, ap}
 use native.Mathlib.Omega.{arith}
 use lib.Dec.{ltb, lit≤}
 use borrow.Author.Tests.{ltb-false}
@@ -83,6 +83,47 @@ all-passed serves s n room e =
       roomy = roomy-passed n room (asked .1);
     }
 
+-- the greatest number that a chain of checks gives
+check-most : (most : ℕ) (test : Bool) (r : Refusal) (rest : Verdict) → numberOf r ≤ most → handedVerdict rest .number ≤ most
+    → handedVerdict (check test (Refused r) rest) .number ≤ most
+check-most most true r rest h g = h
+check-most most false r rest h g = g
+
+then-most : (most : ℕ) (a rest : Verdict) → handedVerdict a .number ≤ most → handedVerdict rest .number ≤ most
+    → handedVerdict (andThen a rest) .number ≤ most
+then-most most Accepted rest h g = g
+then-most most (Refused r) rest h g = h
+
+gate-five : (serves : Bool) (s : Settings) (n room : ℕ) → handedVerdict (gateOf serves s n room) .number ≤ 5
+unfolding gate
+gate-five serves s n room =
+    let p = meant (s .policy) in
+    let one = check-most 5 (isFurther p) NoSuchPolicy Accepted (lit≤ tt) (lit≤ tt) in
+    let three = check-most 5 (ltb mostTasks n) (TooManyTasks n) Accepted (lit≤ tt) (lit≤ tt) in
+    let two = check-most 5 (misset (s .m)) NoSuchProcessors (check (ltb mostTasks n) (Refused (TooManyTasks n)) Accepted) (lit≤ tt) three in
+    let four = check-most 5 (both (isFirstFit p) (not serves)) PolicyNotServed Accepted (lit≤ tt) (lit≤ tt) in
+    let five = check-most 5 (ltb room n) (OutputTooShort n) Accepted (lit≤ tt) (lit≤ tt) in
+    then-most 5 (knows p) _ one (then-most 5 (gate (misset (s .m)) n) _ two (then-most 5 (served serves p) (roomy n room) four five))
+
+-- "The lowest number comes first": where 6 is given, no number from 1 to 5 is
+pub six-last : (serves : Bool) (s : Settings) (rows : List Task) (n room place : ℕ) → admission serves s rows n room ≡ Refused (BadRecord place)
+    → gateOf serves s n room ≡ Accepted
+unfolding admission
+six-last serves s rows n room place = by (gateOf serves s n room) (gate-five serves s n room)
+  where
+    by : (a : Verdict) → handedVerdict a .number ≤ 5 → andThen a (recordsGood rows n) ≡ Refused (BadRecord place) → a ≡ Accepted
+    by Accepted h e = refl
+    by (Refused r) h e = absurd (omega (arith, h, ap (λ (v : Verdict). handedVerdict v .number) e))
+
+-- and none above 6
+pub admission-six : (serves : Bool) (s : Settings) (rows : List Task) (n room : ℕ) → handedVerdict (admission serves s rows n room) .number ≤ 6
+unfolding admission
+admission-six serves s rows n room =
+    let bad = firstBad rows n in
+    then-most 6 (gateOf serves s n room) (recordsGood rows n)
+    (omega (arith, gate-five serves s n room))
+    (check-most 6 (ltb bad n) (BadRecord bad) Accepted (lit≤ tt) (lit≤ tt))
+
 pub record Ready (serves : Bool) (s : Settings) (rows : List Task) (n room : ℕ) : Type 0 where
   pub passed : Passed serves (meant (s .policy)) (s .m) n room
   pub none-bad : n ≤ firstBad rows n
@@ -92,31 +133,6 @@ unfolding admission
 admitted serves s rows n room e =
     let a = then-admitted _ _ e in
     record { passed = all-passed serves s n room (a .0); none-bad = ltb-false _ _ (unchecked _ _ _ (a .1) .0) }
-
--- no check of the admission gives a number above 6
-check-six : (test : Bool) (r : Refusal) (rest : Verdict) → numberOf r ≤ 6 → handedVerdict rest .number ≤ 6
-    → handedVerdict (check test (Refused r) rest) .number ≤ 6
-check-six true r rest h g = h
-check-six false r rest h g = g
-
-then-six : (a rest : Verdict) → handedVerdict a .number ≤ 6 → handedVerdict rest .number ≤ 6 → handedVerdict (andThen a rest) .number ≤ 6
-then-six Accepted rest h g = g
-then-six (Refused r) rest h g = h
-
-pub admission-six : (serves : Bool) (s : Settings) (rows : List Task) (n room : ℕ) → handedVerdict (admission serves s rows n room) .number ≤ 6
-unfolding admission gate
-admission-six serves s rows n room =
-    let p = meant (s .policy) in
-    let bad = firstBad rows n in
-    let one = check-six (isFurther p) NoSuchPolicy Accepted (lit≤ tt) (lit≤ tt) in
-    let three = check-six (ltb mostTasks n) (TooManyTasks n) Accepted (lit≤ tt) (lit≤ tt) in
-    let two = check-six (misset (s .m)) NoSuchProcessors (check (ltb mostTasks n) (Refused (TooManyTasks n)) Accepted) (lit≤ tt) three in
-    let four = check-six (both (isFirstFit p) (not serves)) PolicyNotServed Accepted (lit≤ tt) (lit≤ tt) in
-    let five = check-six (ltb room n) (OutputTooShort n) Accepted (lit≤ tt) (lit≤ tt) in
-    let six = check-six (ltb bad n) (BadRecord bad) Accepted (lit≤ tt) (lit≤ tt) in
-    then-six (gateOf serves s n room) (recordsGood rows n)
-    (then-six (knows p) _ one (then-six (gate (misset (s .m)) n) _ two (then-six (served serves p) (roomy n room) four five)))
-    six
 
 -- the admission looks at the first n records, and where there are too many at none
 module _ (serves : Bool) (s : Settings) (xs ys : List Task) (n room : ℕ) where

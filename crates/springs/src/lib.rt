@@ -73,7 +73,8 @@ pub fn springs_of(
         least[i] = spring.least;
         elasticity[i] = spring.elasticity;
         saturation[i] = saturation_on(spring);
-        cost[i] = share::cost(task) as u32;
+        let whole = share::cost(task) as u32;
+        cost[i] = whole;
         tmin[i] = task.tmin;
     }
     n

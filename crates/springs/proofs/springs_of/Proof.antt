@@ -76,8 +76,8 @@ cost-requires : tie.Need-cost-requires Inv-loop μ-loop
 cost-requires c κs = tt
 
 -- a good record's cost
-cast-cost : tie.Need-cast-cost Inv-loop μ-loop
-cast-cost c =
+cast-whole : tie.Need-cast-whole Inv-loop μ-loop
+cast-whole c =
     let i = c .before .before .before in
     let g = found-good _ _ (i .before .good2 .ensures) (i .if1 .left) in
     omega (arith, c .cost .ensures, g .c-tmin, g .tmin-tmax, g .tmax-most)
@@ -142,7 +142,7 @@ springs-of-spec =
     mul-saturation
     element-write-saturation
     cost-requires
-    cast-cost
+    cast-whole
     mul-cost
     element-write-cost
     mul-tmin
