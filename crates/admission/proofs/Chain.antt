@@ -23,7 +23,7 @@ use Rattle.kinds.specs.Policy.{meant, isFirstFit, isFurther}
 use Rattle.kinds.specs.Task.{at}
 use Rattle.share.specs.Table.{firstBad}
 use Rattle.share.proofs.Tables.{bad-same}
-use Rattle.admission.specs.Admission.{andThen, knows, misset, gate, served, roomy, gateOf, recordsGood, admission}
+use Rattle.admission.specs.Admission.{andThen, knows, misset, missetUnder, gate, served, roomy, gateOf, recordsGood, admission}
 
 -- a verdict of a chain was refused nowhere
 pub unchecked : (test : Bool) (r : Refusal) (rest : Verdict) → check test (Refused r) rest ≡ Accepted → (test ≡ false) × (rest ≡ Accepted)
@@ -48,12 +48,21 @@ pub record Few (m n : ℕ) : Type 0 where
   pub m-most : m ≤ mostProcessors
   pub few : n ≤ mostTasks
 
-pub gate-passed : (m n : ℕ) → gate (misset m) n ≡ Accepted → Few m n
+pub gate-opens : (test : Bool) (n : ℕ) → gate test n ≡ Accepted → (test ≡ false) × (n ≤ mostTasks)
 unfolding gate
-gate-passed m n e =
+gate-opens test n e =
     let set = unchecked _ _ _ e in
-    let m-is = neither _ _ (set .0) in
-    record { m-some = ltb-false _ _ (m-is .0); m-most = ltb-false _ _ (m-is .1); few = ltb-false _ _ (unchecked _ _ _ (set .1) .0) }
+    (set .0, ltb-false _ _ (unchecked _ _ _ (set .1) .0))
+
+set-few : (m n : ℕ) → misset m ≡ false → n ≤ mostTasks → Few m n
+set-few m n set few =
+    let m-is = neither _ _ set in
+    record { m-some = ltb-false _ _ (m-is .0); m-most = ltb-false _ _ (m-is .1); few = few }
+
+pub gate-passed : (m n : ℕ) → gate (misset m) n ≡ Accepted → Few m n
+gate-passed m n e =
+    let open-is = gate-opens (misset m) n e in
+    set-few m n (open-is .0) (open-is .1)
 
 -- and 5
 pub roomy-passed : (n room : ℕ) → roomy n room ≡ Accepted → n ≤ room
@@ -73,7 +82,8 @@ all-passed serves s n room e =
     let known = then-admitted _ _ e in
     let set = then-admitted _ _ (known .1) in
     let asked = then-admitted _ _ (set .1) in
-    let few = gate-passed (s .m) n (set .0) in
+    let opens = gate-opens (missetUnder s) n (set .0) in
+    let few = set-few (s .m) n (neither _ _ (opens .0) .0) (opens .1) in
     record {
       known = unchecked _ _ _ (known .0) .0;
       m-some = few .m-some;
@@ -100,10 +110,10 @@ gate-five serves s n room =
     let p = meant (s .policy) in
     let one = check-most 5 (isFurther p) NoSuchPolicy Accepted (lit≤ tt) (lit≤ tt) in
     let three = check-most 5 (ltb mostTasks n) (TooManyTasks n) Accepted (lit≤ tt) (lit≤ tt) in
-    let two = check-most 5 (misset (s .m)) NoSuchProcessors (check (ltb mostTasks n) (Refused (TooManyTasks n)) Accepted) (lit≤ tt) three in
+    let two = check-most 5 (missetUnder s) NoSuchProcessors (check (ltb mostTasks n) (Refused (TooManyTasks n)) Accepted) (lit≤ tt) three in
     let four = check-most 5 (both (isFirstFit p) (not serves)) PolicyNotServed Accepted (lit≤ tt) (lit≤ tt) in
     let five = check-most 5 (ltb room n) (OutputTooShort n) Accepted (lit≤ tt) (lit≤ tt) in
-    then-most 5 (knows p) _ one (then-most 5 (gate (misset (s .m)) n) _ two (then-most 5 (served serves p) (roomy n room) four five))
+    then-most 5 (knows p) _ one (then-most 5 (gate (missetUnder s) n) _ two (then-most 5 (served serves p) (roomy n room) four five))
 
 -- "The lowest number comes first": where 6 is given, no number from 1 to 5 is
 pub six-last : (serves : Bool) (s : Settings) (rows : List Task) (n room place : ℕ) → admission serves s rows n room ≡ Refused (BadRecord place)

@@ -3,7 +3,7 @@
 use Prim.Native.Nat.{ℕ}
 use mathlib.Core.Bool.{Bool, not}
 use mathlib.Core.List.{List}
-use lib.Dec.{ltb}
+use lib.Dec.{ltb, eqb}
 use Rattle.ground.specs.Choice.{both, either}
 use Rattle.kinds.specs.declared.Task.{Task}
 use Rattle.kinds.specs.declared.Policy.{Policy}
@@ -12,7 +12,7 @@ use Rattle.kinds.specs.declared.Refusal.the-variants.{NoSuchPolicy, NoSuchProce
 use Rattle.kinds.specs.declared.Verdict.{Verdict}
 use Rattle.kinds.specs.declared.Verdict.the-variants.{Accepted, Refused}
 use Rattle.kinds.specs.Limits.{mostTasks, mostProcessors}
-use Rattle.kinds.specs.Policy.{meant, isFirstFit, isFurther}
+use Rattle.kinds.specs.Policy.{meant, isFirstFit, isOneCore, isFurther}
 use Rattle.kinds.specs.Answer.{check}
 use Rattle.share.specs.Table.{firstBad}
 
@@ -28,6 +28,14 @@ knows p = check (isFurther p) (Refused NoSuchPolicy) Accepted
 -- what 2 is given for: m is 0 or above the most
 abbrev pub misset : ℕ → Bool
 misset m = either (ltb m 1) (ltb mostProcessors m)
+
+-- policy 5 needs one processor
+abbrev pub unsuited : Policy → ℕ → Bool
+unsuited p m = both (isOneCore p) (not (eqb m 1))
+
+-- what 2 is given for in a call with settings
+abbrev pub missetUnder : Settings → Bool
+missetUnder s = either (misset (s .m)) (unsuited (meant (s .policy)) (s .m))
 
 -- 2 and 3, for any kind of table: something is misset, more tasks than there may be
 unfoldable pub gate : Bool → ℕ → Verdict
@@ -45,7 +53,7 @@ roomy n room = check (ltb room n) (Refused (OutputTooShort n)) Accepted
 abbrev pub gateOf : Bool → Settings → ℕ → ℕ → Verdict
 gateOf serves s n room =
     let p = meant (s .policy) in
-    andThen (knows p) (andThen (gate (misset (s .m)) n) (andThen (served serves p) (roomy n room)))
+    andThen (knows p) (andThen (gate (missetUnder s) n) (andThen (served serves p) (roomy n room)))
 
 -- 6
 abbrev pub recordsGood : List Task → ℕ → Verdict

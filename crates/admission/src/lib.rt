@@ -11,7 +11,7 @@ ghost use Rattle.ground.specs.Choice.{both};
 ghost use Rattle.kinds.specs.Policy.{isFirstFit};
 ghost use Rattle.springs.specs.Columns.{columns};
 ghost use Rattle.springs.specs.Handover.{Roomy};
-ghost use Rattle.admission.specs.Admission.{andThen, knows, misset, gate, served, roomy, gateOf};
+ghost use Rattle.admission.specs.Admission.{andThen, knows, misset, unsuited, missetUnder, gate, served, roomy, gateOf};
 ghost use Rattle.admission.specs.Handover.{AdmittedSprung};
 
 // Refusal 1, the policy's own: it is none of those numbered.
@@ -32,6 +32,24 @@ pub fn misset(m: u16) -> bool
         return true;
     }
     Settings::MOST_PROCESSORS < m
+}
+
+// Whether policy 5, which needs one processor, is asked for on another number of them.
+fn unsuited(policy: Policy, m: u16) -> bool
+    ensures { λ r. ⌜ r ≡ unsuited policy m ⌝ }
+{
+    policy.is_one_core() && m != 1
+}
+
+// What refusal 2 is given for in a call with settings.
+pub fn misset_under(settings: Settings) -> bool
+    ensures { λ r. ⌜ r ≡ missetUnder settings ⌝ }
+{
+    if misset(settings.m) {
+        return true;
+    }
+    let asked = settings.policy;
+    unsuited(asked.meant(), settings.m)
 }
 
 // Refusals 2 and 3, for any kind of table: something is misset, and the count n.
@@ -91,7 +109,7 @@ pub fn gate_of(settings: Settings, serves: bool, n: usize, room: usize) -> Verdi
     let asked = settings.policy;
     let policy = asked.meant();
     let last = and_then(served(policy, serves), roomy(n, room));
-    let from_two = and_then(gate(misset(settings.m), n), last);
+    let from_two = and_then(gate(misset_under(settings), n), last);
     and_then(knows(policy), from_two)
 }
 

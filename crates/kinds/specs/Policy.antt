@@ -1,4 +1,4 @@
--- The four policies, their numbers, the further choice, and the settings that name one.
+-- The five policies, their numbers, the further choice, and the settings that name one.
 -- Assumes nothing.
 use Prim.Native.Nat.{ℕ}
 use mathlib.Core.Bool.{Bool, true, false}
@@ -6,12 +6,13 @@ use lib.Dec.{eqb}
 use Rattle.ground.specs.Choice.{pick}
 use Rattle.kinds.specs.declared.Policy.{Policy}
 use Rattle.kinds.specs.declared.Settings.{Settings}
-use Rattle.kinds.specs.declared.Policy.the-variants.{Pooled, GlobalEdf, GlobalRm, FirstFit, Further}
+use Rattle.kinds.specs.declared.Policy.the-variants.{Pooled, GlobalEdf, GlobalRm, FirstFit, OneCoreRm, Further}
 
--- what a number stands for; one outside 1 to 4 is kept in the further choice
+-- what a number stands for; one outside 1 to 5 is kept in the further choice
 abbrev pub policyOf : ℕ → Policy
 policyOf q =
-    pick (eqb q 1) Pooled (pick (eqb q 2) GlobalEdf (pick (eqb q 3) GlobalRm (pick (eqb q 4) FirstFit (Further q))))
+    pick (eqb q 1) Pooled
+    (pick (eqb q 2) GlobalEdf (pick (eqb q 3) GlobalRm (pick (eqb q 4) FirstFit (pick (eqb q 5) OneCoreRm (Further q)))))
 
 -- the number that a policy is written as
 abbrev pub policyNumber : Policy → ℕ
@@ -19,18 +20,20 @@ policyNumber Pooled = 1
 policyNumber GlobalEdf = 2
 policyNumber GlobalRm = 3
 policyNumber FirstFit = 4
+policyNumber OneCoreRm = 5
 policyNumber (Further q) = q
 
--- document 01: "a further choice holding 1 to 4 means that policy"
+-- document 01: "a further choice holding 1 to 4 means that policy"; Ask 1: and one holding 5
 abbrev pub meant : Policy → Policy
 meant p = policyOf (policyNumber p)
 
--- policies 1 to 3, whose tests have a formula
+-- policies 1 to 3 and 5, whose tests have a formula
 abbrev pub hasFormula : Policy → Bool
 hasFormula Pooled = true
 hasFormula GlobalEdf = true
 hasFormula GlobalRm = true
 hasFormula FirstFit = false
+hasFormula OneCoreRm = true
 hasFormula (Further q) = false
 
 -- policy 4
@@ -39,14 +42,25 @@ isFirstFit Pooled = false
 isFirstFit GlobalEdf = false
 isFirstFit GlobalRm = false
 isFirstFit FirstFit = true
+isFirstFit OneCoreRm = false
 isFirstFit (Further q) = false
 
--- none of the four
+-- policy 5
+abbrev pub isOneCore : Policy → Bool
+isOneCore Pooled = false
+isOneCore GlobalEdf = false
+isOneCore GlobalRm = false
+isOneCore FirstFit = false
+isOneCore OneCoreRm = true
+isOneCore (Further q) = false
+
+-- none of the five
 abbrev pub isFurther : Policy → Bool
 isFurther Pooled = false
 isFurther GlobalEdf = false
 isFurther GlobalRm = false
 isFurther FirstFit = false
+isFurther OneCoreRm = false
 isFurther (Further q) = true
 
 abbrev pub settings : Policy → ℕ → Settings

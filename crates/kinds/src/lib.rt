@@ -3,7 +3,7 @@
 ghost use mathlib.Core.Path.{_≡_};
 ghost use Rattle.kinds.specs.Limits.{scale, longestPeriod, greatestElasticity, mostTasks, mostProcessors};
 ghost use Rattle.kinds.specs.Task.{isGood, task, table};
-ghost use Rattle.kinds.specs.Policy.{policyOf, policyNumber, meant, hasFormula, isFirstFit, isFurther, settings};
+ghost use Rattle.kinds.specs.Policy.{policyOf, policyNumber, meant, hasFormula, isFirstFit, isOneCore, isFurther, settings};
 ghost use Rattle.kinds.specs.Refusal.{numberOf, placeOf};
 ghost use Rattle.kinds.specs.Answer.{isAccepted, stepOf};
 
@@ -80,12 +80,13 @@ impl Table {
     }
 }
 
-// A policy is a choice of its own; a number outside 1 to 4 is kept in the further choice.
+// A policy is a choice of its own; a number outside 1 to 5 is kept in the further choice.
 pub enum Policy {
     Pooled,
     GlobalEdf,
     GlobalRm,
     FirstFit,
+    OneCoreRm,
     Further(u16),
 }
 
@@ -99,6 +100,7 @@ impl Policy {
             2 => Policy::GlobalEdf,
             3 => Policy::GlobalRm,
             4 => Policy::FirstFit,
+            5 => Policy::OneCoreRm,
             _ => Policy::Further(number),
         }
     }
@@ -112,18 +114,19 @@ impl Policy {
             Policy::GlobalEdf => 2,
             Policy::GlobalRm => 3,
             Policy::FirstFit => 4,
+            Policy::OneCoreRm => 5,
             Policy::Further(number) => number,
         }
     }
 
-    // Document 01: "a further choice holding 1 to 4 means that policy."
+    // Document 01: "a further choice holding 1 to 4 means that policy"; Ask 1: so does one holding 5.
     pub fn meant(self) -> Policy
         ensures { λ r. ⌜ r ≡ meant self ⌝ }
     {
         Policy::of(self.number())
     }
 
-    // Policies 1 to 3, whose tests have a formula.
+    // Policies 1 to 3 and 5, whose tests have a formula.
     pub fn has_formula(self) -> bool
         ensures { λ r. ⌜ r ≡ hasFormula self ⌝ }
     {
@@ -132,6 +135,7 @@ impl Policy {
             Policy::GlobalEdf => true,
             Policy::GlobalRm => true,
             Policy::FirstFit => false,
+            Policy::OneCoreRm => true,
             Policy::Further(_) => false,
         }
     }
@@ -145,11 +149,26 @@ impl Policy {
             Policy::GlobalEdf => false,
             Policy::GlobalRm => false,
             Policy::FirstFit => true,
+            Policy::OneCoreRm => false,
             Policy::Further(_) => false,
         }
     }
 
-    // None of the four.
+    // Policy 5.
+    pub fn is_one_core(self) -> bool
+        ensures { λ r. ⌜ r ≡ isOneCore self ⌝ }
+    {
+        match self {
+            Policy::Pooled => false,
+            Policy::GlobalEdf => false,
+            Policy::GlobalRm => false,
+            Policy::FirstFit => false,
+            Policy::OneCoreRm => true,
+            Policy::Further(_) => false,
+        }
+    }
+
+    // None of the five.
     pub fn is_further(self) -> bool
         ensures { λ r. ⌜ r ≡ isFurther self ⌝ }
     {
@@ -158,6 +177,7 @@ impl Policy {
             Policy::GlobalEdf => false,
             Policy::GlobalRm => false,
             Policy::FirstFit => false,
+            Policy::OneCoreRm => false,
             Policy::Further(_) => true,
         }
     }

@@ -5,25 +5,27 @@ use mathlib.Core.Path.{_≡_, refl}
 use native.Mathlib.Nat.{mul-le-mul}
 use native.Mathlib.Omega.{arith}
 use Rattle.kinds.specs.declared.Policy.{Policy}
-use Rattle.kinds.specs.declared.Policy.the-variants.{Pooled, GlobalEdf, GlobalRm, FirstFit, Further}
+use Rattle.kinds.specs.declared.Policy.the-variants.{Pooled, GlobalEdf, GlobalRm, FirstFit, OneCoreRm, Further}
 use Rattle.kinds.specs.Limits.{scale}
 use Rattle.policy.specs.declared.Weights.{Weights}
 use Rattle.policy.specs.Sides.{leftSide, rightSide, left, right, weightsOf}
 use Rattle.policy.specs.Handover.{Light}
 
-pub one-left : (p : Policy) (m sum max : ℕ) → left (weightsOf p m) sum max ≡ leftSide p m sum max
-one-left Pooled m sum max = omega arith
-one-left GlobalEdf m sum max = omega arith
-one-left GlobalRm m sum max = refl
-one-left FirstFit m sum max = omega arith
-one-left (Further q) m sum max = omega arith
+pub one-left : (p : Policy) (m n sum max : ℕ) → left (weightsOf p m n) sum max ≡ leftSide p m sum max
+one-left Pooled m n sum max = omega arith
+one-left GlobalEdf m n sum max = omega arith
+one-left GlobalRm m n sum max = refl
+one-left FirstFit m n sum max = omega arith
+one-left OneCoreRm m n sum max = omega arith
+one-left (Further q) m n sum max = omega arith
 
-pub one-right : (p : Policy) (m max : ℕ) → right (weightsOf p m) max ≡ rightSide p m max
-one-right Pooled m max = omega arith
-one-right GlobalEdf m max = omega arith
-one-right GlobalRm m max = refl
-one-right FirstFit m max = omega arith
-one-right (Further q) m max = omega arith
+pub one-right : (p : Policy) (m n max : ℕ) → right (weightsOf p m n) max ≡ rightSide p m n max
+one-right Pooled m n max = omega arith
+one-right GlobalEdf m n max = omega arith
+one-right GlobalRm m n max = refl
+one-right FirstFit m n max = omega arith
+one-right OneCoreRm m n max = omega arith
+one-right (Further q) m n max = omega arith
 
 -- the products that the code forms are small
 module _ (w : Weights) (l : Light w) where

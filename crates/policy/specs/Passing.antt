@@ -9,21 +9,22 @@ use Rattle.ground.specs.Folds.{sumTo, maxTo}
 use Rattle.ground.specs.Least.{leastUpTo}
 use Rattle.kinds.specs.declared.Task.{Task}
 use Rattle.kinds.specs.declared.Policy.{Policy}
-use Rattle.kinds.specs.declared.Policy.the-variants.{Pooled, GlobalEdf, GlobalRm, FirstFit, Further}
+use Rattle.kinds.specs.declared.Policy.the-variants.{Pooled, GlobalEdf, GlobalRm, FirstFit, OneCoreRm, Further}
 use Rattle.share.specs.Table.{shares, fullCompression}
 use Rattle.fit.specs.Fit.{fits}
 use Rattle.policy.specs.Sides.{leftSide, rightSide}
 
 -- the left side of a policy's test is at most the right
-abbrev pub holds : Policy → ℕ → ℕ → ℕ → Bool
-holds p m sum max = leb (leftSide p m sum max) (rightSide p m max)
+abbrev pub holds : Policy → ℕ → ℕ → ℕ → ℕ → Bool
+holds p m n sum max = leb (leftSide p m sum max) (rightSide p m n max)
 
 -- n tasks with these loads pass the test of a policy on m processors
 unfoldable pub passes : Policy → ℕ → (ℕ → ℕ) → ℕ → Bool
-passes Pooled m load n = holds Pooled m (sumTo load n) (maxTo load n)
-passes GlobalEdf m load n = holds GlobalEdf m (sumTo load n) (maxTo load n)
-passes GlobalRm m load n = holds GlobalRm m (sumTo load n) (maxTo load n)
+passes Pooled m load n = holds Pooled m n (sumTo load n) (maxTo load n)
+passes GlobalEdf m load n = holds GlobalEdf m n (sumTo load n) (maxTo load n)
+passes GlobalRm m load n = holds GlobalRm m n (sumTo load n) (maxTo load n)
 passes FirstFit m load n = fits m load n
+passes OneCoreRm m load n = holds OneCoreRm m n (sumTo load n) (maxTo load n)
 passes (Further q) m load n = false
 
 -- the test of demand 2: the first n tasks pass at step k on their shares

@@ -1,4 +1,4 @@
-// The four policies over any loads: their sum and max, the two sides of a policy's test, passing and the margin. Contracts cite
+// The five policies over any loads: their sum and max, the two sides of a policy's test, passing and the margin. Contracts cite
 // `specs/Sides` and `specs/Passing`.
 use kinds::Policy;
 use kinds::Share;
@@ -7,7 +7,7 @@ ghost use mathlib.Core.Path.{_≡_};
 ghost use Prim.Native.Nat.{_≤_};
 ghost use lib.IntN.{subℕ};
 ghost use Rattle.ground.specs.Folds.{sumTo};
-ghost use Rattle.kinds.specs.Limits.{scale, mostProcessors};
+ghost use Rattle.kinds.specs.Limits.{scale, mostTasks, mostProcessors};
 ghost use Rattle.fit.specs.Fit.{loadIn};
 ghost use Rattle.fit.specs.Handover.{Loads};
 ghost use Rattle.policy.specs.Sides.{weightsOf, left, right, marginOf};
@@ -22,36 +22,43 @@ pub struct Weights {
     pub r: u64,
 }
 
-// The weights of a policy on m processors; one that has no formula has none.
-pub fn weights_of(policy: Policy, m: u16) -> Weights
-    requires { ⌜ (1 ≤ m) × (m ≤ mostProcessors) ⌝ }
-    ensures { λ w. ⌜ (w ≡ weightsOf policy m) × Light w ⌝ }
+// The weights of a policy for n tasks on m processors; one that has no formula has none.
+pub fn weights_of(policy: Policy, m: u16, n: usize) -> Weights
+    requires { ⌜ (1 ≤ m) × (m ≤ mostProcessors) × (n ≤ mostTasks) ⌝ }
+    ensures { λ w. ⌜ (w ≡ weightsOf policy m n) × Light w ⌝ }
 {
     let m = m as u64;
+    let all = m * Share::SCALE;
     match policy {
         Policy::Pooled => Weights {
             a: 1,
             b: 0,
             c: 0,
-            r: m * Share::SCALE,
+            r: all,
         },
         Policy::GlobalEdf => Weights {
             a: 1,
             b: m - 1,
             c: 0,
-            r: m * Share::SCALE,
+            r: all,
         },
         Policy::GlobalRm => Weights {
             a: 2,
             b: m,
             c: 2,
-            r: m * Share::SCALE,
+            r: all,
         },
         Policy::FirstFit => Weights {
             a: 0,
             b: 0,
             c: 0,
             r: 0,
+        },
+        Policy::OneCoreRm => Weights {
+            a: 1,
+            b: 0,
+            c: 0,
+            r: bound::bound_of(n),
         },
         Policy::Further(_) => Weights {
             a: 0,
@@ -108,7 +115,7 @@ pub fn passes(policy: Policy, m: u16, loads: &[u32; Table::MOST_TASKS], n: usize
     ensures { λ r. ⌜ r ≡ passes policy m (loadIn (now (loads .entry))) n ⌝ }
 {
     if policy.has_formula() {
-        let w = weights_of(policy, m);
+        let w = weights_of(policy, m, n);
         let total = total_of(loads, n);
         return left_of(w, total.sum, total.max) <= right_of(w, total.max);
     }
@@ -141,7 +148,7 @@ pub fn margin_of(policy: Policy, m: u16, loads: &[u32; Table::MOST_TASKS], n: us
     requires { ⌜ Loads (now loads) n × (1 ≤ m) × (m ≤ mostProcessors) ⌝ }
     ensures { λ r. ⌜ r ≡ marginOf policy m (loadIn (now (loads .entry))) n ⌝ }
 {
-    let w = weights_of(policy, m);
+    let w = weights_of(policy, m, n);
     let total = total_of(loads, n);
     difference(right_of(w, total.max), left_of(w, total.sum, total.max))
 }

@@ -14,7 +14,7 @@ use Rattle.ground.proofs.Folds.{max-cong}
 use Rattle.ground.proofs.Least.{least-cong}
 use Rattle.kinds.specs.declared.Task.{Task}
 use Rattle.kinds.specs.declared.Policy.{Policy}
-use Rattle.kinds.specs.declared.Policy.the-variants.{Pooled, GlobalEdf, GlobalRm, FirstFit, Further}
+use Rattle.kinds.specs.declared.Policy.the-variants.{Pooled, GlobalEdf, GlobalRm, FirstFit, OneCoreRm, Further}
 use Rattle.kinds.specs.declared.Settings.{Settings}
 use Rattle.kinds.specs.Policy.{hasFormula, isFirstFit, isFurther, meant}
 use Rattle.kinds.specs.Task.{at}
@@ -43,12 +43,13 @@ pub record LeastFound (p : Policy) (m : ℕ) (rows : List Task) (n : ℕ) (r : E
   pub count : r .looks ≡ looksOf rows n (leastStep p m rows n)
 
 -- the weights of the policies that have a formula
-pub fair : (p : Policy) (m : ℕ) → hasFormula p ≡ true → 1 ≤ m → Fair (weightsOf p m)
-fair Pooled m f h = omega arith
-fair GlobalEdf m f h = omega arith
-fair GlobalRm m f h = omega arith
-fair FirstFit m f h = true-false f refl
-fair (Further q) m f h = true-false f refl
+pub fair : (p : Policy) (m n : ℕ) → hasFormula p ≡ true → 1 ≤ m → Fair (weightsOf p m n)
+fair Pooled m n f h = omega arith
+fair GlobalEdf m n f h = omega arith
+fair GlobalRm m n f h = omega arith
+fair FirstFit m n f h = true-false f refl
+fair OneCoreRm m n f h = omega arith
+fair (Further q) m n f h = true-false f refl
 
 -- a policy that the call serves and knows has a formula
 pub formula : (p : Policy) → isFurther p ≡ false → both (isFirstFit p) (not false) ≡ false → hasFormula p ≡ true
@@ -56,11 +57,12 @@ formula Pooled a b = refl
 formula GlobalEdf a b = refl
 formula GlobalRm a b = refl
 formula FirstFit a b = true-false refl b
+formula OneCoreRm a b = refl
 formula (Further q) a b = true-false refl a
 
 module _ (p : Policy) (m : ℕ) (rows : List Task) (n : ℕ) (s : Columns) (w : Sprung rows n s) (f : hasFormula p ≡ true) where
   -- the test on the springs is the policy's on the shares
-  test-is : (k : ℕ) → weighedAt (weightsOf p m) (springsIn s) n k ≡ passesAt p m rows n k
+  test-is : (k : ℕ) → weighedAt (weightsOf p m n) (springsIn s) n k ≡ passesAt p m rows n k
   unfolding weighed
   test-is k =
       sym (passes-weighed p m (sharesOn (springsIn s) k) n f)
@@ -74,11 +76,11 @@ module _ (p : Policy) (m : ℕ) (rows : List Task) (n : ℕ) (s : Columns) (w : 
   unfolding looksOf
   looks-are step = for-same (saturations (springsIn s)) (λ i. saturationAt (at rows i)) n (saturations-are rows n s w) step
 
-  pub least-found : (r : Ended) → SearchEnds (weighedAt (weightsOf p m) (springsIn s) n) (saturations (springsIn s)) n r → LeastFound p m rows n r
+  pub least-found : (r : Ended) → SearchEnds (weighedAt (weightsOf p m n) (springsIn s) n) (saturations (springsIn s)) n r → LeastFound p m rows n r
   unfolding leastStep
   least-found r e =
       let step : r .step ≡ leastStep p m rows n =
-      e .least ∙ (least-cong (weighedAt (weightsOf p m) (springsIn s) n) (passesAt p m rows n) _ test-is ∙ ap (leastUpTo (passesAt p m rows n)) full-is) in
+      e .least ∙ (least-cong (weighedAt (weightsOf p m n) (springsIn s) n) (passesAt p m rows n) _ test-is ∙ ap (leastUpTo (passesAt p m rows n)) full-is) in
       record { least = step; count = e .count ∙ (looks-are (r .step) ∙ ap (looksOf rows n) step) }
 
 -- the looks of a call, as the code has them

@@ -137,7 +137,7 @@ fn decide_in(
         };
     };
     let asked = settings.policy;
-    let w = policy::weights_of(asked.meant(), settings.m);
+    let w = policy::weights_of(asked.meant(), settings.m, table.n);
     let ended = search_columns(w, largest, least, elasticity, saturation, table.n);
     let step = ended.step;
     let_down_to(step, largest, least, elasticity, table.n);

@@ -15,8 +15,8 @@ roomy-requires c κs = search needs
 and-then-requires : tie.Need-and-then-requires
 and-then-requires c κs = search needs
 
-misset-requires : tie.Need-misset-requires
-misset-requires c κs = search needs
+misset-under-requires : tie.Need-misset-under-requires
+misset-under-requires c κs = search needs
 
 gate-requires : tie.Need-gate-requires
 gate-requires c κs = search needs
@@ -40,7 +40,7 @@ returns c =
       c .before .knows .ensures,
       two .and-then2 .ensures,
       two .before .gate .ensures,
-      two .before .before .misset .ensures,
+      two .before .before .misset-under .ensures,
       last .and-then .ensures,
       last .before .roomy .ensures,
       last .before .before .served .ensures,
@@ -55,7 +55,7 @@ gate-of-spec =
     served-requires
     roomy-requires
     and-then-requires
-    misset-requires
+    misset-under-requires
     gate-requires
     and-then-requires-2
     knows-requires

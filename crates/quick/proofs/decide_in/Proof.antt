@@ -62,7 +62,7 @@ meant-requires : tie.Need-meant-requires
 meant-requires c κs = search needs
 
 weights-of-requires : tie.Need-weights-of-requires
-weights-of-requires c κs = let p = begun (c .before) .ready .passed in (p .m-some, p .m-most)
+weights-of-requires c κs = let p = begun (c .before) .ready .passed in (p .m-some, p .m-most, p .few)
 
 search-columns-requires : tie.Need-search-columns-requires
 search-columns-requires c κs =
@@ -73,7 +73,7 @@ search-columns-requires c κs =
     let p = b .ready .passed in
     let policy = meant (start d .args .settings .policy) in (
       w .weights-of .ensures .1,
-      rw (w .weights-of .ensures .0, w .before .meant .ensures) (fair policy _ (formulated t) (p .m-some)),
+      rw (w .weights-of .ensures .0, w .before .meant .ensures) (fair policy _ _ (formulated t) (p .m-some)),
       record { few = p .few; within = b .within; saturates = sprung-saturates _ _ (springs d) (b .sprung) },
     )
 
