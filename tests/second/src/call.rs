@@ -12,7 +12,7 @@ pub const MOST_PAYLOAD: usize = 2_000;
 #[derive(Clone, Copy, Debug, PartialEq, Eq)]
 pub struct Settings {
     pub number: u16,
-    /// Whether the number is held by a further choice, also when it is 1 to 4.
+    /// Whether the number is held by a further choice, also when it is 1 to 5.
     pub further: bool,
     pub m: u16,
 }

@@ -2,6 +2,7 @@
 //! One file for each notion, in the order in which document 01 speaks of them.
 
 pub mod admission;
+pub mod bound;
 pub mod change_over;
 pub mod checked;
 pub mod clock;

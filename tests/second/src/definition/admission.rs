@@ -24,7 +24,9 @@ pub fn admit(question: &Question, serves: Serves, rooms: &[usize]) -> Result<(),
     if matches!(policy, Policy::Further(_)) {
         return refuse(1, 0);
     }
-    if question.m == 0 || question.m > MOST_PROCESSORS {
+    // Ask 1's policy "needs m = 1 (otherwise refusal 2)"
+    let most = if policy == Policy::OneCoreRm { 1 } else { MOST_PROCESSORS };
+    if question.m == 0 || question.m > most {
         return refuse(2, 0);
     }
     if question.count > MOST_TASKS {

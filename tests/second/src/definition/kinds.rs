@@ -45,7 +45,9 @@ pub enum Policy {
     GlobalEdf,
     GlobalRm,
     FirstFit,
-    /// "A number outside 1 to 4 is kept in a further choice, so that it is written back."
+    /// Ask 1's one-core rate monotonic.
+    OneCoreRm,
+    /// "A number outside 1 to 4 is kept in a further choice, so that it is written back"; since Ask 1 outside 1 to 5.
     Further(u16),
 }
 
@@ -57,6 +59,7 @@ impl Policy {
             2 => Policy::GlobalEdf,
             3 => Policy::GlobalRm,
             4 => Policy::FirstFit,
+            5 => Policy::OneCoreRm,
             other => Policy::Further(other),
         }
     }
@@ -68,11 +71,12 @@ impl Policy {
             Policy::GlobalEdf => 2,
             Policy::GlobalRm => 3,
             Policy::FirstFit => 4,
+            Policy::OneCoreRm => 5,
             Policy::Further(number) => number,
         }
     }
 
-    /// "a further choice holding 1 to 4 means that policy"
+    /// "a further choice holding 1 to 4 means that policy", and in Ask 1 "a further choice holding 5 means it"
     pub fn meaning(self) -> Policy {
         Policy::from_number(self.number())
     }

@@ -11,6 +11,6 @@ pub fn margin(question: &Question, step: u32) -> Result<i64, Refusal> {
     // "The margin gives 1, 2, 3, 4, 6 only": it is lent no output.
     admit(question, Serves::FormulasOnly, &[])?;
     let shares = shares_at(&springs(&question.rows), step);
-    let (left, right) = sides(question.policy, question.m, &shares).expect("policies 1 to 3");
+    let (left, right) = sides(question.policy, question.m, &shares).expect("a formula");
     Ok((right - left) as i64)
 }

@@ -1,8 +1,9 @@
-//! "The four policies": the two sides of each formula, first fit, and passing.
+//! "The four policies" and Ask 1's: the two sides of each formula, first fit, and passing.
 
+use super::bound::bound;
 use super::kinds::{Policy, SCALE};
 
-/// The left and the right side of the test of policies 1 to 3; none for the others.
+/// The left and the right side of the test of a policy that has a formula, 1 to 3 and 5; none for the others.
 pub fn sides(policy: Policy, m: u16, shares: &[u64]) -> Option<(i128, i128)> {
     let sum = i128::from(shares.iter().sum::<u64>());
     // "the max of no tasks is 0"
@@ -16,6 +17,8 @@ pub fn sides(policy: Policy, m: u16, shares: &[u64]) -> Option<(i128, i128)> {
         Policy::GlobalEdf => Some((sum + (m - 1) * max, capacity)),
         // "2 × sum + m × max ≤ m × S + 2 × max"
         Policy::GlobalRm => Some((2 * sum + m * max, capacity + 2 * max)),
+        // "the sum of shares is at most the bound for n tasks"
+        Policy::OneCoreRm => Some((sum, i128::from(bound(shares.len())))),
         Policy::FirstFit | Policy::Further(_) => None,
     }
 }
@@ -33,7 +36,7 @@ pub fn first_fit(m: u16, shares: &[u64]) -> Option<Vec<u16>> {
     Some(processors)
 }
 
-/// Whether the shares pass the test of a policy of 1 to 4.
+/// Whether the shares pass the test of a policy of 1 to 5.
 pub fn passes(policy: Policy, m: u16, shares: &[u64]) -> bool {
     match sides(policy, m, shares) {
         Some((left, right)) => left <= right,

@@ -1,4 +1,4 @@
-//! "Bench settings to try": the cases A to L, asked of every call that can be asked.
+//! "Bench settings to try": the cases A to L and case B under policy 5, asked of every call that can be asked.
 
 use super::sheets::sheet_of;
 use crate::call::{Call, Rooms, Table};
@@ -17,20 +17,21 @@ pub fn case_k_rows() -> Vec<Record> {
     rows
 }
 
-/// The cases A to K by their letters.
-pub fn cases() -> Vec<(char, Table)> {
+/// The cases A to K by their letters, and case B under Ask 1's policy.
+pub fn cases() -> Vec<(&'static str, Table)> {
     vec![
-        ('A', Table::new(1, 1, &[])),
-        ('B', Table::new(1, 1, &[HALF_SPRING; 2])),
-        ('C', Table::new(1, 1, &[Record::new(5, 10, 20, 0), Record::new(8, 10, 40, 3000)])),
-        ('D', Table::new(1, 1, &[Record::new(6, 10, 11, 1000), Record::new(6, 10, 30, 1000)])),
-        ('E', Table::new(2, 2, &[HALF_SPRING; 3])),
-        ('F', Table::new(3, 2, &[HALF_SPRING; 3])),
-        ('G', Table::new(3, 1, &[Record::new(10, 10, 20, 1)])),
-        ('H', Table::new(3, 1, &[HALF_SPRING; 2])),
-        ('I', Table::new(1, 1, &[Record::new(1, 3, 3, 0); 3])),
-        ('J', Table::new(1, 1, &[HUGE_RANGE; 2])),
-        ('K', Table::new(4, 3, &case_k_rows())),
+        ("A", Table::new(1, 1, &[])),
+        ("B", Table::new(1, 1, &[HALF_SPRING; 2])),
+        ("C", Table::new(1, 1, &[Record::new(5, 10, 20, 0), Record::new(8, 10, 40, 3000)])),
+        ("D", Table::new(1, 1, &[Record::new(6, 10, 11, 1000), Record::new(6, 10, 30, 1000)])),
+        ("E", Table::new(2, 2, &[HALF_SPRING; 3])),
+        ("F", Table::new(3, 2, &[HALF_SPRING; 3])),
+        ("G", Table::new(3, 1, &[Record::new(10, 10, 20, 1)])),
+        ("H", Table::new(3, 1, &[HALF_SPRING; 2])),
+        ("I", Table::new(1, 1, &[Record::new(1, 3, 3, 0); 3])),
+        ("J", Table::new(1, 1, &[HUGE_RANGE; 2])),
+        ("K", Table::new(4, 3, &case_k_rows())),
+        ("B under 5", Table::new(5, 1, &[HALF_SPRING; 2])),
     ]
 }
 
@@ -51,8 +52,8 @@ pub fn case_l() -> Vec<Table> {
 
 /// The steps of the bench answers and those beside them, full compressions, a step whose
 /// product with E = 1000 is a multiple of 2 to the 32, and the last step.
-const MARGIN_STEPS: [u32; 15] =
-    [0, 1, 54, 55, 56, 99, 100, 101, 146, 266, 267, 400, 500_000, 1 << 29, u32::MAX];
+const MARGIN_STEPS: [u32; 17] =
+    [0, 1, 54, 55, 56, 99, 100, 101, 146, 185, 186, 266, 267, 400, 500_000, 1 << 29, u32::MAX];
 
 /// The calls of one case; `again` asks also through sheets.
 fn calls_of(table: &Table, again: bool) -> Vec<Call> {
@@ -77,8 +78,8 @@ fn calls_of(table: &Table, again: bool) -> Vec<Call> {
 /// All calls of the bench cases; case J, whose scan is long, is asked once of the plain finder.
 pub fn calls() -> Vec<Call> {
     let mut calls = Vec::new();
-    for (letter, table) in cases() {
-        calls.extend(calls_of(&table, letter != 'J'));
+    for (name, table) in cases() {
+        calls.extend(calls_of(&table, name != "J"));
     }
     for table in case_l() {
         calls.extend(calls_of(&table, true));

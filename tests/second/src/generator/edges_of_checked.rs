@@ -53,7 +53,8 @@ fn refused_first() -> Vec<Call> {
     let good = Record::new(6, 10, 20, 1000);
     let tables = [
         Table::new(0, 1, &[good]),
-        Table::new(5, 1, &[good]),
+        Table::new(6, 1, &[good]),
+        Table::new(5, 2, &[good]),
         Table::new(1, 0, &[good]),
         Table::new(1, 17, &[good]),
         Table::new(1, 1, &[good, Record::new(11, 10, 20, 0)]),

@@ -3,7 +3,8 @@
 use super::bench::HUGE_RANGE;
 use super::tables::rigid;
 use crate::call::{present, Call, Rooms, Settings, Table};
-use crate::definition::kinds::{Record, SCALE};
+use crate::definition::bound::bound;
+use crate::definition::kinds::{Record, MOST_TASKS, SCALE};
 
 const PLAIN_TASK: Record = Record::new(6, 10, 20, 1000);
 
@@ -14,6 +15,7 @@ pub fn calls() -> Vec<Call> {
     calls.extend(records());
     calls.extend(outputs());
     calls.extend(fits());
+    calls.extend(one_core_fits());
     calls.extend(saturation_steps());
     calls.extend(huge_ranges());
     calls
@@ -38,7 +40,7 @@ fn counted(settings: Settings, count: u16) -> Table {
 fn settings() -> Vec<Call> {
     let mut calls = Vec::new();
     let mut counts = [1, 0, 33, 2, 32, 3, 40].iter().cycle();
-    for number in [0, 1, 2, 3, 4, 5, 65535] {
+    for number in [0, 1, 2, 3, 4, 5, 6, 65535] {
         for further in [false, true] {
             for m in [0, 1, 2, 16, 17, 65535] {
                 let table =
@@ -54,7 +56,7 @@ fn settings() -> Vec<Call> {
 fn counts_above() -> Vec<Call> {
     let mut calls = Vec::new();
     for count in [33, 40, 65535] {
-        for (number, m) in [(1, 1), (4, 16), (9, 1), (2, 17)] {
+        for (number, m) in [(1, 1), (4, 16), (9, 1), (2, 17), (5, 1), (5, 2)] {
             let table = counted(Settings::new(number, m), count);
             for entries in [0, 40] {
                 calls.extend(ask(&table, Rooms { periods: entries, processors: entries }, 7));
@@ -64,8 +66,15 @@ fn counts_above() -> Vec<Call> {
     calls
 }
 
-/// Every combination of things that are refused, asked of all three calls.
+/// Every combination of things that are refused, under policy 1 and, with m = 2 for the wrong one, under policy 5.
 fn order_of_checks() -> Vec<Call> {
+    let mut calls = order_under(1, 17);
+    calls.extend(order_under(5, 2));
+    calls
+}
+
+/// The combinations under a policy that is known and an m that is wrong for it, asked of all three calls.
+fn order_under(known: u16, wrong_m: u16) -> Vec<Call> {
     let mut calls = Vec::new();
     for wrong in 0_u32..128 {
         let is_wrong = |check: u32| wrong & (1 << check) != 0;
@@ -77,9 +86,9 @@ fn order_of_checks() -> Vec<Call> {
         } else if is_wrong(3) {
             4
         } else {
-            1
+            known
         };
-        let m = if is_wrong(1) { 17 } else { 1 };
+        let m = if is_wrong(1) { wrong_m } else { 1 };
         let share = if is_wrong(6) { 10 } else { 2 };
         let mut rows = vec![Record::new(share, 10, 10, 0); 3];
         if is_wrong(5) {
@@ -183,6 +192,22 @@ fn fits() -> Vec<Call> {
     calls
 }
 
+/// Rigid tasks a part under, at and over the bound of policy 5, for each number of tasks.
+fn one_core_fits() -> Vec<Call> {
+    let mut calls = Vec::new();
+    for tasks in 1..=MOST_TASKS as u64 {
+        let each = bound(tasks as usize) / tasks;
+        let rest = bound(tasks as usize) - each * (tasks - 1);
+        for last in [rest - 1, rest, rest + 1] {
+            let mut rows = vec![rigid(each); tasks as usize - 1];
+            rows.push(rigid(last.min(SCALE)));
+            let table = Table::new(5, 1, &rows);
+            calls.extend(ask(&table, Rooms::just(&table), 0));
+        }
+    }
+    calls
+}
+
 /// Case D with a rigid task, so that the answer walks over both saturation steps, 55 and 400.
 fn saturation_steps() -> Vec<Call> {
     let (short, long) = (Record::new(6, 10, 11, 1000), Record::new(6, 10, 30, 1000));
@@ -204,7 +229,7 @@ fn saturation_steps() -> Vec<Call> {
         vec![short, long, short, long],
         vec![long, Record::new(12, 20, 60, 1000), short],
     ] {
-        for (number, m) in [(1, 1), (2, 2), (3, 1), (3, 2), (4, 2)] {
+        for (number, m) in [(1, 1), (2, 2), (3, 1), (3, 2), (4, 2), (5, 1)] {
             let table = Table::new(number, m, &ties);
             calls.extend(ask(&table, Rooms::just(&table), 55));
         }
@@ -217,15 +242,18 @@ fn huge_ranges() -> Vec<Call> {
     let refused = Table::new(1, 1, &[rigid(SCALE), rigid(1), HUGE_RANGE]);
     let two = Table::new(3, 1, &[HUGE_RANGE; 2]);
     let three = Table::new(2, 2, &[HUGE_RANGE; 3]);
+    let one_core = Table::new(5, 1, &[HUGE_RANGE; 3]);
     let mut calls = Vec::new();
-    for table in [refused, two, three] {
+    for table in [refused, two, three, one_core] {
         calls.extend(ask(&table, Rooms::just(&table), 999_998));
         calls.extend(
             [499_999, 500_000, 500_001, 999_999, 1_000_000]
                 .map(|step| Call::Margin(table.clone(), step)),
         );
     }
-    for (number, m, count) in [(1, 1, 32), (1, 16, 32), (2, 16, 32), (3, 16, 32), (3, 1, 32)] {
+    for (number, m, count) in
+        [(1, 1, 32), (1, 16, 32), (2, 16, 32), (3, 16, 32), (3, 1, 32), (5, 1, 32)]
+    {
         let table = Table::new(number, m, &vec![HUGE_RANGE; count]);
         calls.push(Call::Quick(table.clone(), Rooms::just(&table)));
     }

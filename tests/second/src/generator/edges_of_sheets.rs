@@ -150,7 +150,7 @@ fn writings() -> Vec<Call> {
             calls.push(writing(Settings::new(2, 16), task_count, result_count, room));
         }
     }
-    for number in [0, 1, 2, 3, 4, 5, 255, 256, 65535] {
+    for number in [0, 1, 2, 3, 4, 5, 6, 255, 256, 65535] {
         for further in [false, true] {
             calls.push(writing(Settings { number, further, m: number ^ 0x1234 }, 1, 1, 40));
         }
@@ -172,6 +172,9 @@ fn change_over_sheets() -> Vec<Vec<u8>> {
         full().bytes(),
         vec![],
         sheet_under(0, 1, 1),
+        sheet_under(6, 1, 1),
+        sheet_of(&Table::new(5, 1, &[Record::new(6, 10, 20, 1000); 2])),
+        sheet_under(5, 2, 1),
         sheet_under(5, 1, 1),
         sheet_under(1, 0, 1),
         sheet_under(1, 17, 1),

@@ -17,6 +17,10 @@ use crate::random::Random;
 /// One call in that many is a plain finder's scan of nearly a million steps.
 const LONG_SCAN_EVERY: usize = 5_000;
 
+/// The numbers of every policy, and of those that have a formula.
+const EVERY: [u16; 5] = [1, 2, 3, 4, 5];
+const FORMULAS: [u16; 4] = [1, 2, 3, 5];
+
 pub fn random_call(random: &mut Random, index: usize) -> Call {
     if index % LONG_SCAN_EVERY == LONG_SCAN_EVERY / 2 {
         return long_scan(random);
@@ -39,20 +43,20 @@ pub fn random_call(random: &mut Random, index: usize) -> Call {
 
 /// "E = 1 with a huge range" for the plain finder.
 fn long_scan(random: &mut Random) -> Call {
-    let number = random.small(1, 3) as u16;
+    let number = random.pick(&FORMULAS);
     let table = Table::new(number, 1, &huge(random, 3));
     let rooms = Rooms::just(&table);
     Call::Plain(table, rooms)
 }
 
 fn plain(random: &mut Random) -> Call {
-    let table = table(random, 4);
+    let table = table(random, &EVERY);
     let rooms = rooms(random, table.rows.len());
     Call::Plain(table, rooms)
 }
 
 fn quick(random: &mut Random) -> Call {
-    let table = if random.one_in(12) { huge_table(random) } else { table(random, 3) };
+    let table = if random.one_in(12) { huge_table(random) } else { table(random, &FORMULAS) };
     let rooms = rooms(random, table.rows.len());
     Call::Quick(table, rooms)
 }
@@ -64,7 +68,7 @@ fn several_cores(random: &mut Random) -> Call {
 }
 
 fn margin(random: &mut Random) -> Call {
-    let table = if random.one_in(6) { huge_table(random) } else { table(random, 3) };
+    let table = if random.one_in(6) { huge_table(random) } else { table(random, &FORMULAS) };
     let good = table.rows.iter().all(|row| row.is_good());
     let step = match random.between(0, 7) {
         0 => u32::MAX - random.small(0, 1),
@@ -77,13 +81,16 @@ fn margin(random: &mut Random) -> Call {
 }
 
 fn huge_table(random: &mut Random) -> Table {
-    let number = random.small(1, 3) as u16;
-    let m = processors(random);
+    let number = random.pick(&FORMULAS);
+    let m = processors(random, number);
     Table::new(number, m, &huge(random, 5))
 }
 
-/// Mostly few processors; policy 3 with m = 1 comes often.
-fn processors(random: &mut Random) -> u16 {
+/// Mostly few processors; policy 3 with m = 1 comes often, and policy 5 seldom with more.
+fn processors(random: &mut Random, number: u16) -> u16 {
+    if number == 5 && !random.one_in(12) {
+        return 1;
+    }
     match random.between(0, 9) {
         0 => 16,
         1 => random.small(5, 15) as u16,
@@ -96,9 +103,9 @@ fn most_steps(random: &mut Random) -> u32 {
     random.pick(&[1, 3, 20, 100, 300, 1_000, 4_000])
 }
 
-/// A table under a policy of 1 to `last`, seldom with settings, count or records that are refused.
-fn table(random: &mut Random, last: u32) -> Table {
-    let mut table = good_table(random, last);
+/// A table under one of some policies, seldom with settings, count or records that are refused.
+fn table(random: &mut Random, numbers: &[u16]) -> Table {
+    let mut table = good_table(random, numbers);
     table.settings.further = random.one_in(8);
     if random.one_in(25) {
         table.settings.number = random.pick(&[0, 4, 5, 6, 256, 257, 65535]);
@@ -116,9 +123,9 @@ fn table(random: &mut Random, last: u32) -> Table {
     table
 }
 
-fn good_table(random: &mut Random, last: u32) -> Table {
-    let number = random.small(1, last) as u16;
-    let aim = Aim { number, m: processors(random), most_steps: most_steps(random) };
+fn good_table(random: &mut Random, numbers: &[u16]) -> Table {
+    let number = random.pick(numbers);
+    let aim = Aim { number, m: processors(random, number), most_steps: most_steps(random) };
     if number == 4 {
         return first_fit_table(random, aim);
     }
@@ -157,7 +164,7 @@ fn rooms(random: &mut Random, rows: usize) -> Rooms {
 
 /// A sheet: mostly honest, else damaged or longer than any sheet may be.
 fn sheet(random: &mut Random) -> Vec<u8> {
-    let mut table = table(random, 4);
+    let mut table = table(random, &EVERY);
     table.count = table.rows.len() as u16;
     let raw = random_sheet(random, &table);
     match random.between(0, 19) {
@@ -196,7 +203,7 @@ fn writing(random: &mut Random) -> Writing {
     let needed = Sheet::bytes_needed(usize::from(task_count), usize::from(result_count)) as u32;
     let mut writing = Writing {
         settings: Settings {
-            number: random.pick(&[0, 1, 2, 3, 4, 5, 258, 65535]),
+            number: random.pick(&[0, 1, 2, 3, 4, 5, 6, 258, 65535]),
             further: random.one_in(2),
             m: random.pick(&[0, 1, 2, 16, 17, 65535]),
         },

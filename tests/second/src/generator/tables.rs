@@ -1,6 +1,7 @@
 //! Random tables: general ones, exact fits, ties, first fits that waver, huge ranges.
 
 use super::bench::{case_k_rows, HUGE_RANGE};
+use crate::definition::bound::bound;
 use crate::definition::finder::shares_at;
 use crate::definition::kinds::{Policy, Record, MOST_TASKS, SCALE};
 use crate::definition::policy::{passes, sides};
@@ -101,7 +102,7 @@ pub fn turning_step(random: &mut Random, rows: &[Record]) -> u32 {
     (random.between(1, elasticity - 1) << 32).div_ceil(elasticity) as u32
 }
 
-/// A table that fits exactly at a telling step, or is a part or two off, under policies 1 to 3.
+/// A table that fits exactly at a telling step, or is a part or two off, under a policy that has a formula.
 pub fn exact(random: &mut Random, aim: Aim) -> Vec<Record> {
     let count = random.between(1, 5);
     let fair = (u64::from(aim.m) * SCALE / (count + 1)).min(SCALE);
@@ -139,11 +140,22 @@ pub fn crossing(random: &mut Random, aim: Aim) -> Vec<Record> {
 /// Adds rigid tasks that make the table fit exactly at a step, or a part or two beside it.
 fn fit_at(random: &mut Random, rows: &mut Vec<Record>, step: u32, aim: Aim) {
     let shares = shares_at(&springs(rows), step);
+    if aim.number == 5 {
+        return fit_bound(random, rows, shares.iter().sum());
+    }
     let largest = shares.iter().copied().max().unwrap_or(1);
     let (left, right) = sides(Policy::from_number(aim.number), aim.m, &shares).expect("1 to 3");
     let weight = if aim.number == 3 { 2 } else { 1 };
     let missing = (right - left) / weight + random.between(0, 3) as i128 - 1;
     fill(random, rows, missing.max(0) as u64, largest);
+}
+
+/// Adds rigid tasks that bring a sum of parts to the bound for all tasks that there are then, or a part or two beside it.
+fn fit_bound(random: &mut Random, rows: &mut Vec<Record>, sum: u64) {
+    let more = random.pick(&[1, 2, 3, 4, 9, 25]).min(MOST_TASKS - rows.len());
+    let wanted = bound(rows.len() + more) + random.between(0, 3);
+    let missing = wanted.saturating_sub(sum + 1);
+    fill(random, rows, missing, missing.div_ceil(more as u64));
 }
 
 /// Puts rigid tasks of at most `largest` parts among the rows until that many parts are there.

@@ -1,4 +1,4 @@
-//! "Bench settings to try" with document 01's answers.
+//! "Bench settings to try" with document 01's answers, and case B under policy 5.
 
 use super::{plan_of, quick_of, refused, step_of, HALF_SPRING};
 use crate::call::{Settings, Table};
@@ -12,51 +12,58 @@ use crate::definition::share::{full_compression, springs};
 use crate::generator::bench::{case_l, cases};
 use crate::generator::sheets::sheet_of;
 
-fn case(letter: char) -> Table {
-    let found = cases().into_iter().find(|(name, _)| *name == letter);
-    found.expect("a case of that letter").1
+fn case(name: &str) -> Table {
+    let found = cases().into_iter().find(|(known, _)| *known == name);
+    found.expect("a case of that name").1
 }
 
 /// The step, the periods and the looks of a case under a policy with a formula.
-fn expect(letter: char, step: u32, periods: &[u32], looks: u16) {
-    let table = case(letter);
-    assert_eq!(step_of(&table), Ok(step), "case {letter}");
-    assert_eq!(quick_of(&table), (Ok(step), looks), "case {letter}");
-    assert_eq!(plan_of(&table), (periods.to_vec(), vec![0; periods.len()]), "case {letter}");
+fn expect(name: &str, step: u32, periods: &[u32], looks: u16) {
+    let table = case(name);
+    assert_eq!(step_of(&table), Ok(step), "case {name}");
+    assert_eq!(quick_of(&table), (Ok(step), looks), "case {name}");
+    assert_eq!(plan_of(&table), (periods.to_vec(), vec![0; periods.len()]), "case {name}");
 }
 
 #[test]
 fn cases_with_steps_periods_and_looks() {
-    expect('A', 0, &[], 1);
-    expect('B', 100, &[12, 12], 2);
-    expect('C', 100, &[10, 16], 2);
-    expect('D', 146, &[11, 14], 3);
-    expect('E', 100, &[12, 12, 12], 2);
-    expect('F', 267, &[19, 19, 19], 2);
-    expect('G', 0, &[10], 1);
-    expect('J', 500_000, &[2, 2], 2);
+    expect("A", 0, &[], 1);
+    expect("B", 100, &[12, 12], 2);
+    expect("C", 100, &[10, 16], 2);
+    expect("D", 146, &[11, 14], 3);
+    expect("E", 100, &[12, 12, 12], 2);
+    expect("F", 267, &[19, 19, 19], 2);
+    expect("G", 0, &[10], 1);
+    expect("J", 500_000, &[2, 2], 2);
+    expect("B under 5", 186, &[15, 15], 2);
 }
 
 #[test]
 fn case_d_saturates_at_55_and_400() {
-    let steps = distinct_positive_saturation_steps(&case('D').question());
+    let steps = distinct_positive_saturation_steps(&case("D").question());
     assert_eq!(steps.into_iter().collect::<Vec<_>>(), [55, 400]);
 }
 
 #[test]
 fn case_g_has_margin_0_at_step_0() {
-    assert_eq!(margin(&case('G').question(), 0), Ok(0));
+    assert_eq!(margin(&case("G").question(), 0), Ok(0));
+}
+
+#[test]
+fn case_b_under_policy_5_has_margin_427_at_step_186() {
+    assert_eq!(margin(&case("B under 5").question(), 186), Ok(427));
+    assert_eq!(margin(&case("B under 5").question(), 185), Ok(-1_573));
 }
 
 #[test]
 fn case_h_is_step_267() {
-    assert_eq!(step_of(&case('H')), Ok(267));
-    assert_eq!(quick_of(&case('H')).0, Ok(267));
+    assert_eq!(step_of(&case("H")), Ok(267));
+    assert_eq!(quick_of(&case("H")).0, Ok(267));
 }
 
 #[test]
 fn case_i_is_refused_7_with_the_sum_1000002() {
-    let table = case('I');
+    let table = case("I");
     assert_eq!(step_of(&table), refused(7, 0));
     assert_eq!(quick_of(&table), (refused(7, 0), 1));
     assert_eq!(shares_at(&springs(&table.rows), 0), [333_334; 3]);
@@ -65,12 +72,12 @@ fn case_i_is_refused_7_with_the_sum_1000002() {
 
 #[test]
 fn case_j_has_the_greatest_full_compression() {
-    assert_eq!(full_compression(&springs(&case('J').rows)), 999_999);
+    assert_eq!(full_compression(&springs(&case("J").rows)), 999_999);
 }
 
 #[test]
 fn case_k_passes_at_5_and_6_only() {
-    let table = case('K');
+    let table = case("K");
     let springs = springs(&table.rows);
     assert_eq!(full_compression(&springs), 15);
     let passing = |step: &u32| passes(Policy::FirstFit, 3, &shares_at(&springs, *step));

@@ -2,6 +2,7 @@
 
 use super::{quick_of, refused, step_of, HALF_SPRING};
 use crate::call::{Settings, Table};
+use crate::definition::bound::{bound, is_within};
 use crate::definition::finder::{plain, quick};
 use crate::definition::kinds::Record;
 use crate::definition::margin::margin;
@@ -75,17 +76,42 @@ fn policy_4_asked_of_quick_finder_or_margin() {
 }
 
 #[test]
-fn a_further_choice_of_1_to_4_means_that_policy() {
-    for number in 1..=4 {
-        let read = Table::new(number, 2, &[HALF_SPRING; 3]);
+fn a_further_choice_of_1_to_5_means_that_policy() {
+    for (number, m) in [(1, 2), (2, 2), (3, 2), (4, 2), (5, 1)] {
+        let read = Table::new(number, m, &[HALF_SPRING; 2]);
         let mut further = read.clone();
         further.settings.further = true;
         assert_eq!(step_of(&further), step_of(&read));
         assert_eq!(quick_of(&further), quick_of(&read));
         assert_eq!(margin(&further.question(), 9), margin(&read.question(), 9));
     }
-    for number in [0, 5, 65535] {
+    for number in [0, 6, 65535] {
         assert_eq!(step_of(&counted(number, 0, 33)), refused(1, 0));
+    }
+}
+
+#[test]
+fn policy_5_needs_one_processor() {
+    for (m, count) in [(0, 1), (2, 1), (2, 33), (16, 40), (17, 33)] {
+        for further in [false, true] {
+            let mut table = counted(5, m, count);
+            table.settings.further = further;
+            assert_eq!(step_of(&table), refused(2, 0));
+            assert_eq!(quick_of(&table), (refused(2, 0), 0));
+            assert_eq!(margin(&table.question(), 0), refused(2, 0));
+        }
+    }
+    assert_eq!(step_of(&counted(5, 1, 33)), refused(3, 33));
+    assert_eq!(step_of(&Table::new(5, 1, &[])), Ok(0));
+}
+
+#[test]
+fn the_bound_is_the_largest_that_is_within() {
+    assert_eq!([0, 1, 2].map(bound), [0, 1_000_000, 828_427]);
+    for tasks in 1..=32 {
+        assert!(is_within(tasks, bound(tasks)) && !is_within(tasks, bound(tasks) + 1));
+        // it falls towards the natural logarithm of 2
+        assert!(bound(tasks) > 693_147 && (tasks == 1 || bound(tasks) < bound(tasks - 1)));
     }
 }
 

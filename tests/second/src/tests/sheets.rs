@@ -51,7 +51,8 @@ fn the_reader_keeps_a_strange_policy_and_judges_no_record() {
 
 #[test]
 fn what_is_read_is_written_back() {
-    for bytes in [two_tasks(), full().bytes(), sheet_of(&Table::new(65535, 0, &[]))] {
+    let (one_core, strange) = (Table::new(5, 2, &[]), Table::new(65535, 0, &[]));
+    for bytes in [two_tasks(), full().bytes(), sheet_of(&one_core), sheet_of(&strange)] {
         let mut buffer = vec![0xEE; bytes.len() + 3];
         let written = write(&read(&bytes).expect("read"), &mut buffer);
         assert_eq!(written, Ok(bytes.len() as u16));
@@ -93,7 +94,7 @@ fn a_change_over_is_a_part_of_a_lent_sheet() {
 fn the_program_refuses_in_a_line() {
     assert_eq!(program(&[]), b"refused 8 at 0\n");
     assert_eq!(program(&two_tasks()[..33]), b"refused 8 at 33\n");
-    assert_eq!(program(&sheet_of(&Table::new(5, 1, &[]))), b"refused 1 at 0\n");
+    assert_eq!(program(&sheet_of(&Table::new(6, 1, &[]))), b"refused 1 at 0\n");
     let bad = Record::new(0, 1, 1, 0);
     assert_eq!(program(&sheet_of(&Table::new(1, 1, &[HALF_SPRING, bad]))), b"refused 6 at 1\n");
 }

@@ -101,6 +101,19 @@ fn number_of(call: &Call, answer: &[u8]) -> u8 {
 }
 
 #[test]
+fn random_calls_reach_every_answer_under_policy_5() {
+    let calls = Calls::of_seed(1);
+    let from = calls.fixed_count();
+    let mut reached = BTreeSet::new();
+    for call in (from..from + 10_000).map(|index| calls.call(index)) {
+        if matches!(&call, Call::Plain(table, _) if table.settings.number == 5) {
+            reached.insert(number_of(&call, &answer(&call)));
+        }
+    }
+    assert_eq!(reached.into_iter().collect::<Vec<_>>(), [0, 2, 3, 5, 6, 7]);
+}
+
+#[test]
 fn the_first_5000_calls_reach_every_number_that_a_call_can_give() {
     let calls = Calls::of_seed(1);
     let mut reached = vec![BTreeSet::new(); 13];
