@@ -5,8 +5,8 @@
  * refused by number, the first in the order that stands with each call. Number 0 is acceptance, with place 0.
  *
  *   No.  Given exactly when                                                Place
- *    1   the policy is not 1 to 4                                          0
- *    2   there are no processors, or more than 16                          0
+ *    1   the policy is not 1 to 5                                          0
+ *    2   there are no processors, or more than 16 (policy 5: than 1)       0
  *    3   there are more than 32 tasks                                      the count (reading: 6, import: 32)
  *    4   policy 4, asked of the quick finder or the margin                 0
  *    5   a lent output holds fewer entries, rows or bytes than needed      how many are needed
@@ -35,7 +35,7 @@
 /* A task record: cost, shortest and longest period in ticks, elasticity. */
 struct eelbasket_task { uint32_t c, tmin, tmax, e; };
 
-/* The policy (1 pooled, 2 global EDF, 3 global RM, 4 first fit) and how many processors there are. */
+/* The policy (1 pooled, 2 global EDF, 3 global RM, 4 first fit, 5 one-core RM) and how many processors there are. */
 struct eelbasket_station { uint16_t policy, m; };
 
 /* ---- The finders and the margin ---- */
@@ -50,11 +50,11 @@ struct eelbasket_margin { uint32_t number; size_t place; int64_t margin; };
 struct eelbasket_told eelbasket_plain(const struct eelbasket_task *rows, size_t tasks, struct eelbasket_station station,
                                       uint32_t *periods, size_t periods_len, uint16_t *processors, size_t processors_len);
 
-/* The same for policies 1 to 3 in at most tasks + 1 looks, counted also where 7 is given. Refusals 1, 2, 3, 4, 5, 6, 7. */
+/* The same for policies 1 to 3 and 5 in at most tasks + 1 looks, counted also where 7 is given. Refusals 1, 2, 3, 4, 5, 6, 7. */
 struct eelbasket_told eelbasket_quick(const struct eelbasket_task *rows, size_t tasks, struct eelbasket_station station,
                                       uint32_t *periods, size_t periods_len, uint16_t *processors, size_t processors_len);
 
-/* The margin at any step, for policies 1 to 3. Refusals 1, 2, 3, 4, 6. */
+/* The margin at any step, for policies 1 to 3 and 5. Refusals 1, 2, 3, 4, 6. */
 struct eelbasket_margin eelbasket_margin(const struct eelbasket_task *rows, size_t tasks, struct eelbasket_station station, uint32_t step);
 
 /* ---- Jobs that need several cores ---- */
