@@ -1,4 +1,4 @@
-// Runs bench cases A to L on the finders and the margin; `stdout` has what they must give. Both outputs are lent longer than the table
+// Runs bench cases A to L, and B on one core, on the finders and the margin; `stdout` has what they must give. Both outputs are lent longer than the table
 // and filled with 7 and 9, so that the entry after the last task shows whether it was written.
 use kinds::Answer;
 use kinds::Margin;
@@ -112,6 +112,23 @@ fn starred() {
     run_margin(Policy::Pooled, 1, third, 4_294_967_295);
 }
 
+// Ask 1: rate monotonic on one core.
+fn one_core() {
+    let b = same(Task::new(6, 10, 20, 1000), 2);
+    run(b"B, one core\n", Policy::OneCoreRm, 1, b);
+    run_margin(Policy::OneCoreRm, 1, b, 186);
+    run_margin(Policy::OneCoreRm, 1, b, 185);
+    run(
+        b"B, one core, the policy as a further choice\n",
+        Policy::Further(5),
+        1,
+        b,
+    );
+    run(b"B, one core of two\n", Policy::OneCoreRm, 2, b);
+    run_margin(Policy::OneCoreRm, 2, b, 186);
+    run(b"A, one core\n", Policy::OneCoreRm, 1, same(rigid(1), 0));
+}
+
 // The cases without a star.
 fn others() {
     run(
@@ -169,5 +186,6 @@ fn others() {
 fn main() {
     run(b"A\n", Policy::Pooled, 1, same(rigid(1), 0));
     starred();
+    one_core();
     others();
 }
