@@ -19,7 +19,8 @@ use Rattle.clock.specs.declared.Release.{Release}
 use Rattle.clock.specs.declared.Release.the-variants as release
 use Rattle.clock.specs.declared.Called.{Called}
 use Rattle.clock.specs.Ticks.{turn, halfTurn, behind, late, latest}
-use Rattle.clock.specs.Call.{nextOf, periodOf, lateAt, Due, HandsBack, released, movedOn, afterwards, afterCall, handedRelease, CallIs, LatestIs}
+use Rattle.clock.specs.Call.{nextOf, periodOf, lateAt, Due, HandsBack, released, movedOn, afterwards, afterCall, handedRelease, CallIs}
+use Rattle.clock.specs.Handover.{LatestIs}
 use Rattle.clock.proofs.Wrap.{late-due, due-late}
 use Rattle.clock.proofs.Greatest.{Most, latest-none, latest-first, by-latest}
 

@@ -5,20 +5,21 @@ use mathlib.Core.Bool.{Bool, true, false, not}
 use mathlib.Core.List.{List}
 use mathlib.Core.Path.{_≡_, refl, sym, ap, _∙_}
 use native.Mathlib.Omega.{arith}
-use lib.ListN.{length, getD, drop, replicate, length-append, length-drop, length-replicate}
+use lib.ListN.{length, getD, set, take, replicate, length-set, length-replicate}
+use lib.Seq.{take-length}
 use borrow.Author.Tests.{leb-true, le-leb, lt-ltb, le-ltb}
 use Rattle.ground.specs.First.{IsFirst}
-use Rattle.ground.specs.Folds.{listTo}
+use Rattle.ground.specs.Padded.{padded}
 use Rattle.ground.proofs.Cases.{by-bool, by-le, true-false, both-true}
 use Rattle.ground.proofs.First.{first-is}
-use Rattle.ground.proofs.Buffer.{list-long, list-at}
+use Rattle.ground.proofs.Padding.{padded-none, padded-more}
 use Rattle.kinds.specs.declared.Refusal.the-variants.{TooManyTasks, BadPeriod}
 use Rattle.kinds.specs.Answer.{Handed, accepted, refused}
 use Rattle.kinds.specs.Limits.{longestPeriod, mostTasks}
 use Rattle.kinds.proofs.Answers.{with-value, with-one}
 use Rattle.clock.specs.declared.Clock.{Clock}
 use Rattle.clock.specs.declared.Started.{Started}
-use Rattle.clock.specs.Start.{every, isPeriod, firstBad, noClock, padded, clockFrom, started, handedStart}
+use Rattle.clock.specs.Start.{every, isPeriod, firstBad, noClock, clockFrom, started, handedStart}
 
 -- a period that is taken
 pub record Fair (ticks : ℕ) : Type 0 where
@@ -80,13 +81,22 @@ none-bad ps w =
 pub whole-started : (ps : List ℕ) (tick : ℕ) → Whole ps → started ps tick ≡ accepted (clockFrom ps tick)
 whole-started ps tick w = sym (started-well ps tick (w .few) (none-bad ps w))
 
--- a clock's column of n numbers has room for the most tasks, and its numbers stand where they should
-pub padded-long : (f : ℕ → ℕ) (n : ℕ) → n ≤ mostTasks → length (padded f n) ≡ mostTasks
-padded-long f n h =
-    omega (arith, length-append {A = ℕ} (listTo f n) (drop n (replicate mostTasks 0)), list-long f n, length-drop {A = ℕ} n (replicate mostTasks 0), length-replicate {A = ℕ} mostTasks 0)
+-- a walk that has put the first i numbers into a clock's column
+pub record Column (xs out : List ℕ) (i : ℕ) : Type 0 where
+  pub is : out ≡ padded 0 mostTasks (take i xs)
+  pub long : length out ≡ mostTasks
 
-pub padded-at : (f : ℕ → ℕ) (n i : ℕ) → i < n → getD (padded f n) i 0 ≡ f i
-padded-at f n i l = list-at f n i (drop n (replicate mostTasks 0)) l
+pub column-none : (xs : List ℕ) → Column xs (replicate mostTasks 0) 0
+column-none xs = record { is = sym (padded-none 0 mostTasks); long = length-replicate {A = ℕ} mostTasks 0 }
+
+pub column-more : (xs out : List ℕ) (i v : ℕ) → i < length xs → v ≡ getD xs i 0 → Column xs out i → Column xs (set out i v) (i + 1)
+column-more xs out i v l e w = record {
+  is = ap (λ (x : ℕ). set out i x) e ∙ (ap (λ (ys : List ℕ). set ys i (getD xs i 0)) (w .is) ∙ padded-more 0 mostTasks i xs l);
+  long = length-set out i v ∙ w .long;
+}
+
+pub column-all : (xs out : List ℕ) (i : ℕ) → i ≡ length xs → Column xs out i → out ≡ padded 0 mostTasks xs
+column-all xs out i e w = w .is ∙ ap (padded 0 mostTasks) (ap (λ (n : ℕ). take n xs) e ∙ take-length xs)
 
 -- no second answer, nor a second clock
 

@@ -3,11 +3,9 @@
 use Prim.Native.Nat.{ℕ, _+_, _%_, _≤_, _<_}
 use mathlib.Core.List.{List, [], _∷_}
 use mathlib.Core.Path.{_≡_}
-use lib.Dec.{ltb, eqb}
+use lib.Dec.{ltb}
 use lib.ListN.{getD, set}
 use Rattle.ground.specs.Choice.{pick}
-use Rattle.ground.specs.First.{firstBelow}
-use Rattle.ground.specs.Folds.{maxTo}
 use Rattle.kinds.specs.declared.Refusal.the-variants.{TooManyTasks}
 use Rattle.kinds.specs.Answer.{Handed, accepted, refused}
 use Rattle.kinds.specs.Limits.{mostTasks}
@@ -67,14 +65,3 @@ handedRelease (release.Refused r) = refused [] r
 pub record CallIs (c : Clock) (present : ℕ) (r : Called) : Type 0 where
   pub answers : handedRelease (r .answer) ≡ released c present
   pub leaves : r .clock ≡ afterCall c present
-
--- how late a task is, with the bound that its caller needs
-pub record LateIs (present next r : ℕ) : Type 0 where
-  pub is : r ≡ late present next
-  pub most : r ≤ halfTurn
-
--- the greatest lateness, and the lowest task that has it
-pub record LatestIs (c : Clock) (present late task : ℕ) : Type 0 where
-  pub greatest : late ≡ maxTo (lateAt c present) (c .n)
-  pub lowest : 0 < late → task ≡ firstBelow (λ i. eqb (lateAt c present i) (maxTo (lateAt c present) (c .n))) (c .n)
-  pub low : task < mostTasks

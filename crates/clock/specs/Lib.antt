@@ -1,3 +1,4 @@
 pub mod Ticks
 pub mod Start
 pub mod Call
+pub mod Handover

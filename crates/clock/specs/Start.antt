@@ -2,12 +2,12 @@
 -- Assumes nothing.
 use Prim.Native.Nat.{ℕ}
 use mathlib.Core.Bool.{Bool, not}
-use mathlib.Core.List.{List, _++_}
+use mathlib.Core.List.{List}
 use lib.Dec.{leb, ltb}
-use lib.ListN.{length, getD, drop, replicate}
+use lib.ListN.{length, getD, replicate}
 use Rattle.ground.specs.Choice.{both}
 use Rattle.ground.specs.First.{firstBelow}
-use Rattle.ground.specs.Folds.{listTo}
+use Rattle.ground.specs.Padded.{padded}
 use Rattle.kinds.specs.declared.Refusal.the-variants.{TooManyTasks, BadPeriod}
 use Rattle.kinds.specs.Answer.{Handed, accepted, refused, check, handedWith}
 use Rattle.kinds.specs.Limits.{longestPeriod, mostTasks}
@@ -30,13 +30,13 @@ firstBad periods = firstBelow (λ i. not (isPeriod (every periods i))) (length p
 abbrev pub noClock : Clock
 noClock = record { periods = replicate mostTasks 0; next = replicate mostTasks 0; n = 0 }
 
--- n numbers; the unused places are zeros
-abbrev pub padded : (ℕ → ℕ) → ℕ → List ℕ
-padded f n = listTo f n ++ drop n (replicate mostTasks 0)
-
--- Ask 12: "each task's next release is the starting tick"
+-- Ask 12: "each task's next release is the starting tick"; the unused places are zeros
 unfoldable pub clockFrom : List ℕ → ℕ → Clock
-clockFrom periods tick = record { periods = padded (every periods) (length periods); next = padded (λ i. tick) (length periods); n = length periods }
+clockFrom periods tick = record {
+  periods = padded 0 mostTasks periods;
+  next = padded 0 mostTasks (replicate (length periods) tick);
+  n = length periods;
+}
 
 -- Ask 12: more than 32 tasks "are refused by 3; at the start then the first period that is 0 or above 1,000,000,000 by 17 at its task"
 unfoldable pub started : List ℕ → ℕ → Handed Clock

@@ -10,7 +10,8 @@ ghost use lib.ListN.{length};
 ghost use Rattle.kinds.specs.Limits.{mostTasks};
 ghost use Rattle.clock.specs.Ticks.{halfTurn};
 ghost use Rattle.clock.specs.Start.{isPeriod, firstBad, noClock, clockFrom, started, handedStart};
-ghost use Rattle.clock.specs.Call.{LateIs, LatestIs, CallIs};
+ghost use Rattle.clock.specs.Call.{CallIs};
+ghost use Rattle.clock.specs.Handover.{LateIs, LatestIs};
 
 // The clock table by value: for each task its period and its next release, of which the first n count. It is laid out as C lays it out.
 #[repr(C)]

@@ -23,7 +23,8 @@ pub fn start_plan(
     periods: &mut [u32],
     processors: &mut [u16],
 ) -> Planned
-    ensures { λ r. ⌜ PlanIs (outcome true settings (table .rows) (table .n) (now (periods .entry)) (now (processors .entry))) (table .rows) (table .n) tick r (now (periods .exit)) (now (processors .exit)) ⌝ }
+    ensures { λ r. ⌜ PlanIs (outcome true settings (table .rows) (table .n) (now (periods .entry)) (now (processors .entry)))
+        (table .rows) (table .n) tick r (now (periods .exit)) (now (processors .exit)) ⌝ }
 {
     let n = table.n;
     let plan = plain::find(table, settings, periods, processors);

@@ -4,9 +4,10 @@ use Prim.Native.Nat.{ℕ, _+_, _%_, _≤_, _<_, max}
 use mathlib.Core.List.{List, [], _∷_}
 use mathlib.Core.Path.{_≡_, refl, sym, ap, _∙_}
 use native.Mathlib.Omega.{arith}
-use lib.ListN.{length, length-set}
+use lib.ListN.{length, replicate, length-set, length-replicate, getD-replicate}
 use lib.Seq.{getD-set-same, getD-set-other}
 use Rattle.ground.proofs.Cases.{by-eq}
+use Rattle.ground.proofs.Padding.{padded-long, padded-at}
 use Rattle.kinds.specs.Answer.{Handed, accepted}
 use Rattle.kinds.specs.Limits.{longestPeriod, mostTasks}
 use Rattle.clock.specs.declared.Clock.{Clock}
@@ -15,7 +16,7 @@ use Rattle.clock.specs.Start.{every, started, clockFrom}
 use Rattle.clock.specs.Call.{nextOf, periodOf, lateAt, released, movedOn, afterCall}
 use Rattle.clock.proofs.Wrap.{late-is, add-wraps}
 use Rattle.clock.proofs.Greatest.{latest-cong}
-use Rattle.clock.proofs.Starts.{Whole, begun, whole-started, padded-long, padded-at}
+use Rattle.clock.proofs.Starts.{Whole, begun, whole-started}
 use Rattle.clock.proofs.Calls.{released-few, none-keeps, moved-on}
 use Rattle.clock_time.specs.Time.{lateBy, earliest, onward, afterwards, clockAfter, nextAfter, furthest, Premise}
 use Rattle.clock_time.proofs.Unbroken.{by-earliest, onward-here, onward-other}
@@ -44,9 +45,10 @@ unfolding clockFrom
 shows-start ps from w = record {
   whole = w;
   count = refl;
-  room = padded-long (λ i. from % turn) (length ps) (w .few);
-  periods = λ i l. padded-at (every ps) (length ps) i l;
-  releases = λ i l. padded-at (λ _. from % turn) (length ps) i l;
+  room = padded-long 0 mostTasks (replicate (length ps) (from % turn));
+  periods = λ i l. padded-at 0 mostTasks ps (w .few) i;
+  releases = λ i l. padded-at 0 mostTasks (replicate (length ps) (from % turn)) (rw (length-replicate (length ps) (from % turn)) (w .few)) i
+      ∙ getD-replicate (length ps) i (from % turn) 0 l;
 }
 
 module _ (ps : List ℕ) (c : Clock) (next : ℕ → ℕ) (s : Shows ps c next) where

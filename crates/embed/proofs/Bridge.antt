@@ -8,11 +8,11 @@ use lib.ListN.{length}
 use Rattle.kinds.specs.declared.Settings.{Settings}
 use Rattle.kinds.specs.declared.Task.{Task}
 use Rattle.kinds.specs.Limits.{mostTasks}
-use Rattle.kinds.specs.Task.{at}
+use Rattle.kinds.specs.Task.{at, tableOf}
 use Rattle.plan.specs.Plan.{outcome}
 use Rattle.quick.proofs.Promises.{looks-agree}
-use Rattle.rows.specs.Gathered.{tableOf}
-use Rattle.rows.proofs.Bridge.{table-at, outcome-over}
+use Rattle.kinds.proofs.Records.{table-at}
+use Rattle.rows.proofs.Bridge.{outcome-over}
 use Rattle.office.proofs.Answers.{handed-same, after-same}
 use Rattle.told.specs.declared.Told.{Told}
 use Rattle.told_sheets.specs.declared.ToldCount.{ToldCount}

@@ -8,7 +8,7 @@ use kinds::Task;
 use told::Station;
 use told::Told;
 use told::ToldMargin;
-use wide::WideTask;
+use wide_task::WideTask;
 ghost use mathlib.Core.Bool.{true};
 ghost use mathlib.Core.Path.{_≡_};
 ghost use lib.ListN.{length};

@@ -12,7 +12,8 @@ use borrow.Author.Tests.{le-leb, lt-leb}
 use Rattle.ground.proofs.First.{first-here, first-none, first-more}
 use Rattle.ground.proofs.Buffer.{list-none, list-more}
 use Rattle.kinds.specs.Limits.{scale, mostTasks, mostProcessors}
-use Rattle.fit.specs.Fit.{hasRoom, lowestRoom, loadsAfter, placeAt, stuckAt, fits, placesTo, FitIs}
+use Rattle.fit.specs.Fit.{hasRoom, lowestRoom, loadsAfter, placeAt, stuckAt, fits, placesTo}
+use Rattle.fit.specs.Handover.{FitIs}
 use Rattle.fit.proofs.Placing.{after-more}
 
 -- the walk has placed the first i tasks

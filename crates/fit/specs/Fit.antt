@@ -1,24 +1,17 @@
 -- Document 01's placing rule, over the loads of tasks by number.
 -- Assumes nothing.
-use Prim.Native.Nat.{ℕ, zero, suc, _+_, _≤_, _<_}
+use Prim.Native.Nat.{ℕ, zero, suc, _+_}
 use mathlib.Core.Bool.{Bool}
-use mathlib.Core.List.{List, _++_}
-use mathlib.Core.Path.{_≡_}
+use mathlib.Core.List.{List}
 use lib.Dec.{leb, eqb}
-use lib.ListN.{getD, set, drop, replicate}
+use lib.ListN.{getD, set, replicate}
 use Rattle.ground.specs.First.{firstBelow}
 use Rattle.ground.specs.Folds.{listTo}
-use Rattle.kinds.specs.Limits.{scale, mostTasks, mostProcessors}
-use Rattle.fit.specs.declared.Fit.{Fit}
+use Rattle.kinds.specs.Limits.{scale, mostProcessors}
 
 -- the load of task i in a column
 abbrev pub loadIn : List ℕ → ℕ → ℕ
 loadIn loads i = getD loads i 0
-
--- a column of the loads of n tasks, none above S
-pub record Loads (loads : List ℕ) (n : ℕ) : Type 0 where
-  pub few : n ≤ mostTasks
-  pub most : (i : ℕ) → i < n → loadIn loads i ≤ scale
 
 -- the processor j, counted from 0, has room for a load: with it, it is at most S
 abbrev pub hasRoom : List ℕ → ℕ → ℕ → Bool
@@ -52,8 +45,3 @@ fits m load n = eqb (stuckAt m load n) n
 -- the processors of the first n tasks, numbered from 1
 unfoldable pub placesTo : ℕ → (ℕ → ℕ) → ℕ → List ℕ
 placesTo m load n = listTo (λ i. placeAt m load i + 1) n
-
--- how the trial ends: those before the first that fits nowhere are placed, the other places are zeros
-pub record FitIs (m : ℕ) (load : ℕ → ℕ) (n : ℕ) (r : Fit) : Type 0 where
-  pub placed : r .placed ≡ fits m load n
-  pub places : r .processors ≡ placesTo m load (stuckAt m load n) ++ drop (stuckAt m load n) (replicate mostTasks 0)

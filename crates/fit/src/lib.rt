@@ -5,7 +5,8 @@ use kinds::Share;
 use kinds::Table;
 ghost use Prim.Native.Nat.{_≤_};
 ghost use Rattle.kinds.specs.Limits.{mostProcessors};
-ghost use Rattle.fit.specs.Fit.{loadIn, Loads, FitIs};
+ghost use Rattle.fit.specs.Fit.{loadIn};
+ghost use Rattle.fit.specs.Handover.{Loads, FitIs};
 
 // How a trial ended: whether every task is placed, and the processor of each task that was, from 1.
 pub struct Fit {

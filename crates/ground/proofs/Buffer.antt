@@ -10,7 +10,7 @@ use lib.Seq.{set-at, drop-cons, getD-at, getD-append-add, getD-drop}
 use Rattle.ground.specs.Folds.{listTo}
 use Rattle.ground.proofs.Cases.{by-le}
 
-pub list-long : (f : ℕ → ℕ) (n : ℕ) → length (listTo f n) ≡ n
+pub list-long : {A : Type 0} (f : ℕ → A) (n : ℕ) → length (listTo f n) ≡ n
 unfolding listTo
 list-long f zero = refl
 list-long f (suc n) = simp length-append (omega (arith, list-long f n))
@@ -44,7 +44,7 @@ list-past f n i old h =
     let q : n + (i - n) ≡ i = omega arith in
     (rw e at g) ∙ (getD-drop n old (i - n) 0 ∙ ap (λ (x : ℕ). getD old x 0) q)
 
-pub list-cong : (f g : ℕ → ℕ) (n : ℕ) → ((i : ℕ) → i < n → f i ≡ g i) → listTo f n ≡ listTo g n
+pub list-cong : {A : Type 0} (f g : ℕ → A) (n : ℕ) → ((i : ℕ) → i < n → f i ≡ g i) → listTo f n ≡ listTo g n
 unfolding listTo
 list-cong f g zero h = refl
 list-cong f g (suc n) h =

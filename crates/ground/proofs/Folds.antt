@@ -55,6 +55,10 @@ pub max-more : (f : ℕ → ℕ) (n : ℕ) → maxTo f (n + 1) ≡ max (maxTo f 
 unfolding maxTo
 max-more f n = rw (add-one n)
 
+-- a walk that has come to i takes the value there
+pub max-step : (f : ℕ → ℕ) (i greatest v r : ℕ) → greatest ≡ maxTo f i → v ≡ f i → r ≡ max greatest v → r ≡ maxTo f (i + 1)
+max-step f i greatest v r p q e = omega (arith, max-more f i, p, q, e)
+
 pub le-max-to : (f : ℕ → ℕ) (n i : ℕ) → i < n → f i ≤ maxTo f n
 unfolding maxTo
 le-max-to f zero i l = omega arith

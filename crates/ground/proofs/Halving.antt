@@ -1,14 +1,25 @@
 -- Halving the range of a rising test gives its least step: a pass keeps the middle and what is below, a failure what is above.
 -- Assumes nothing.
-use Prim.Native.Nat.{ℕ, _+_, _≤_, _<_}
+use Prim.Native.Nat.{ℕ, _+_, _/_, _≤_, _<_}
 use mathlib.Core.Bool.{Bool, true, false}
 use mathlib.Core.Path.{_≡_}
 use native.Mathlib.Omega.{arith}
 use Rattle.ground.specs.declared.Step.the-variants.{At, Nothing}
 use Rattle.ground.specs.Least.{leastUpTo, Rising}
-use Rattle.ground.specs.Halving.{middle, Halved}
 use Rattle.ground.proofs.Cases.{by-bool, true-false}
 use Rattle.ground.proofs.Least.{least-here, least-none}
+
+-- the middle of a range, rounded down
+abbrev middle : ℕ → ℕ → ℕ
+middle from to = (from + to) / 2
+
+-- halving the steps from 0 to K + 1, where K + 1 stands for none, has come to the steps `from` to `to`: no step below the first passes,
+-- and the last does unless it stands for none
+pub record Halved (test : ℕ → Bool) (K from to : ℕ) : Type 0 where
+  pub order : from ≤ to
+  pub last : to ≤ K + 1
+  pub below : (j : ℕ) → j < from → test j ≡ false
+  pub there : to ≤ K → test to ≡ true
 
 -- the middle lies in the range
 pub middle-in : (from to : ℕ) → from < to → (from ≤ middle from to) × (middle from to < to)

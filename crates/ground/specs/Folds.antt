@@ -25,6 +25,6 @@ anyTo test zero = false
 anyTo test (suc n) = either (anyTo test n) (test n)
 
 -- the values, in the order of the numbers
-unfoldable pub listTo : (ℕ → ℕ) → ℕ → List ℕ
+unfoldable pub listTo : {A : Type 0} → (ℕ → A) → ℕ → List A
 listTo f zero = []
 listTo f (suc n) = listTo f n ++ (f n ∷ [])

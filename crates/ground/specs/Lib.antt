@@ -1,6 +1,6 @@
 pub mod Choice
 pub mod Rounding
 pub mod Folds
+pub mod Padded
 pub mod First
 pub mod Least
-pub mod Halving

@@ -1,11 +1,16 @@
--- The test of a record says what document 01's sentence says.
+-- The test of a record says what document 01's sentence says, and the table of a list has its records.
 -- Assumes nothing.
+use Prim.Native.Nat.{ℕ, _≤_}
 use mathlib.Core.Bool.{true}
+use mathlib.Core.List.{List}
 use mathlib.Core.Path.{_≡_}
 use borrow.Author.Tests.{leb-true, le-leb}
+use lib.ListN.{length}
 use Rattle.ground.proofs.Cases.{both-true}
+use Rattle.ground.proofs.Padding.{padded-at}
 use Rattle.kinds.specs.declared.Task.{Task}
-use Rattle.kinds.specs.Task.{Good, isGood}
+use Rattle.kinds.specs.Limits.{mostTasks}
+use Rattle.kinds.specs.Task.{noTask, at, tableOf, Good, isGood}
 
 pub good-is : (t : Task) → isGood t ≡ true → Good t
 unfolding isGood
@@ -26,3 +31,7 @@ pub is-good : (t : Task) → Good t → isGood t ≡ true
 unfolding isGood
 is-good t g =
     rw (le-leb _ _ (g .c-some), le-leb _ _ (g .c-tmin), le-leb _ _ (g .tmin-tmax), le-leb _ _ (g .tmax-most), le-leb _ _ (g .e-most))
+
+-- the record number i of the table is the list's
+pub table-at : (rows : List Task) → length rows ≤ mostTasks → (i : ℕ) → at (tableOf rows .rows) i ≡ at rows i
+table-at rows few i = padded-at noTask mostTasks rows few i

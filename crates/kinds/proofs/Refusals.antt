@@ -6,7 +6,9 @@ use native.Mathlib.Omega.{arith}
 use lib.Dec.{eqb}
 use Rattle.ground.specs.Choice.{pick}
 use Rattle.kinds.specs.declared.Refusal.{Refusal}
-use Rattle.kinds.specs.declared.Refusal.the-variants.{NoSuchPolicy, NoSuchProcessors, TooManyTasks, PolicyNotServed, OutputTooShort, BadRecord, NoStepPasses, SheetEnds, NotTwoSettings, WrongResultCount, BytesAfterLast, BadLine, BadPeriod, NoResults, WrongResult}
+use Rattle.kinds.specs.declared.Refusal.the-variants.{NoSuchPolicy, NoSuchProcessors, TooManyTasks, PolicyNotServed, OutputTooShort}
+use Rattle.kinds.specs.declared.Refusal.the-variants.{BadRecord, NoStepPasses, SheetEnds, NotTwoSettings, WrongResultCount}
+use Rattle.kinds.specs.declared.Refusal.the-variants.{BytesAfterLast, BadLine, BadPeriod, NoResults, WrongResult}
 use Rattle.kinds.specs.Refusal.{numberOf, placeOf}
 
 -- from its number and place a refusal can be had back

@@ -2,7 +2,9 @@
 -- Assumes nothing.
 use Prim.Native.Nat.{ℕ}
 use Rattle.kinds.specs.declared.Refusal.{Refusal}
-use Rattle.kinds.specs.declared.Refusal.the-variants.{NoSuchPolicy, NoSuchProcessors, TooManyTasks, PolicyNotServed, OutputTooShort, BadRecord, NoStepPasses, SheetEnds, NotTwoSettings, WrongResultCount, BytesAfterLast, BadLine, BadPeriod, NoResults, WrongResult}
+use Rattle.kinds.specs.declared.Refusal.the-variants.{NoSuchPolicy, NoSuchProcessors, TooManyTasks, PolicyNotServed, OutputTooShort}
+use Rattle.kinds.specs.declared.Refusal.the-variants.{BadRecord, NoStepPasses, SheetEnds, NotTwoSettings, WrongResultCount}
+use Rattle.kinds.specs.declared.Refusal.the-variants.{BytesAfterLast, BadLine, BadPeriod, NoResults, WrongResult}
 
 abbrev pub numberOf : Refusal → ℕ
 numberOf NoSuchPolicy = 1

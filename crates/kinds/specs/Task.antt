@@ -4,11 +4,12 @@ use Prim.Native.Nat.{ℕ, _≤_}
 use mathlib.Core.Bool.{Bool}
 use mathlib.Core.List.{List}
 use lib.Dec.{leb}
-use lib.ListN.{getD}
+use lib.ListN.{length, getD}
 use Rattle.ground.specs.Choice.{both}
+use Rattle.ground.specs.Padded.{padded}
 use Rattle.kinds.specs.declared.Task.{Task}
 use Rattle.kinds.specs.declared.Table.{Table}
-use Rattle.kinds.specs.Limits.{longestPeriod, greatestElasticity}
+use Rattle.kinds.specs.Limits.{longestPeriod, greatestElasticity, mostTasks}
 
 abbrev pub task : ℕ → ℕ → ℕ → ℕ → Task
 task c tmin tmax e = record { c = c; tmin = tmin; tmax = tmax; e = e }
@@ -23,6 +24,14 @@ at rows i = getD rows i noTask
 
 abbrev pub table : List Task → ℕ → Table
 table rows n = record { rows = rows; n = n }
+
+-- as many of these rows as a table takes, zeros in the unused places, and a count
+abbrev pub tableWith : List Task → ℕ → Table
+tableWith rows n = table (padded noTask mostTasks rows) n
+
+-- the count is the list's length, also above the most tasks
+abbrev pub tableOf : List Task → Table
+tableOf rows = tableWith rows (length rows)
 
 -- document 01: "1 ≤ C ≤ Tmin ≤ Tmax ≤ 1,000,000,000 and 0 ≤ E ≤ 1,000,000"
 pub record Good (t : Task) : Type 0 where

@@ -12,7 +12,7 @@ use Rattle.kinds.specs.declared.Table.{Table}
 use Rattle.kinds.specs.declared.Refusal.{Refusal}
 use Rattle.kinds.specs.declared.Refusal.the-variants.{TooManyTasks, OutputTooShort}
 use Rattle.kinds.specs.Limits.{mostTasks}
-use Rattle.kinds.specs.Task.{at}
+use Rattle.kinds.specs.Task.{at, tableOf}
 use Rattle.kinds.specs.Refusal.{numberOf}
 use Rattle.kinds.specs.Answer.{Handed, accepted, refused, handedCount}
 use Rattle.kinds.proofs.Refusals.{refusal-numbered}
@@ -24,7 +24,7 @@ use Rattle.kinds.specs.declared.Counted.the-variants.{Count, Refused}
 use Rattle.office.specs.declared.Imported.{Imported}
 use Rattle.office.specs.Text.{textTo}
 use Rattle.office.specs.Reading.{Rows, Not, readText, rowsOf}
-use Rattle.office.specs.Carrying.{carry, importHanded, exportHanded, afterCarry, Imports, Exports, tableOf, Reads, importedNot}
+use Rattle.office.specs.Carrying.{carry, importHanded, exportHanded, afterCarry, Imports, Exports, Reads, importedNot}
 use Rattle.office.proofs.Lines.{Going, going-end}
 use Rattle.office.proofs.Texts.{text-same}
 

@@ -10,7 +10,7 @@ use Rattle.kinds.specs.declared.Task.{Task}
 use Rattle.kinds.specs.declared.Refusal.the-variants.{TooManyTasks, BadLine}
 use Rattle.kinds.specs.Limits.{mostTasks}
 use Rattle.kinds.specs.Task.{task, noTask}
-use Rattle.walk.specs.Padded.{padded}
+use Rattle.ground.specs.Padded.{padded}
 use Rattle.numeral.specs.declared.Numeral.the-variants as numeral
 use Rattle.numeral.specs.Scan.{numeralAt}
 use Rattle.office.specs.declared.Line.the-variants as line

@@ -6,13 +6,11 @@ use mathlib.Core.Path.{_≡_}
 use lib.Dec.{ltb}
 use lib.ListN.{length}
 use Rattle.kinds.specs.declared.Task.{Task}
-use Rattle.kinds.specs.declared.Table.{Table}
 use Rattle.kinds.specs.declared.Refusal.{Refusal}
 use Rattle.kinds.specs.declared.Refusal.the-variants.{TooManyTasks, OutputTooShort}
 use Rattle.kinds.specs.Limits.{mostTasks}
-use Rattle.kinds.specs.Task.{noTask}
+use Rattle.kinds.specs.Task.{tableOf}
 use Rattle.kinds.specs.Answer.{Handed, accepted, refused, check, handedCount, after}
-use Rattle.walk.specs.Padded.{padded}
 use Rattle.kinds.specs.declared.Counted.{Counted}
 use Rattle.kinds.specs.declared.Counted.the-variants.{Refused}
 use Rattle.office.specs.declared.Imported.{Imported}
@@ -47,10 +45,6 @@ pub record Imports (text : List ℕ) (old : List Task) (r : Counted) (new : List
 pub record Exports (rows : List Task) (n : ℕ) (old : List ℕ) (r : Counted) (new : List ℕ) : Type 0 where
   pub answer : handedCount r ≡ exportHanded rows n (length old)
   pub output : new ≡ afterCarry (exportHanded rows n (length old)) (textTo rows n) old
-
--- the table of some rows: unused places are zeros
-abbrev pub tableOf : List Task → Table
-tableOf rows = record { rows = padded noTask mostTasks rows; n = length rows }
 
 -- an import by value: the table of the rows, or of none where it is refused
 pub record Reads (text : List ℕ) (room : ℕ) (r : Imported) : Type 0 where

@@ -4,8 +4,8 @@ use Prim.Native.Nat.{ℕ}
 use mathlib.Core.List.{List}
 use lib.ListN.{length}
 use Rattle.kinds.specs.declared.Task.{Task}
-use Rattle.rows.specs.Gathered.{tableOf}
-use Rattle.rows.proofs.Bridge.{table-at}
+use Rattle.kinds.specs.Task.{tableOf}
+use Rattle.kinds.proofs.Records.{table-at}
 use Rattle.kinds.specs.declared.Counted.{Counted}
 use Rattle.office.specs.Carrying.{Exports}
 use Rattle.office.proofs.Answers.{exports-same}

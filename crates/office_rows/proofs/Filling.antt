@@ -11,8 +11,8 @@ use Rattle.kinds.specs.declared.Task.{Task}
 use Rattle.kinds.specs.declared.Table.{Table}
 use Rattle.kinds.specs.Limits.{mostTasks}
 use Rattle.kinds.specs.Task.{at, noTask}
-use Rattle.walk.specs.Padded.{padded}
-use Rattle.walk.proofs.Padding.{padded-long, padded-front}
+use Rattle.ground.specs.Padded.{padded}
+use Rattle.ground.proofs.Padding.{padded-long, padded-front}
 use Rattle.office.specs.declared.Imported.{Imported}
 use Rattle.office.specs.Carrying.{Imports, Reads}
 use Rattle.office.proofs.Landing.{landing, lands}

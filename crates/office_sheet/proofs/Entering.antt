@@ -13,6 +13,7 @@ use Rattle.kinds.specs.declared.Table.{Table}
 use Rattle.kinds.specs.Limits.{mostTasks}
 use Rattle.kinds.specs.Refusal.{numberOf, placeOf}
 use Rattle.kinds.specs.Answer.{Handed, handedCount}
+use Rattle.kinds.specs.Task.{tableOf}
 use Rattle.kinds.proofs.Answers.{not-refused}
 use Rattle.numeral.specs.declared.Numeral.the-variants as numeral
 use Rattle.numeral.specs.Scan.{numeralIn}
@@ -25,7 +26,7 @@ use Rattle.writer.proofs.Answers.{accepts, write-accepts, accepted-after}
 use Rattle.office.specs.declared.Imported.{Imported}
 use Rattle.kinds.specs.declared.Counted.{Counted}
 use Rattle.office.specs.Reading.{readText, rowsOf}
-use Rattle.office.specs.Carrying.{importHanded, afterCarry, tableOf, Reads}
+use Rattle.office.specs.Carrying.{importHanded, afterCarry, Reads}
 use Rattle.office.proofs.Landing.{lands, all-landed}
 use Rattle.line.specs.Line.{refusalLine, orLine}
 use Rattle.line.specs.Fronts.{Fronts}

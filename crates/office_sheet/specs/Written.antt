@@ -12,6 +12,7 @@ use Rattle.kinds.specs.declared.Table.{Table}
 use Rattle.kinds.specs.Limits.{mostTasks}
 use Rattle.kinds.specs.Policy.{policyOf}
 use Rattle.kinds.specs.Answer.{Handed, accepted, refused}
+use Rattle.kinds.specs.Task.{tableOf}
 use Rattle.numeral.specs.declared.Numeral.{Numeral}
 use Rattle.numeral.specs.declared.Numeral.the-variants as numeral
 use Rattle.numeral.specs.Scan.{numeralIn}
@@ -20,7 +21,7 @@ use Rattle.sheet.specs.Reading.{readSheet}
 use Rattle.writer.specs.Encode.{encode}
 use Rattle.office.specs.Text.{textTo, longestText}
 use Rattle.office.specs.Reading.{readText, rowsOf}
-use Rattle.office.specs.Carrying.{importHanded, exportHanded, tableOf}
+use Rattle.office.specs.Carrying.{importHanded, exportHanded}
 use Rattle.line.specs.Line.{orLine}
 use Rattle.office_sheet.specs.declared.Setting.{Setting}
 use Rattle.office_sheet.specs.declared.Setting.the-variants.{Is, Bad}

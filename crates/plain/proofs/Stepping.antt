@@ -23,8 +23,9 @@ use Rattle.springs.specs.Spring.{sharesOn, SumIs, AllWithin}
 use Rattle.springs.specs.Columns.{Columns, springIn, springsIn, SharesAre, SharesOf, Sprung}
 use Rattle.springs.proofs.Columns.{shares-are, shares-of}
 use Rattle.springs.proofs.Carried.{share-most, shares-first, held-within, shares-next}
-use Rattle.fit.specs.Fit.{loadIn, Loads}
-use Rattle.policy.specs.Sides.{TotalIs}
+use Rattle.fit.specs.Fit.{loadIn}
+use Rattle.fit.specs.Handover.{Loads}
+use Rattle.policy.specs.Handover.{TotalIs}
 use Rattle.policy.specs.Passing.{passesAt, leastStep}
 use Rattle.policy.specs.Passing as passing
 use Rattle.policy.proofs.Tests.{passes-same}

@@ -20,7 +20,8 @@ use Rattle.share.specs.Table.{periodsAt}
 use Rattle.springs.specs.Columns.{SharesOf, periodOn}
 use Rattle.springs.proofs.Columns.{held-most, held-least, held-periods}
 use Rattle.fit.specs.declared.Fit.{Fit}
-use Rattle.fit.specs.Fit.{loadIn, placeAt, stuckAt, fits, placesTo, FitIs}
+use Rattle.fit.specs.Fit.{loadIn, placeAt, stuckAt, fits, placesTo}
+use Rattle.fit.specs.Handover.{FitIs}
 use Rattle.fit.proofs.Placing.{place-same}
 use Rattle.policy.specs.Passing.{passes}
 use Rattle.policy.proofs.Tests.{first-fit-passes, passes-same}

@@ -18,9 +18,11 @@ use Rattle.kinds.specs.declared.Answer.{Answer}
 use Rattle.kinds.specs.Answer.{Handed, accepted, refused, after, handed, isAccepted, stepOf}
 use Rattle.kinds.specs.Limits.{mostProcessors}
 use Rattle.kinds.specs.Policy.{meant, isFirstFit}
-use Rattle.share.specs.Table.{GoodTable, shares, periodsAt}
+use Rattle.share.specs.Table.{shares, periodsAt}
+use Rattle.share.specs.Handover.{GoodTable}
 use Rattle.springs.specs.Columns.{SharesOf}
-use Rattle.fit.specs.Fit.{loadIn, Loads, placeAt}
+use Rattle.fit.specs.Fit.{loadIn, placeAt}
+use Rattle.fit.specs.Handover.{Loads}
 use Rattle.policy.specs.Passing.{passes, passesAt, leastStep}
 use Rattle.kinds.specs.declared.Verdict.{Verdict}
 use Rattle.kinds.specs.declared.Verdict.the-variants.{Accepted, Refused}

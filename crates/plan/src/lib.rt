@@ -16,7 +16,7 @@ ghost use Rattle.kinds.specs.Answer.{handed};
 ghost use Rattle.kinds.specs.Limits.{mostTasks};
 ghost use Rattle.kinds.specs.Task.{at};
 ghost use Rattle.share.specs.Share.{leastOf};
-ghost use Rattle.share.specs.Table.{GoodTable};
+ghost use Rattle.share.specs.Handover.{GoodTable};
 ghost use Rattle.springs.specs.Columns.{periodOn};
 ghost use Rattle.fit.specs.Fit.{loadIn};
 ghost use Rattle.plan.specs.Plan.{decided, processorOn, Placeable, MayGrant, Leaves};

@@ -8,7 +8,8 @@ use Rattle.kinds.specs.declared.Policy.{Policy}
 use Rattle.kinds.specs.declared.Policy.the-variants.{Pooled, GlobalEdf, GlobalRm, FirstFit, Further}
 use Rattle.kinds.specs.Limits.{scale}
 use Rattle.policy.specs.declared.Weights.{Weights}
-use Rattle.policy.specs.Sides.{leftSide, rightSide, left, right, weightsOf, Light}
+use Rattle.policy.specs.Sides.{leftSide, rightSide, left, right, weightsOf}
+use Rattle.policy.specs.Handover.{Light}
 
 pub one-left : (p : Policy) (m sum max : ℕ) → left (weightsOf p m) sum max ≡ leftSide p m sum max
 one-left Pooled m sum max = omega arith

@@ -24,7 +24,8 @@ use Rattle.share.proofs.Tasks.{falls}
 use Rattle.fit.specs.Fit.{fits}
 use Rattle.fit.proofs.Placing.{fits-within, fits-same}
 use Rattle.policy.specs.declared.Weights.{Weights}
-use Rattle.policy.specs.Sides.{leftSide, rightSide, left, right, weightsOf, marginOf, TotalIs}
+use Rattle.policy.specs.Sides.{leftSide, rightSide, left, right, weightsOf, marginOf}
+use Rattle.policy.specs.Handover.{TotalIs}
 use Rattle.policy.specs.Passing.{holds, passes, passesAt}
 use Rattle.policy.proofs.OneForm.{one-left, one-right}
 use Rattle.policy.proofs.Signed.{sub-le, sub-lt}

@@ -5,7 +5,7 @@ use mathlib.Core.Path.{_≡_, sym}
 use native.Mathlib.Omega.{arith}
 use Rattle.ground.proofs.Folds.{sum-none, sum-more, max-none, max-more}
 use Rattle.kinds.specs.Limits.{scale}
-use Rattle.policy.specs.Sides.{TotalIs}
+use Rattle.policy.specs.Handover.{TotalIs}
 
 pub total-none : (load : ℕ → ℕ) → TotalIs load 0 0 0
 total-none load =

@@ -1,3 +1,4 @@
 pub mod Sides
 pub mod Passing
 pub mod Looks
+pub mod Handover

@@ -1,7 +1,6 @@
 -- Document 01, "The four policies": the two sides of the tests that have a formula, as printed and in one form; the margin.
 -- Assumes nothing.
-use Prim.Native.Nat.{ℕ, _+_, _-_, _*_, _≤_}
-use mathlib.Core.Path.{_≡_}
+use Prim.Native.Nat.{ℕ, _+_, _-_, _*_}
 use lib.IntN.{ℤ, subℕ}
 use Rattle.ground.specs.Folds.{sumTo, maxTo}
 use Rattle.kinds.specs.declared.Policy.{Policy}
@@ -44,21 +43,3 @@ weightsOf GlobalEdf m = weights 1 (m - 1) 0 (m * scale)
 weightsOf GlobalRm m = weights 2 m 2 (m * scale)
 weightsOf FirstFit m = weights 0 0 0 0
 weightsOf (Further q) m = weights 0 0 0 0
-
--- small enough that no side overflows
-pub record Light (w : Weights) : Type 0 where
-  pub a-most : w .a ≤ 16
-  pub b-most : w .b ≤ 16
-  pub c-most : w .c ≤ 16
-  pub r-most : w .r ≤ 16000000
-
-pub record SideIs (side r : ℕ) : Type 0 where
-  pub is : r ≡ side
-  pub most : r ≤ 1000000000
-
--- the sum and the max of the loads of n tasks
-pub record TotalIs (load : ℕ → ℕ) (n sum max : ℕ) : Type 0 where
-  pub sum-is : sum ≡ sumTo load n
-  pub max-is : max ≡ maxTo load n
-  pub sum-most : sum ≤ scale * n
-  pub max-most : max ≤ scale

@@ -8,8 +8,10 @@ ghost use Prim.Native.Nat.{_≤_};
 ghost use lib.IntN.{subℕ};
 ghost use Rattle.ground.specs.Folds.{sumTo};
 ghost use Rattle.kinds.specs.Limits.{scale, mostProcessors};
-ghost use Rattle.fit.specs.Fit.{loadIn, Loads};
-ghost use Rattle.policy.specs.Sides.{weightsOf, Light, left, right, SideIs, TotalIs, marginOf};
+ghost use Rattle.fit.specs.Fit.{loadIn};
+ghost use Rattle.fit.specs.Handover.{Loads};
+ghost use Rattle.policy.specs.Sides.{weightsOf, left, right, marginOf};
+ghost use Rattle.policy.specs.Handover.{Light, SideIs, TotalIs};
 ghost use Rattle.policy.specs.Passing.{passes};
 
 // The test of a policy that has a formula is a · sum + b · max ≤ r + c · max.

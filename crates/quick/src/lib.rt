@@ -11,7 +11,7 @@ ghost use mathlib.Core.Path.{_≡_};
 ghost use Prim.Native.Nat.{_≤_};
 ghost use lib.ListN.{length};
 ghost use Rattle.kinds.specs.Limits.{mostTasks};
-ghost use Rattle.policy.specs.Sides.{Light};
+ghost use Rattle.policy.specs.Handover.{Light};
 ghost use Rattle.springs.specs.Spring.{saturations, SumIs, AllWithin};
 ghost use Rattle.springs.specs.Columns.{columns, springIn, Roomy};
 ghost use Rattle.division.specs.Weighed.{weighedAt};

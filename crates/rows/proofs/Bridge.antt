@@ -1,14 +1,14 @@
 -- What the cores say of the table of the lent rows, they say of the rows.
 -- Assumes nothing.
-use Prim.Native.Nat.{ℕ, _≤_}
+use Prim.Native.Nat.{ℕ}
 use mathlib.Core.Bool.{Bool}
 use mathlib.Core.List.{List}
 use mathlib.Core.Path.{_≡_}
 use lib.ListN.{length}
 use Rattle.kinds.specs.declared.Settings.{Settings}
 use Rattle.kinds.specs.declared.Task.{Task}
-use Rattle.kinds.specs.Limits.{mostTasks}
-use Rattle.kinds.specs.Task.{at, noTask}
+use Rattle.kinds.specs.Task.{tableOf}
+use Rattle.kinds.proofs.Records.{table-at}
 use Rattle.plan.specs.Plan.{outcome}
 use Rattle.plan.proofs.Outcomes.{outcome-same}
 use Rattle.margin.specs.Margin.{marginHanded}
@@ -16,12 +16,6 @@ use Rattle.margin.proofs.Margins.{margin-handed-same}
 use Rattle.quick.specs.declared.Looked.{Looked}
 use Rattle.quick.specs.Looked.{MeetsLooked}
 use Rattle.quick.proofs.Promises.{meets-looked-same}
-use Rattle.walk.proofs.Padding.{padded-at}
-use Rattle.rows.specs.Gathered.{tableOf}
-
--- the record number i of the table is the list's
-pub table-at : (rows : List Task) → length rows ≤ mostTasks → (i : ℕ) → at (tableOf rows .rows) i ≡ at rows i
-table-at rows few i = padded-at noTask mostTasks rows few i
 
 pub outcome-over : (serves : Bool) (s : Settings) (rows : List Task) (periods processors : List ℕ)
     → outcome serves s (tableOf rows .rows) (length rows) periods processors ≡ outcome serves s rows (length rows) periods processors

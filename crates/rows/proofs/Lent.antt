@@ -20,7 +20,7 @@ use contract.Running.{GhostRules, Running}
 use Rattle.walk.proofs.Thin.{id⊢, Gathered}
 use Rattle.kinds.proofs.Table as T
 use Rattle.kinds.proofs.Task as P
-use Rattle.rows.specs.Gathered.{tableOf}
+use Rattle.kinds.specs.Task.{tableOf}
 use Rattle.rows.proofs.Values.{table}
 use Rattle.rows.proofs.gather as gather
 use Rattle.rows.proofs.gather.Symbol as gather-def

@@ -1,52 +1,24 @@
--- A table of tasks, as the law of `gather` takes it: how it lies in memory, and that a value of its type is one.
+-- A table of tasks, as the law of `gather` takes it.
 -- Assumes nothing.
-use mathlib.Core.Path.{_≡_, refl, _∙_}
-use mathlib.Core.List.{[], _∷_, map}
-use lib.ListN.{length, length-map}
-use mir.Syntax.{w32, w64}
-use mir.Val.{vint, vstruct, vcons, vnil, ofList, WT}
+use mathlib.Core.Path.{refl}
+use mathlib.Core.List.{[], _∷_}
+use mir.Syntax.{w32}
+use mir.Val.{WT}
 use denote.Laws.{Is}
-use denote.Struct.Laws as LL
-use Rattle.walk.proofs.Tabled.{Tabled, rows-are}
+use Rattle.walk.proofs.Tabled.{Tabled, tabled, numbers-are}
 use Rattle.kinds.specs.Limits.{mostTasks}
-use Rattle.kinds.specs.Task.{noTask}
+use Rattle.kinds.specs.Task.{noTask, table}
 use Rattle.kinds.specs.declared.Task.{Task}
-use Rattle.kinds.specs.declared.Table.{Table}
 use Rattle.kinds.proofs.Table as T
-use Rattle.kinds.proofs.Table.Laws as T′
 use Rattle.kinds.proofs.Task as P
 use Rattle.kinds.proofs.Task.Laws as P′
 use Rattle.rows.proofs.Values as values
 
 -- a task whose value fits is one
 pub is-task : (x : Task) → WT (P′.lowered x) → Is P.the-row x (P′.lowered x ∷ [])
-is-task x w = (
-  (vint w32 (x .c) ∷ [], (vint w32 (x .tmin) ∷ [], (vint w32 (x .tmax) ∷ [], (vint w32 (x .e) ∷ [], tt)))),
-  (refl, ((refl, w .0 .fits), ((refl, w .1 .0 .fits), ((refl, w .1 .1 .0 .fits), ((refl, w .1 .1 .1 .0 .fits), tt))))),
-)
+is-task x = numbers-are (w32 ∷ w32 ∷ w32 ∷ w32 ∷ []) (P.the-type .to x)
 
--- so is a table of as many rows as it has room for
-pub is-table : (t : Table) → length (t .rows) ≡ mostTasks → WT (T′.lowered t) → Is T.the-row t (T′.lowered t ∷ [])
-is-table t long w = (
-  (vstruct (ofList (map P′.lowered (t .rows))) ∷ [], (vint w64 (t .n) ∷ [], tt)),
-  (refl, ((map P′.lowered (t .rows), ((refl, length-map (t .rows) (P.the-type .to) ∙ long), rows-are P.the-field P′.lowered is-task (t .rows) (w .0))), ((refl, w .1 .0 .fits), tt))),
-)
-
--- a table of tasks, for the law of `gather`
 abbrev pub tasks : Tabled P.the-row T.the-row
-tasks = record {
-  row = values.task;
-  table = values.table;
-  copies = λ 𝓤 H A W. LL.copy P.the-type P′.the-copy 𝓤 H A W;
-  small = tt;
-  none = noTask;
-  room = mostTasks;
-  made = λ rows n. record { rows = rows; n = n };
-  name = _;
-  fields = _;
-  spelled = refl;
-  in-front = refl;
-  others = λ n. vcons (vint w64 n) vnil;
-  lies = λ rows n. refl;
-  is-table = λ rows n. is-table (record { rows = rows; n = n });
-}
+tasks =
+    tabled P.the-type values.task P′.the-copy is-task
+    values.table noTask mostTasks table tt refl refl (λ rows n. refl) (λ rows n is. is)

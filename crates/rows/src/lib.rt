@@ -1,6 +1,6 @@
 // The public calls over a lent slice of whole task records. Each is a thin call, `core(gather(rows), ..)`: `gather` copies the rows
-// into a table by value, on which the covered core of another crate works. Contracts cite the cores' definitions and
-// `specs/Gathered`; the last law of `proofs/Bridge` ties what is said of the table to the rows. `proofs/Lent` says how to add a call.
+// into a table by value, `tableOf` of `kinds`, on which the covered core of another crate works. Contracts cite the cores' definitions;
+// the laws of `proofs/Bridge` tie what is said of the table to the rows. `proofs/Lent` says how to add a call.
 ghost use mathlib.Core.Bool.{true};
 ghost use mathlib.Core.List.{[]};
 ghost use mathlib.Core.Path.{_≡_};
@@ -8,10 +8,10 @@ ghost use Prim.Native.Nat.{min};
 ghost use lib.ListN.{length};
 ghost use Rattle.kinds.specs.Answer.{handedMargin};
 ghost use Rattle.kinds.specs.Limits.{mostTasks};
+ghost use Rattle.kinds.specs.Task.{tableOf, tableWith};
 ghost use Rattle.plan.specs.Plan.{outcome, Meets};
 ghost use Rattle.quick.specs.Looked.{MeetsLooked};
 ghost use Rattle.margin.specs.Margin.{marginHanded};
-ghost use Rattle.rows.specs.Gathered.{tableOf, tableWith};
 use kinds::Answer;
 use kinds::Margin;
 use kinds::Settings;
@@ -59,7 +59,8 @@ pub fn find_plain(
     periods: &mut [u32],
     processors: &mut [u16],
 ) -> Answer
-    ensures { λ r. ⌜ Meets (outcome true settings (now (rows .entry)) (length (now (rows .entry))) (now (periods .entry)) (now (processors .entry))) r (now (periods .exit)) (now (processors .exit)) ⌝ }
+    ensures { λ r. ⌜ Meets (outcome true settings (now (rows .entry)) (length (now (rows .entry))) (now (periods .entry)) (now (processors .entry)))
+        r (now (periods .exit)) (now (processors .exit)) ⌝ }
 {
     plain::find(gather(rows), settings, periods, processors)
 }
@@ -71,7 +72,8 @@ pub fn find_quick(
     periods: &mut [u32],
     processors: &mut [u16],
 ) -> Looked
-    ensures { λ r. ⌜ MeetsLooked settings (now (rows .entry)) (length (now (rows .entry))) (now (periods .entry)) (now (processors .entry)) r (now (periods .exit)) (now (processors .exit)) ⌝ }
+    ensures { λ r. ⌜ MeetsLooked settings (now (rows .entry)) (length (now (rows .entry))) (now (periods .entry)) (now (processors .entry))
+        r (now (periods .exit)) (now (processors .exit)) ⌝ }
 {
     quick::find(gather(rows), settings, periods, processors)
 }

@@ -16,7 +16,8 @@ use Rattle.kinds.specs.Limits.{mostTasks}
 use Rattle.kinds.specs.Task.{at, Good, isGood}
 use Rattle.kinds.proofs.Records.{good-is}
 use Rattle.share.specs.Share.{saturationAt, periodAt}
-use Rattle.share.specs.Table.{fullCompression, firstBad, periodsAt, GoodTable}
+use Rattle.share.specs.Table.{fullCompression, firstBad, periodsAt}
+use Rattle.share.specs.Handover.{GoodTable}
 use Rattle.share.proofs.Tasks.{saturation-most}
 
 -- K is no less than any saturation step

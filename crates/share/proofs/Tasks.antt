@@ -10,7 +10,8 @@ use Rattle.kinds.specs.Task.{Good}
 use Rattle.rule.specs.Rule.{Shortest}
 use Rattle.rule.proofs.Shares.{part-high, part-low, part-falls, share-falls, share-least, share-zero, share-rigid, share-high, share-saturated, share-above, saturation-high}
 use Rattle.rule.proofs.Periods.{period-shortest}
-use Rattle.share.specs.Share.{costOf, largestOf, leastOf, shareAt, saturationAt, periodAt, ShareIs}
+use Rattle.share.specs.Share.{costOf, largestOf, leastOf, shareAt, saturationAt, periodAt}
+use Rattle.share.specs.Handover.{ShareIs}
 
 -- the share never rises with the step
 pub falls : (t : Task) (j k : ℕ) → j ≤ k → shareAt t k ≤ shareAt t j

@@ -1,2 +1,3 @@
 pub mod Share
 pub mod Table
+pub mod Handover

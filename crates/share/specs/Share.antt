@@ -1,9 +1,7 @@
 -- Document 01, "Numbers on a task", for a task record.
 -- Assumes nothing.
-use Prim.Native.Nat.{ℕ, _≤_}
-use mathlib.Core.Path.{_≡_}
+use Prim.Native.Nat.{ℕ}
 use Rattle.kinds.specs.declared.Task.{Task}
-use Rattle.kinds.specs.Limits.{scale}
 use Rattle.rule.specs.Rule.{partOf, shareOf, saturationOf, periodOf}
 
 -- the whole cost of a job
@@ -24,9 +22,3 @@ saturationAt t = saturationOf (largestOf t) (leastOf t) (t .e)
 
 unfoldable pub periodAt : Task → ℕ → ℕ
 periodAt t k = periodOf (costOf t) (t .tmin) (shareAt t k)
-
--- what the functions hand back, with the bounds that their callers need
-pub record ShareIs (share r : ℕ) : Type 0 where
-  pub is : r ≡ share
-  pub some : 1 ≤ r
-  pub most : r ≤ scale

@@ -1,14 +1,12 @@
 -- Document 01, "Numbers on a task", for the first n of some task records.
 -- Assumes nothing.
-use Prim.Native.Nat.{ℕ, _≤_, _<_}
+use Prim.Native.Nat.{ℕ}
 use mathlib.Core.Bool.{not}
 use mathlib.Core.List.{List}
 use Rattle.ground.specs.First.{firstBelow}
 use Rattle.ground.specs.Folds.{maxTo, listTo}
 use Rattle.kinds.specs.declared.Task.{Task}
-use Rattle.kinds.specs.declared.Table.{Table}
-use Rattle.kinds.specs.Limits.{mostTasks}
-use Rattle.kinds.specs.Task.{at, Good, isGood}
+use Rattle.kinds.specs.Task.{at, isGood}
 use Rattle.share.specs.Share.{shareAt, saturationAt, periodAt}
 
 -- the share of each task at step k, by number
@@ -26,8 +24,3 @@ firstBad rows n = firstBelow (λ i. not (isGood (at rows i))) n
 -- the periods at step k
 unfoldable pub periodsAt : List Task → ℕ → ℕ → List ℕ
 periodsAt rows n k = listTo (λ i. periodAt (at rows i) k) n
-
--- a table by value that the rules may be asked of
-pub record GoodTable (t : Table) : Type 0 where
-  pub few : t .n ≤ mostTasks
-  pub good : (i : ℕ) → i < t .n → Good (at (t .rows) i)

@@ -4,7 +4,8 @@ use kinds::Share;
 use kinds::Task;
 ghost use mathlib.Core.Path.{_≡_};
 ghost use Rattle.kinds.specs.Task.{Good};
-ghost use Rattle.share.specs.Share.{costOf, largestOf, leastOf, ShareIs};
+ghost use Rattle.share.specs.Share.{costOf, largestOf, leastOf};
+ghost use Rattle.share.specs.Handover.{ShareIs};
 
 // Document 01: "C is the whole cost of a job. Nothing else is charged."
 pub fn cost(task: Task) -> u64

@@ -7,7 +7,7 @@ use kinds::Margin;
 use kinds::Policy;
 use kinds::Settings;
 use kinds::Table;
-use wide::WideTable;
+use wide_task::WideTable;
 ghost use mathlib.Core.Bool.{true};
 ghost use mathlib.Core.Path.{_≡_};
 ghost use Rattle.kinds.specs.Answer.{handed};

@@ -1,5 +1,6 @@
 -- A call inside a walk by hand.
---     gets-all     the caller has the callee's `pre` at the head. Once the call has returned u, there are a result r and last values ws, what r owns, the tokens, what says the last values, and what the callee ensures
+--     gets-all     the caller has the callee's `pre` at the head. Once the call has returned u, there are a result r and last values ws,
+--                  what r owns, the tokens, what says the last values, and what the callee ensures
 --     gets-is      the same where the callee ensures one fact, an equation r ≡ ρ, and there is no last value to hear of: the machine value is then ρ's own, so the walk goes on at ρ
 --     Says         that a callee asks nothing more at these arguments, and tells a fact of its result
 --     Callee, cites    a callee as the last law of a walk takes it, and that the code's table meets its clauses
@@ -39,15 +40,18 @@ Asks 𝓤 H A T c = tripleOf 𝓤 H A (T .signature) (closing 𝓤 H A T c)
 at-result : {X : Type 0} (F : X → Val → Type 1) (val : X → Val) (ρ : X) → F ρ (val ρ) → (r : X) → r ≡ ρ → (u : Val) → u ≡ val r → F r u
 at-result {X} F val ρ k r e u v = subst (λ (u′ : Val). F r u′) (sym v) (subst (λ (r′ : X). F r′ (val r′)) (sym e) k)
 
-module _ {M : Type 1} {𝓤 : URA M} {H : Heap 𝓤} {A : Atoms 𝓤} {K : Type 0} {W : Given 𝓤 H A} {Γ : List (Item 𝓤)} {E : Env 𝓤 H} {C : Calls 𝓤 H} {Λ : Loops 𝓤 H} {q : Post 𝓤 H} {f : Name} {xs : List Operand} {d : Place} {rest : Body} where
+module _ {M : Type 1} {𝓤 : URA M} {H : Heap 𝓤} {A : Atoms 𝓤} {K : Type 0} {W : Given 𝓤 H A} {Γ : List (Item 𝓤)} {E : Env 𝓤 H} {C : Calls 𝓤 H} {Λ : Loops 𝓤 H}
+    {q : Post 𝓤 H} {f : Name} {xs : List Operand} {d : Place} {rest : Body} where
   pub gets-all : K → FmC 𝓤 H (W .laws) C → (T : Ended) (c : Clauses 𝓤 T) → Triple 𝓤 (C f) (Asks 𝓤 H A T c) → (y : Asks 𝓤 H A T c .Ghost)
       → Opds K W (raw (Asks 𝓤 H A T c .pre y) ∷ Γ) E xs (Asks 𝓤 H A T c .args y)
       → ((u : Val) (r : Res (T .signature) (y .0 .0)) (ws : Lasts T (y .0 .0) (y .0 .3))
-      → Seq K W (‵ (typeAt (T .signature .result) (y .0 .0) .own r (u ∷ [])) ∷ raw (alive 𝓤 H A (T .signature) (y .0 .0) (y .0 .1)) ∷ ‵ (lasts T (y .0 .0) (y .0 .3) ws) ∷ raw (c (y .0 .0) (y .0 .3) .ensures (y .1) r (atExit T (y .0 .0) (y .0 .3) ws)) ∷ Γ) (lands C Λ E d u rest q))
+      → Seq K W (‵ (typeAt (T .signature .result) (y .0 .0) .own r (u ∷ [])) ∷ raw (alive 𝓤 H A (T .signature) (y .0 .0) (y .0 .1))
+      ∷ ‵ (lasts T (y .0 .0) (y .0 .3) ws) ∷ raw (c (y .0 .0) (y .0 .3) .ensures (y .1) r (atExit T (y .0 .0) (y .0 .3) ws)) ∷ Γ) (lands C Λ E d u rest q))
       → Seq K W (raw (Asks 𝓤 H A T c .pre y) ∷ Γ) (runs C Λ E (seq (call f xs d) rest) q)
   gets-all t fm T c known y os k = calls-at t fm (Asks 𝓤 H A T c) known y os (λ u.
       use1 W (later (some (λ (r : Res (T .signature) (y .0 .0)). (raw (alive 𝓤 H A (T .signature) (y .0 .0) (y .0 .1)) ⊛ ‵ (typeAt (T .signature .result) (y .0 .0) .own r (u ∷ [])))
-      ⊛ some (λ (ws : Lasts T (y .0 .0) (y .0 .3)). ‵ (lasts T (y .0 .0) (y .0 .3) ws) ⊛ raw (c (y .0 .0) (y .0 .3) .ensures (y .1) r (atExit T (y .0 .0) (y .0 .3) ws)))))) (id⊢ 𝓤 _) $ await t tt $ pick t (λ r.
+      ⊛ some (λ (ws : Lasts T (y .0 .0) (y .0 .3)). ‵ (lasts T (y .0 .0) (y .0 .3) ws)
+      ⊛ raw (c (y .0 .0) (y .0 .3) .ensures (y .1) r (atExit T (y .0 .0) (y .0 .3) ws)))))) (id⊢ 𝓤 _) $ await t tt $ pick t (λ r.
       split t $ move t (1 ∷ []) $ pick t (λ ws. split t $ move t (2 ∷ []) $ split t $ move t (1 ∷ 0 ∷ []) $ k u r ws)))
 
   pub gets-is : K → FmC 𝓤 H (W .laws) C → (T : Ended) (c : Clauses 𝓤 T) → Triple 𝓤 (C f) (Asks 𝓤 H A T c) → (y : Asks 𝓤 H A T c .Ghost)
@@ -61,7 +65,8 @@ module _ {M : Type 1} {𝓤 : URA M} {H : Heap 𝓤} {A : Atoms 𝓤} {K : Type 
   gets-is t fm T c known y ρ val tells said os k = gets-all t fm T c known y os (λ u r ws. move t (3 ∷ []) $ use1 W (raw (fact 𝓤 (r ≡ ρ))) (said r ws) $ heard t (r ≡ ρ) (λ e.
       peeks t (typeAt (T .signature .result) (y .0 .0)) (Is (typeAt (T .signature .result) (y .0 .0))) (shows 𝓤 H A (typeAt (T .signature .result) (y .0 .0))) r (u ∷ []) (λ is.
       move t (2 ∷ []) $ drop t $ at-result
-      (λ (r′ : Res (T .signature) (y .0 .0)) (u′ : Val). Is (typeAt (T .signature .result) (y .0 .0)) r′ (u′ ∷ []) → Seq K W (‵ (typeAt (T .signature .result) (y .0 .0) .own r′ (u′ ∷ [])) ∷ raw (alive 𝓤 H A (T .signature) (y .0 .0) (y .0 .1)) ∷ Γ) (lands C Λ E d u′ rest q))
+      (λ (r′ : Res (T .signature) (y .0 .0)) (u′ : Val). Is (typeAt (T .signature .result) (y .0 .0)) r′ (u′ ∷ [])
+      → Seq K W (‵ (typeAt (T .signature .result) (y .0 .0) .own r′ (u′ ∷ [])) ∷ raw (alive 𝓤 H A (T .signature) (y .0 .0) (y .0 .1)) ∷ Γ) (lands C Λ E d u′ rest q))
       val ρ k r e u (ap only (tells r (u ∷ []) is)) is)))
 
 -- at these arguments the callee asks nothing more, and tells φ of its result

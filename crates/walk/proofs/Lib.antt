@@ -4,6 +4,5 @@ pub mod ThinM
 pub mod ThinVmm
 pub mod ThinVv
 pub mod Item
-pub mod Padding
 pub mod Tabled
 pub mod GatherRows

@@ -61,23 +61,35 @@ module _ {R : RattleType} (v : Valued R) where
   typed 𝓤 H A W x u is = subst (λ (τs : List Ty). Typed τs (u ∷ [])) (v .low .layout-is) (v .lawful 𝓤 H A W .typed x (u ∷ []) is) .0
 
 -- a struct's, an enum's and a number's
-abbrev pub of-struct : (D : struct.Declared) (L : LL.Laws D) → Lowered (struct.row D) → Plains (struct.fields D) → ((x : struct.row D .Denot) (f : Last (struct.row D .exit yes) x) → left (struct.row D .exit yes) x f ≡ ftrue) → Valued (struct.row D)
+abbrev pub of-struct : (D : struct.Declared) (L : LL.Laws D) → Lowered (struct.row D) → Plains (struct.fields D)
+    → ((x : struct.row D .Denot) (f : Last (struct.row D .exit yes) x) → left (struct.row D .exit yes) x f ≡ ftrue) → Valued (struct.row D)
 of-struct D L low pl silent = record { low = low; lawful = LL.lawful D L; makes = λ 𝓤 H A W. LL.makes D pl 𝓤 H A; silent = silent }
 
-abbrev pub of-enum : (D : enum.Declared) (L : EL.Laws D) → Few (enum.shape D) → Lowered (enum.row D) → Plainss (enum.variants D) → ((x : enum.row D .Denot) (f : Last (enum.row D .exit yes) x) → left (enum.row D .exit yes) x f ≡ ftrue) → Valued (enum.row D)
+abbrev pub of-enum : (D : enum.Declared) (L : EL.Laws D) → Few (enum.shape D) → Lowered (enum.row D) → Plainss (enum.variants D)
+    → ((x : enum.row D .Denot) (f : Last (enum.row D .exit yes) x) → left (enum.row D .exit yes) x f ≡ ftrue) → Valued (enum.row D)
 of-enum D L few low pl silent = record { low = low; lawful = λ 𝓤 H A W. EL.lawful D L 𝓤 H A W few; makes = λ 𝓤 H A W. EL.makes D pl 𝓤 H A; silent = silent }
 
 abbrev pub of-uint : (w : Width) → Valued (UInt w)
-of-uint w = record { low = record { mir = tyInt w; lowered = vint w; layout-is = refl; val-is = uint-tells w }; lawful = λ 𝓤 H A W. uint-lawful 𝓤 H A W w; makes = λ 𝓤 H A W. uint-makes 𝓤 H A W w; silent = λ x f. refl }
+of-uint w = record {
+  low = record { mir = tyInt w; lowered = vint w; layout-is = refl; val-is = uint-tells w };
+  lawful = λ 𝓤 H A W. uint-lawful 𝓤 H A W w;
+  makes = λ 𝓤 H A W. uint-makes 𝓤 H A W w;
+  silent = λ x f. refl;
+}
 
 -- from fact to fact
 pub fact-to : {M : Type 1} (𝓤 : URA M) {φ ψ : Type 0} → (φ → ψ) → ent 𝓤 (fact 𝓤 φ) (fact 𝓤 ψ)
 fact-to 𝓤 {φ} {ψ} h = fact-use 𝓤 φ (id⊢ 𝓤 (fact 𝓤 φ)) (λ x. factI 𝓤 ψ (fact 𝓤 φ) (h x))
 
 -- how a walk ends, with the clause first
-pub ends-with : {M : Type 1} (𝓤 : URA M) (H : Heap 𝓤) (A : Atoms 𝓤) (T : Ended) (hs : Stays (T .signature .params) (T .kept)) (c : Clauses 𝓤 T) → Given 𝓤 H A → (y : walkOf 𝓤 H A T hs c .Ghost) (v : Val) (r : Res (T .signature) (y .0 .0)) (ws : Lasts T (y .0 .0) (y .0 .3)) → Fit T hs (y .0 .0) (y .0 .3) ws
-    → ent 𝓤 (sep 𝓤 (c (y .0 .0) (y .0 .3) .ensures (y .1) r (atExit T (y .0 .0) (y .0 .3) ws)) (onExit 𝓤 H A T hs (y .0 .0) (y .0 .1) (y .0 .4) v r (y .0 .3) ws)) (walkOf 𝓤 H A T hs c .post y v)
-ends-with 𝓤 H A T hs c W y v r ws fits = via 𝓤 _ (comm∗ 𝓤 (c (y .0 .0) (y .0 .3) .ensures (y .1) r (atExit T (y .0 .0) (y .0 .3) ws)) (onExit 𝓤 H A T hs (y .0 .0) (y .0 .1) (y .0 .4) v r (y .0 .3) ws)) (ends-at 𝓤 H A T hs c W y v r ws fits)
+pub ends-with : {M : Type 1} (𝓤 : URA M) (H : Heap 𝓤) (A : Atoms 𝓤) (T : Ended) (hs : Stays (T .signature .params) (T .kept)) (c : Clauses 𝓤 T) → Given 𝓤 H A
+    → (y : walkOf 𝓤 H A T hs c .Ghost) (v : Val) (r : Res (T .signature) (y .0 .0)) (ws : Lasts T (y .0 .0) (y .0 .3)) → Fit T hs (y .0 .0) (y .0 .3) ws
+    → ent 𝓤 (sep 𝓤 (c (y .0 .0) (y .0 .3) .ensures (y .1) r (atExit T (y .0 .0) (y .0 .3) ws)) (onExit 𝓤 H A T hs (y .0 .0) (y .0 .1) (y .0 .4) v r (y .0 .3) ws))
+    (walkOf 𝓤 H A T hs c .post y v)
+ends-with 𝓤 H A T hs c W y v r ws fits =
+    via 𝓤 _
+    (comm∗ 𝓤 (c (y .0 .0) (y .0 .3) .ensures (y .1) r (atExit T (y .0 .0) (y .0 .3) ws)) (onExit 𝓤 H A T hs (y .0 .0) (y .0 .1) (y .0 .4) v r (y .0 .3) ws))
+    (ends-at 𝓤 H A T hs c W y v r ws fits)
 
 -- ---- `gather`: its signature, and what is asked of its contract
 abbrev pub Gather : RattleType → RattleType → Ended

@@ -12,13 +12,14 @@ use Rattle.kinds.specs.declared.Answer.the-variants.{Accepted}
 use Rattle.rule.specs.Rule.{Shortest}
 use Rattle.kinds.specs.declared.Verdict.the-variants as verdict
 use Rattle.plan.specs.Plan.{Meets}
-use Rattle.wide.specs.declared.WideTask.{WideTask}
-use Rattle.wide.specs.declared.WideTable.{WideTable}
-use Rattle.wide.specs.WideTask.{at}
-use Rattle.wide.specs.Cores.{shareAt, periodAt, coresAt, Fewest}
-use Rattle.wide.specs.Table.{fullCompression, passesAt, periodsAt, coreCountsAt, GoodTable}
+use Rattle.wide_task.specs.declared.WideTask.{WideTask}
+use Rattle.wide_task.specs.declared.WideTable.{WideTable}
+use Rattle.wide_task.specs.WideTask.{at}
+use Rattle.wide_task.specs.Cores.{shareAt, periodAt, coresAt, Fewest}
+use Rattle.wide.specs.Table.{fullCompression, passesAt, periodsAt, coreCountsAt}
+use Rattle.wide.specs.Handover.{GoodTable}
 use Rattle.wide.specs.Wide.{admission, found, outcome}
-use Rattle.wide.proofs.Tasks.{shortest, fewest}
+use Rattle.wide_task.proofs.Tasks.{shortest, fewest}
 use Rattle.wide.proofs.Tables.{good-table}
 use Rattle.wide.proofs.Passing.{step-at, step-nothing, nothing-passes}
 use Rattle.wide.proofs.Found.{accepting, refused-seven}

@@ -23,10 +23,11 @@ use Rattle.admission.specs.Admission.{andThen, misset, gate}
 use Rattle.admission.proofs.Chain.{Few, unchecked, gate-passed, roomy-passed, then-admitted}
 use Rattle.plan.specs.Plan.{decided, Meets}
 use Rattle.plan.proofs.Found.{decided-accepted}
-use Rattle.wide.specs.declared.WideTask.{WideTask}
-use Rattle.wide.specs.declared.WideTable.{WideTable}
+use Rattle.wide_task.specs.declared.WideTask.{WideTask}
+use Rattle.wide_task.specs.declared.WideTable.{WideTable}
 use Rattle.wide.specs.Table.{firstBad, leastStep}
-use Rattle.wide.specs.Wide.{admission, found, outcome, MayGrant, Leaves}
+use Rattle.wide.specs.Wide.{admission, found, outcome}
+use Rattle.wide.specs.Handover.{MayGrant, Leaves}
 use Rattle.wide.proofs.Tables.{good-table}
 use Rattle.wide.proofs.Passing.{cores-fit, step-at}
 

@@ -1,5 +1,3 @@
-pub mod Records
-pub mod Tasks
 pub mod Tables
 pub mod Passing
 pub mod Found

@@ -16,8 +16,8 @@ use Rattle.admission.specs.Admission.{andThen, misset, gate, roomy}
 use Rattle.admission.proofs.Chain.{gate-passed, then-admitted}
 use Rattle.plan.specs.Plan.{decided, Meets}
 use Rattle.plan.proofs.Outcomes as plan
-use Rattle.wide.specs.declared.WideTask.{WideTask}
-use Rattle.wide.specs.WideTask.{at}
+use Rattle.wide_task.specs.declared.WideTask.{WideTask}
+use Rattle.wide_task.specs.WideTask.{at}
 use Rattle.wide.specs.Table.{leastStep, periodsAt, coreCountsAt}
 use Rattle.wide.specs.Wide.{recordsGood, admission, found, outcome}
 use Rattle.wide.proofs.Tables.{bad-same, step-same, periods-same, core-counts-same}

@@ -12,11 +12,11 @@ use Rattle.ground.specs.Least.{LeastAt, Rising}
 use Rattle.kinds.specs.Limits.{mostProcessors}
 use Rattle.ground.proofs.Folds.{sum-le, term-le-sum}
 use Rattle.ground.proofs.Least.{least-at, least-none, least-nothing}
-use Rattle.wide.specs.declared.WideTask.{WideTask}
-use Rattle.wide.specs.WideTask.{at, Good}
-use Rattle.wide.specs.Cores.{coresAt}
+use Rattle.wide_task.specs.declared.WideTask.{WideTask}
+use Rattle.wide_task.specs.WideTask.{at, Good}
+use Rattle.wide_task.specs.Cores.{coresAt}
 use Rattle.wide.specs.Table.{fullCompression, coresSum, passesAt, leastStep}
-use Rattle.wide.proofs.Tasks.{cores-two, cores-fall}
+use Rattle.wide_task.proofs.Tasks.{cores-two, cores-fall}
 
 -- passing says that the cores fit
 pub cores-fit : (m : ℕ) (rows : List WideTask) (n k : ℕ) → passesAt m rows n k ≡ true → coresSum rows n k ≤ m

@@ -1,26 +1,29 @@
 -- What is said of full compression, of the first bad record and of the sum of the cores, and the walks over a table that work them out.
 -- Assumes nothing.
-use Prim.Native.Nat.{ℕ, _+_, _≤_, _<_, max}
+use Prim.Native.Nat.{ℕ, _+_, _≤_, _<_}
 use mathlib.Core.Bool.{Bool, true, false, not}
 use mathlib.Core.List.{List}
 use mathlib.Core.Path.{_≡_, sym, ap, _∙_}
 use native.Mathlib.Omega.{arith}
 use lib.Dec.{leb}
 use Rattle.ground.specs.First.{IsFirst}
+use Rattle.ground.specs.Folds.{maxTo}
 use Rattle.ground.specs.Least.{leastUpTo}
 use Rattle.ground.proofs.Buffer.{list-cong}
 use Rattle.ground.proofs.Cases.{by-bool, true-false}
 use Rattle.ground.proofs.First.{first-is, first-cong}
-use Rattle.ground.proofs.Folds.{sum-none, sum-more, sum-cong, max-none, max-more, max-to-le, max-cong}
+use Rattle.ground.proofs.Folds.{sum-none, sum-more, sum-cong, max-to-le, max-cong}
 use Rattle.ground.proofs.Least.{least-cong}
 use Rattle.kinds.specs.Limits.{mostTasks}
-use Rattle.wide.specs.declared.WideTask.{WideTask}
-use Rattle.wide.specs.declared.WideTable.{WideTable}
-use Rattle.wide.specs.WideTask.{at, Good, isGood}
-use Rattle.wide.specs.Cores.{saturationAt, periodAt, coresAt, StepIs, CoresIs}
-use Rattle.wide.specs.Table.{fullCompression, firstBad, coresSum, passesAt, leastStep, periodsAt, coreCountsAt, GoodTable, SumIs}
-use Rattle.wide.proofs.Records.{good-is}
-use Rattle.wide.proofs.Tasks.{saturation-most}
+use Rattle.wide_task.specs.declared.WideTask.{WideTask}
+use Rattle.wide_task.specs.declared.WideTable.{WideTable}
+use Rattle.wide_task.specs.WideTask.{at, Good, isGood}
+use Rattle.wide_task.specs.Cores.{saturationAt, periodAt, coresAt}
+use Rattle.wide_task.specs.Handover.{StepIs, CoresIs}
+use Rattle.wide.specs.Table.{fullCompression, firstBad, coresSum, passesAt, leastStep, periodsAt, coreCountsAt}
+use Rattle.wide.specs.Handover.{GoodTable, SumIs}
+use Rattle.wide_task.proofs.Records.{good-is}
+use Rattle.wide_task.proofs.Tasks.{saturation-most}
 
 -- Ask 4: "K is at most 14,999,999"
 pub full-most : (rows : List WideTask) (n : ℕ) → ((i : ℕ) → i < n → Good (at rows i)) → fullCompression rows n ≤ 14999999
@@ -28,19 +31,11 @@ unfolding fullCompression
 full-most rows n g =
     max-to-le (λ i. saturationAt (at rows i)) n 14999999 (λ i l. omega (arith, saturation-most (at rows i) (g i l)))
 
--- the walk that works K out
-pub full-start : (rows : List WideTask) → StepIs (fullCompression rows 0) 0
+-- the walk that works K out has done so
+pub full-done : (t : WideTable) (greatest : ℕ) → GoodTable t → greatest ≡ maxTo (λ j. saturationAt (at (t .rows) j)) (t .n)
+    → StepIs (fullCompression (t .rows) (t .n)) greatest
 unfolding fullCompression
-full-start rows = record { is = sym (max-none (λ j. saturationAt (at rows j))); most = omega arith }
-
-pub full-more : (rows : List WideTask) (i greatest s r : ℕ) → StepIs (fullCompression rows i) greatest → StepIs (saturationAt (at rows i)) s
-    → r ≡ max greatest s → StepIs (fullCompression rows (i + 1)) r
-unfolding fullCompression
-full-more rows i greatest s r p q e =
-    record {
-      is = omega (arith, max-more (λ j. saturationAt (at rows j)) i, p .is, q .is);
-      most = omega (arith, p .most, q .most);
-    }
+full-done t greatest g e = record { is = e; most = omega (arith, e, full-most (t .rows) (t .n) (g .good)) }
 
 -- the walk that adds the cores up
 pub sum-start : (rows : List WideTask) (k : ℕ) → SumIs rows 0 k 0

@@ -10,10 +10,10 @@ use Rattle.ground.specs.Folds.{sumTo, maxTo, listTo}
 use Rattle.ground.specs.Least.{leastUpTo}
 use Rattle.admission.specs.Admission.{gate}
 use Rattle.plan.specs.Plan.{Outcome}
-use Rattle.wide.specs.declared.WideTask.{WideTask}
-use Rattle.wide.specs.Limits.{mostShare, mostSteps, mostCores}
-use Rattle.wide.specs.WideTask.{wideTask, isGood}
-use Rattle.wide.specs.Cores.{coresOf, largestOf, shareAt, saturationAt, periodAt, coresAt}
+use Rattle.wide_task.specs.declared.WideTask.{WideTask}
+use Rattle.wide_task.specs.Limits.{mostShare, mostSteps, mostCores}
+use Rattle.wide_task.specs.WideTask.{wideTask, isGood}
+use Rattle.wide_task.specs.Cores.{coresOf, largestOf, shareAt, saturationAt, periodAt, coresAt}
 use Rattle.wide.specs.Table.{fullCompression, firstBad, coresSum, passesAt, leastStep, periodsAt, coreCountsAt}
 use Rattle.wide.specs.Wide.{admission, found, outcome}
 
@@ -102,5 +102,6 @@ bench =
     ∷ []
 
 pub bench-right : Right bench
-unfolding bench outcome found admission gate leastStep leastUpTo firstBelow firstFrom passesAt coresSum fullCompression firstBad sumTo maxTo listTo periodsAt coreCountsAt shareAt saturationAt periodAt coresAt isGood
+unfolding bench outcome found admission gate leastStep leastUpTo firstBelow firstFrom passesAt coresSum fullCompression firstBad sumTo maxTo
+    listTo periodsAt coreCountsAt shareAt saturationAt periodAt coresAt isGood
 bench-right = (refl, (refl, (refl, (refl, (refl, (refl, (refl, (refl, (refl, (refl, (refl, (refl, (refl, (refl, (refl, tt)))))))))))))))

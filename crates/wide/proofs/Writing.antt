@@ -10,9 +10,9 @@ use Rattle.kinds.specs.declared.Answer.{Answer}
 use Rattle.kinds.specs.declared.Answer.the-variants.{Accepted, Refused}
 use Rattle.kinds.specs.Answer.{handed, isAccepted, stepOf}
 use Rattle.plan.proofs.Writing.{written-kept}
-use Rattle.wide.specs.declared.WideTask.{WideTask}
+use Rattle.wide_task.specs.declared.WideTask.{WideTask}
 use Rattle.wide.specs.Table.{periodsAt, coreCountsAt}
-use Rattle.wide.specs.Wide.{Leaves}
+use Rattle.wide.specs.Handover.{Leaves}
 
 -- a refused call writes nothing
 pub leaves-refused : (a : Answer) (rows : List WideTask) (n : ℕ) (periods cores : List ℕ) → isAccepted a ≡ false

@@ -1,5 +1,3 @@
-pub mod Limits
-pub mod WideTask
-pub mod Cores
 pub mod Table
 pub mod Wide
+pub mod Handover

@@ -1,20 +1,16 @@
 -- The rules for the first n of some tasks that need several cores: when they pass, and the least step at which they do.
 -- Assumes nothing.
-use Prim.Native.Nat.{ℕ, _*_, _≤_, _<_}
+use Prim.Native.Nat.{ℕ}
 use mathlib.Core.Bool.{Bool, not}
 use mathlib.Core.List.{List}
-use mathlib.Core.Path.{_≡_}
 use lib.Dec.{leb}
 use Rattle.ground.specs.declared.Step.{Step}
 use Rattle.ground.specs.First.{firstBelow}
 use Rattle.ground.specs.Folds.{sumTo, maxTo, listTo}
 use Rattle.ground.specs.Least.{leastUpTo}
-use Rattle.kinds.specs.Limits.{mostTasks}
-use Rattle.wide.specs.declared.WideTask.{WideTask}
-use Rattle.wide.specs.declared.WideTable.{WideTable}
-use Rattle.wide.specs.Limits.{mostCores}
-use Rattle.wide.specs.WideTask.{at, Good, isGood}
-use Rattle.wide.specs.Cores.{saturationAt, periodAt, coresAt}
+use Rattle.wide_task.specs.declared.WideTask.{WideTask}
+use Rattle.wide_task.specs.WideTask.{at, isGood}
+use Rattle.wide_task.specs.Cores.{saturationAt, periodAt, coresAt}
 
 -- K: the greatest saturation step, 0 if there is none
 unfoldable pub fullCompression : List WideTask → ℕ → ℕ
@@ -42,13 +38,3 @@ periodsAt rows n k = listTo (λ i. periodAt (at rows i) k) n
 
 unfoldable pub coreCountsAt : List WideTask → ℕ → ℕ → List ℕ
 coreCountsAt rows n k = listTo (λ i. coresAt (at rows i) k) n
-
--- a table by value that the rules may be asked of
-pub record GoodTable (t : WideTable) : Type 0 where
-  pub few : t .n ≤ mostTasks
-  pub good : (i : ℕ) → i < t .n → Good (at (t .rows) i)
-
--- the sum of the first n, with the bound that its callers need
-pub record SumIs (rows : List WideTask) (n k r : ℕ) : Type 0 where
-  pub is : r ≡ coresSum rows n k
-  pub most : r ≤ mostCores * n

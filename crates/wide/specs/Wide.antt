@@ -1,23 +1,18 @@
 -- Demand 2 on a table of tasks that need several cores, whole: what the finder hands back and what it leaves in the two lent outputs, for
 -- every input.
 -- Assumes nothing.
-use Prim.Native.Nat.{ℕ, _≤_, min}
-use mathlib.Core.Bool.{true}
+use Prim.Native.Nat.{ℕ, min}
 use mathlib.Core.List.{List}
-use mathlib.Core.Path.{_≡_}
 use lib.Dec.{ltb}
 use lib.ListN.{length}
-use Rattle.kinds.specs.declared.Answer.{Answer}
 use Rattle.kinds.specs.declared.Refusal.the-variants.{BadRecord}
-use Rattle.kinds.specs.Answer.{Handed, check, after, isAccepted, stepOf}
-use Rattle.kinds.specs.Limits.{mostProcessors}
+use Rattle.kinds.specs.Answer.{Handed, check, after}
 use Rattle.kinds.specs.declared.Verdict.{Verdict}
 use Rattle.kinds.specs.declared.Verdict.the-variants.{Accepted, Refused}
 use Rattle.admission.specs.Admission.{andThen, misset, gate, roomy}
 use Rattle.plan.specs.Plan.{decided, Outcome}
-use Rattle.wide.specs.declared.WideTask.{WideTask}
-use Rattle.wide.specs.declared.WideTable.{WideTable}
-use Rattle.wide.specs.Table.{firstBad, coresSum, leastStep, periodsAt, coreCountsAt, GoodTable}
+use Rattle.wide_task.specs.declared.WideTask.{WideTask}
+use Rattle.wide.specs.Table.{firstBad, leastStep, periodsAt, coreCountsAt}
 
 -- 6
 abbrev pub recordsGood : List WideTask → ℕ → Verdict
@@ -43,19 +38,3 @@ unfoldable pub outcome : ℕ → List WideTask → ℕ → List ℕ → List ℕ
 outcome m rows n periods cores =
     let h = found m rows n (min (length periods) (length cores)) in
     record { handed = h; periods = periodsAfter h rows n periods; processors = coresAfter h rows n cores }
-
--- what the writing of an accepted step k relies on
-pub record Grantable (t : WideTable) (k periods cores : ℕ) : Type 0 where
-  pub table : GoodTable t
-  pub roomy : t .n ≤ periods
-  pub roomy-cores : t .n ≤ cores
-  pub fits : coresSum (t .rows) (t .n) k ≤ mostProcessors
-
--- what the writing of an answer leaves in the two outputs
-pub record Leaves (h : Handed ℕ) (rows : List WideTask) (n : ℕ) (oldPeriods oldCores periods cores : List ℕ) : Type 0 where
-  pub periods-are : periods ≡ periodsAfter h rows n oldPeriods
-  pub cores-are : cores ≡ coresAfter h rows n oldCores
-
--- an accepted answer may be written
-abbrev pub MayGrant : Answer → WideTable → ℕ → ℕ → Type 0
-MayGrant answer t periods cores = isAccepted answer ≡ true → Grantable t (stepOf answer) periods cores

@@ -1,139 +1,21 @@
-// Ask 4: jobs that need several cores. The second kind of task, its rules by the leaf functions of `rule`, and its finder, which halves
-// the range of steps. The promise of `find` is `outcome` of `specs/Wide`.
+// Ask 4: the finder of jobs that need several cores, by the rules of `wide_task` for one of them. It halves the range of steps. The promise
+// of `find` is `outcome` of `specs/Wide`.
 use ground::Step;
 use kinds::Answer;
 use kinds::Refusal;
-use kinds::Share;
-use kinds::Table;
-use kinds::Task;
 use kinds::Verdict;
-ghost use mathlib.Core.Bool.{false};
+use wide_task::WideTable;
 ghost use mathlib.Core.List.{_++_};
 ghost use mathlib.Core.Path.{_≡_};
 ghost use Prim.Native.Nat.{_≤_};
 ghost use lib.ListN.{length, drop};
 ghost use Rattle.kinds.specs.Answer.{handed};
-ghost use Rattle.kinds.specs.Limits.{longestPeriod, greatestElasticity, mostTasks, mostProcessors};
+ghost use Rattle.kinds.specs.Limits.{mostTasks, mostProcessors};
 ghost use Rattle.plan.specs.Plan.{Meets};
-ghost use Rattle.wide.specs.Limits.{mostTmins};
-ghost use Rattle.wide.specs.WideTask.{wideTask, Good, isGood};
-ghost use Rattle.wide.specs.Cores.{largestOf, leastOf, shareAt, saturationAt, ShareIs, StepIs, PeriodIs, CoresIs};
-ghost use Rattle.wide.specs.Table.{fullCompression, firstBad, coresSum, passesAt, leastStep, periodsAt, coreCountsAt, GoodTable, SumIs};
-ghost use Rattle.wide.specs.Wide.{admission, found, outcome, MayGrant, Leaves};
-
-// A task that needs several cores: cost C, span L, shortest and longest period, elasticity E. Any numbers may stand in it.
-#[repr(C)]
-pub struct WideTask {
-    pub c: u64,
-    pub l: u32,
-    pub tmin: u32,
-    pub tmax: u32,
-    pub e: u32,
-}
-
-impl WideTask {
-    // Ask 4: "C at most 16 × Tmin".
-    pub const MOST_TMINS: u64 = 16;
-
-    pub const LONGEST_PERIOD: u32 = Task::LONGEST_PERIOD;
-
-    pub const GREATEST_ELASTICITY: u32 = Task::GREATEST_ELASTICITY;
-
-    pub fn new(c: u64, l: u32, tmin: u32, tmax: u32, e: u32) -> WideTask
-        ensures { λ r. ⌜ r ≡ wideTask c l tmin tmax e ⌝ }
-    {
-        WideTask {
-            c,
-            l,
-            tmin,
-            tmax,
-            e,
-        }
-    }
-
-    // Ask 4: "1 ≤ L < Tmin, L < C, Tmax < C, C at most 16 × Tmin, and Tmax and E as in 01".
-    pub fn good(self) -> bool
-        ensures { λ r. ⌜ r ≡ isGood self ⌝ }
-    {
-        let costliest = WideTask::MOST_TMINS * ground::widened(self.tmin);
-        1 <= self.l
-            && self.l < self.tmin
-            && (self.l as u64) < self.c
-            && (self.tmax as u64) < self.c
-            && self.c <= costliest
-            && self.tmin <= self.tmax
-            && self.tmax <= WideTask::LONGEST_PERIOD
-            && self.e <= WideTask::GREATEST_ELASTICITY
-    }
-}
-
-// A table of such tasks by value: room for the most tasks, of which the first n count. A lent count may be greater than the room.
-pub struct WideTable {
-    pub rows: [WideTask; Table::MOST_TASKS],
-    pub n: usize,
-}
-
-// The limits that definitions name are those that the code names.
-pub fn limits()
-    ensures { λ _. do ⌜ (← ⟦WideTask::MOST_TMINS⟧ .entry) ≡ mostTmins ⌝ }
-    ensures { λ _. do ⌜ (← ⟦WideTask::LONGEST_PERIOD⟧ .entry) ≡ longestPeriod ⌝ }
-    ensures { λ _. do ⌜ (← ⟦WideTask::GREATEST_ELASTICITY⟧ .entry) ≡ greatestElasticity ⌝ }
-{}
-
-// Document 01: "Largest share: C × S / Tmin rounded up."
-fn largest(task: WideTask) -> Share
-    requires { ⌜ Good task ⌝ }
-    ensures { λ r. ⌜ ShareIs (largestOf task) (r .parts) ⌝ }
-{
-    Share::new(rule::part(task.c, task.tmin))
-}
-
-// Document 01: "Least share: C × S / Tmax rounded up."
-fn least(task: WideTask) -> Share
-    requires { ⌜ Good task ⌝ }
-    ensures { λ r. ⌜ ShareIs (leastOf task) (r .parts) ⌝ }
-{
-    Share::new(rule::part(task.c, task.tmax))
-}
-
-// The share at any step, which is above one processor's.
-fn share_at(task: WideTask, k: u32) -> Share
-    requires { ⌜ Good task ⌝ }
-    ensures { λ r. ⌜ ShareIs (shareAt task k) (r .parts) ⌝ }
-{
-    let high = largest(task);
-    let low = least(task);
-    Share::new(rule::share_at(high.parts, low.parts, task.e, k))
-}
-
-// The saturation step; 0 where the elasticity is 0.
-fn saturation(task: WideTask) -> u32
-    requires { ⌜ Good task ⌝ }
-    ensures { λ r. ⌜ StepIs (saturationAt task) r ⌝ }
-{
-    let high = largest(task);
-    let low = least(task);
-    rule::saturation(high.parts, low.parts, task.e) as u32
-}
-
-// The period at any step.
-fn period_at(task: WideTask, k: u32) -> u32
-    requires { ⌜ Good task ⌝ }
-    ensures { λ r. ⌜ PeriodIs task k r ⌝ }
-{
-    let share = share_at(task, k);
-    rule::period(task.c, task.tmin, share.parts) as u32
-}
-
-// The cores needed at any step: (C − L) / (T − L) rounded up, T the period at that step.
-fn cores_at(task: WideTask, k: u32) -> u64
-    requires { ⌜ Good task ⌝ }
-    ensures { λ r. ⌜ CoresIs task k r ⌝ }
-{
-    let l = ground::widened(task.l);
-    let t = ground::widened(period_at(task, k));
-    ground::ceil_div(task.c - l, t - l)
-}
+ghost use Rattle.wide_task.specs.Handover.{StepIs};
+ghost use Rattle.wide.specs.Table.{fullCompression, firstBad, coresSum, passesAt, leastStep, periodsAt, coreCountsAt};
+ghost use Rattle.wide.specs.Wide.{admission, found, outcome};
+ghost use Rattle.wide.specs.Handover.{GoodTable, SumIs, MayGrant, Leaves};
 
 // Document 01: "Full compression K: the greatest saturation step, 0 if there is none."
 fn full_compression(table: WideTable) -> u32
@@ -143,7 +25,7 @@ fn full_compression(table: WideTable) -> u32
     let n = table.n;
     let mut greatest: u32 = 0;
     for i in 0..n {
-        greatest = ground::later(greatest, saturation(table.rows[i]));
+        greatest = ground::later(greatest, wide_task::saturation(table.rows[i]));
     }
     greatest
 }
@@ -170,7 +52,7 @@ fn cores_sum(table: WideTable, k: u32) -> u64
     let n = table.n;
     let mut sum: u64 = 0;
     for i in 0..n {
-        sum += cores_at(table.rows[i], k);
+        sum += wide_task::cores_at(table.rows[i], k);
     }
     sum
 }
@@ -241,7 +123,7 @@ fn write_periods(table: WideTable, k: u32, out: &mut [u32])
 {
     let n = table.n;
     for i in 0..n {
-        out[i] = period_at(table.rows[i], k);
+        out[i] = wide_task::period_at(table.rows[i], k);
     }
 }
 
@@ -252,7 +134,7 @@ fn write_cores(table: WideTable, k: u32, out: &mut [u16])
 {
     let n = table.n;
     for i in 0..n {
-        out[i] = cores_at(table.rows[i], k) as u16;
+        out[i] = wide_task::cores_at(table.rows[i], k) as u16;
     }
 }
 

@@ -2,8 +2,8 @@
 // table and filled with 7 and 9, so that the entry after the last task shows whether it was written.
 use kinds::Table;
 use show::LENT;
-use wide::WideTable;
-use wide::WideTask;
+use wide_task::WideTable;
+use wide_task::WideTask;
 
 // One call, with what it answers and leaves in both outputs.
 fn run(name: &[u8], m: u16, table: WideTable) {

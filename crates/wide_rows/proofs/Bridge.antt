@@ -5,12 +5,11 @@ use mathlib.Core.List.{List}
 use mathlib.Core.Path.{_≡_}
 use lib.ListN.{length}
 use Rattle.kinds.specs.Limits.{mostTasks}
-use Rattle.wide.specs.declared.WideTask.{WideTask}
-use Rattle.wide.specs.WideTask.{noWideTask}
+use Rattle.wide_task.specs.declared.WideTask.{WideTask}
+use Rattle.wide_task.specs.WideTask.{noWideTask, tableOf}
 use Rattle.wide.specs.Wide.{outcome}
 use Rattle.wide.proofs.Outcomes.{outcome-same}
-use Rattle.walk.proofs.Padding.{padded-at}
-use Rattle.wide_rows.specs.Gathered.{tableOf}
+use Rattle.ground.proofs.Padding.{padded-at}
 
 pub outcome-over : (m : ℕ) (rows : List WideTask) (periods cores : List ℕ)
     → outcome m (tableOf rows .rows) (length rows) periods cores ≡ outcome m rows (length rows) periods cores

@@ -5,9 +5,9 @@ use prog.Model.{Model}
 use prog.Wp.{Heap}
 use contract.Running.{GhostRules, Running}
 use Rattle.walk.proofs.Thin.{id⊢, Gathered}
-use Rattle.wide.proofs.WideTable as T
-use Rattle.wide.proofs.WideTask as P
-use Rattle.wide_rows.specs.Gathered.{tableOf}
+use Rattle.wide_task.proofs.WideTable as T
+use Rattle.wide_task.proofs.WideTask as P
+use Rattle.wide_task.specs.WideTask.{tableOf}
 use Rattle.wide_rows.proofs.Values.{table}
 use Rattle.wide_rows.proofs.gather as gather
 use Rattle.wide_rows.proofs.gather.Symbol as gather-def

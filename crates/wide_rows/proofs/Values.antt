@@ -4,10 +4,10 @@ use mathlib.Core.Path.{refl}
 use Rattle.walk.proofs.Thin.{Valued, of-struct, of-enum}
 use Rattle.kinds.proofs.Answer as A
 use Rattle.kinds.proofs.Answer.Laws as A′
-use Rattle.wide.proofs.WideTable as T
-use Rattle.wide.proofs.WideTable.Laws as T′
-use Rattle.wide.proofs.WideTask as P
-use Rattle.wide.proofs.WideTask.Laws as P′
+use Rattle.wide_task.proofs.WideTable as T
+use Rattle.wide_task.proofs.WideTable.Laws as T′
+use Rattle.wide_task.proofs.WideTask as P
+use Rattle.wide_task.proofs.WideTask.Laws as P′
 
 abbrev pub task : Valued P.the-row
 task = of-struct P.the-type P′.the-laws P′.lowers P′.the-plain (λ x f. refl)

@@ -7,11 +7,11 @@ ghost use lib.ListN.{length};
 ghost use Rattle.kinds.specs.Limits.{mostTasks};
 ghost use Rattle.plan.specs.Plan.{Meets};
 ghost use Rattle.wide.specs.Wide.{outcome};
-ghost use Rattle.wide_rows.specs.Gathered.{tableOf, tableWith};
+ghost use Rattle.wide_task.specs.WideTask.{tableOf, tableWith};
 use kinds::Answer;
 use kinds::Table;
-use wide::WideTable;
-use wide::WideTask;
+use wide_task::WideTable;
+use wide_task::WideTask;
 
 // How many of n rows a table takes.
 fn capped(n: usize) -> usize
@@ -28,15 +28,8 @@ fn capped(n: usize) -> usize
 fn empty(n: usize) -> WideTable
     ensures { λ r. ⌜ r ≡ tableWith [] n ⌝ }
 {
-    let unused = WideTask {
-        c: 0,
-        l: 0,
-        tmin: 0,
-        tmax: 0,
-        e: 0,
-    };
     WideTable {
-        rows: [unused; Table::MOST_TASKS],
+        rows: [WideTask::NONE; Table::MOST_TASKS],
         n,
     }
 }
@@ -58,7 +51,8 @@ pub fn gather(rows: &[WideTask]) -> WideTable
 
 // The finder over lent rows. More rows than a table takes are refused by 3 at their number.
 pub fn find_wide(rows: &[WideTask], m: u16, periods: &mut [u32], cores: &mut [u16]) -> Answer
-    ensures { λ r. ⌜ Meets (outcome m (now (rows .entry)) (length (now (rows .entry))) (now (periods .entry)) (now (cores .entry))) r (now (periods .exit)) (now (cores .exit)) ⌝ }
+    ensures { λ r. ⌜ Meets (outcome m (now (rows .entry)) (length (now (rows .entry))) (now (periods .entry)) (now (cores .entry)))
+        r (now (periods .exit)) (now (cores .exit)) ⌝ }
 {
     wide::find(gather(rows), m, periods, cores)
 }

@@ -1,24 +1,23 @@
 -- `clock::clock_from` meets its contract. Assumes nothing.
 use Prim.Native.Nat.{ℕ, _-_, _≤_}
 use mathlib.Core.List.{List}
-use mathlib.Core.Path.{_≡_, refl}
+use mathlib.Core.Path.{_≡_, refl, sym, _∙_}
 use native.Mathlib.Omega.{arith}
-use lib.ListN.{length, replicate}
-use Rattle.ground.proofs.Buffer.{Front, front-none, front-more}
-use Rattle.kinds.specs.Limits.{mostTasks}
-use Rattle.clock.specs.Start.{every, clockFrom}
+use lib.ListN.{length, getD, replicate, length-replicate, getD-replicate}
+use Rattle.clock.specs.Start.{clockFrom}
+use Rattle.clock.proofs.Starts.{Column, column-none, column-more, column-all}
 use Rattle.clock.proofs.clock_from.Statement.{statement}
 use Rattle.clock.proofs.clock_from.Tie as tie
 
 abbrev Inv-loop : tie.InvT-loop
 Inv-loop periods tick n held₀ next₀ i₀ held next i =
-    (i ≤ length periods) × Front (every periods) (replicate mostTasks 0) held i × Front (λ (j : ℕ). tick) (replicate mostTasks 0) next i
+    (i ≤ length periods) × Column periods held i × Column (replicate (length periods) tick) next i
 
 abbrev μ-loop : tie.MeasureT-loop
 μ-loop periods tick n held₀ next₀ i₀ held next i = length periods - i
 
 loop-holds : tie.Need-loop-holds Inv-loop μ-loop
-loop-holds c = (omega arith, front-none _ _, front-none _ _)
+loop-holds c = (omega arith, column-none _, column-none _)
 
 mul-held : tie.Need-mul-held Inv-loop μ-loop
 mul-held c = omega arith
@@ -48,18 +47,23 @@ loop-again : tie.Need-loop-again Inv-loop μ-loop
 loop-again c =
     let b = c .before .before in
     let a = b .before .args in
-    let zeros : List ℕ = replicate mostTasks 0 in (
+    let n = length (a .periods .now) in
+    let ticks : List ℕ = replicate n (a .tick) in
+    let tick : a .tick ≡ getD ticks (b .loop .i) 0 = sym (getD-replicate n (b .loop .i) (a .tick) 0 (omega arith)) in (
       omega arith,
-      front-more (every (a .periods .now)) zeros (b .loop .held) _ _ (omega arith) refl (b .loop .inv .1),
-      front-more (λ (j : ℕ). a .tick) zeros (b .loop .next) _ _ (omega arith) refl (b .loop .inv .2),
+      column-more (a .periods .now) (b .loop .held) _ _ (omega arith) refl (b .loop .inv .1),
+      column-more ticks (b .loop .next) _ _ (omega (arith, length-replicate n (a .tick))) tick (b .loop .inv .2),
     )
 
 returns : tie.Need-returns Inv-loop μ-loop
 unfolding clockFrom
 returns c =
     let l = c .before .loop in
-    let e : l .i ≡ length (c .before .before .args .periods .now) = omega arith in
-    rw (l .inv .1 .is, l .inv .2 .is, e)
+    let a = c .before .before .args in
+    let n = length (a .periods .now) in
+    let e : l .i ≡ n = omega arith in
+    let f : l .i ≡ length (replicate n (a .tick)) = e ∙ sym (length-replicate n (a .tick)) in
+    rw (column-all _ _ _ e (l .inv .1), column-all _ _ _ f (l .inv .2))
 
 pub clock-from-spec : {M : Type 1} → statement M
 clock-from-spec =

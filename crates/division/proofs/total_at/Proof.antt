@@ -3,7 +3,7 @@ use Prim.Native.Nat.{_-_, _≤_}
 use mathlib.Core.Path.{_≡_}
 use native.Mathlib.Omega.{arith}
 use Rattle.kinds.specs.Limits.{scale}
-use Rattle.policy.specs.Sides.{TotalIs}
+use Rattle.policy.specs.Handover.{TotalIs}
 use Rattle.policy.proofs.Totals.{total-none, total-more}
 use Rattle.springs.specs.Spring.{shareOn, sharesOn}
 use Rattle.springs.specs.Columns.{springIn}

@@ -3,7 +3,7 @@ use Prim.Native.Nat.{_-_, _≤_}
 use mathlib.Core.Path.{_≡_, refl}
 use native.Mathlib.Omega.{arith}
 use Rattle.fit.specs.Fit.{loadIn}
-use Rattle.policy.specs.Sides.{TotalIs}
+use Rattle.policy.specs.Handover.{TotalIs}
 use Rattle.policy.proofs.Totals.{total-none, total-more}
 use Rattle.policy.proofs.total_of.Statement.{statement}
 use Rattle.policy.proofs.total_of.Tie as tie

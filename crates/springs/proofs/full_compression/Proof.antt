@@ -1,10 +1,10 @@
 -- `springs::full_compression` meets its contract. Assumes nothing.
 use Prim.Native.Nat.{ℕ, _-_, _≤_}
-use mathlib.Core.Path.{_≡_, sym}
+use mathlib.Core.Path.{_≡_, refl, sym}
 use native.Mathlib.Omega.{arith}
 use lib.ListN.{getD}
 use Rattle.ground.specs.Folds.{maxTo}
-use Rattle.ground.proofs.Folds.{max-none, max-more}
+use Rattle.ground.proofs.Folds.{max-none, max-step}
 use Rattle.springs.proofs.full_compression.Statement.{statement}
 use Rattle.springs.proofs.full_compression.Tie as tie
 
@@ -35,7 +35,7 @@ loop-less c = omega arith
 loop-again : tie.Need-loop-again Inv-loop μ-loop
 loop-again c =
     let l = c .before .before .before in
-    (omega arith, omega (arith, c .later .ensures, l .loop .inv .1, max-more (λ (j : ℕ). getD (l .before .args .saturation .now) j 0) (l .loop .i)))
+    (omega arith, max-step (λ (j : ℕ). getD (l .before .args .saturation .now) j 0) (l .loop .i) _ _ _ (l .loop .inv .1) refl (c .later .ensures))
 
 returns : tie.Need-returns Inv-loop μ-loop
 returns c = let e : c .before .loop .i ≡ c .before .before .args .n = omega arith in rw e at (c .before .loop .inv .1)

@@ -2,7 +2,7 @@
 use Prim.Native.Nat.{_-_, _≤_}
 use mathlib.Core.Path.{_≡_, refl}
 use native.Mathlib.Omega.{arith}
-use Rattle.wide.specs.Table.{SumIs}
+use Rattle.wide.specs.Handover.{SumIs}
 use Rattle.wide.proofs.Tables.{sum-start, sum-next}
 use Rattle.wide.proofs.cores_sum.Statement.{statement}
 use Rattle.wide.proofs.cores_sum.Tie as tie

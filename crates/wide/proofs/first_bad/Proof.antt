@@ -4,7 +4,7 @@ use mathlib.Core.Bool.{false, not}
 use mathlib.Core.Path.{_≡_}
 use native.Mathlib.Omega.{arith}
 use Rattle.ground.proofs.First.{bad-here, bad-more, bad-none}
-use Rattle.wide.specs.WideTask.{at, isGood}
+use Rattle.wide_task.specs.WideTask.{at, isGood}
 use Rattle.wide.specs.Table.{firstBad}
 use Rattle.wide.proofs.first_bad.Statement.{statement}
 use Rattle.wide.proofs.first_bad.Tie as tie

@@ -1,21 +1,23 @@
 -- `wide::full_compression` meets its contract. Assumes nothing.
-use Prim.Native.Nat.{_-_, _≤_}
-use mathlib.Core.Path.{_≡_}
+use Prim.Native.Nat.{ℕ, _-_, _≤_}
+use mathlib.Core.Path.{_≡_, sym}
 use native.Mathlib.Omega.{arith}
-use Rattle.wide.specs.Cores.{StepIs}
-use Rattle.wide.specs.Table.{fullCompression}
-use Rattle.wide.proofs.Tables.{full-start, full-more}
+use Rattle.ground.specs.Folds.{maxTo}
+use Rattle.ground.proofs.Folds.{max-none, max-step}
+use Rattle.wide_task.specs.WideTask.{at}
+use Rattle.wide_task.specs.Cores.{saturationAt}
+use Rattle.wide.proofs.Tables.{full-done}
 use Rattle.wide.proofs.full_compression.Statement.{statement}
 use Rattle.wide.proofs.full_compression.Tie as tie
 
 abbrev Inv-loop : tie.InvT-loop
-Inv-loop table n greatest₀ i₀ greatest i = (i ≤ n) × StepIs (fullCompression (table .rows) i) greatest
+Inv-loop table n greatest₀ i₀ greatest i = (i ≤ n) × (greatest ≡ maxTo (λ (j : ℕ). saturationAt (at (table .rows) j)) i)
 
 abbrev μ-loop : tie.MeasureT-loop
 μ-loop table n greatest₀ i₀ greatest i = n - i
 
 loop-holds : tie.Need-loop-holds Inv-loop μ-loop
-loop-holds c = (omega arith, full-start _)
+loop-holds c = (omega arith, sym (max-none _))
 
 mul-saturation : tie.Need-mul-saturation Inv-loop μ-loop
 mul-saturation c = omega arith
@@ -36,10 +38,16 @@ loop-less : tie.Need-loop-less Inv-loop μ-loop
 loop-less c = omega arith
 
 loop-again : tie.Need-loop-again Inv-loop μ-loop
-loop-again c = (omega arith, full-more _ _ _ _ _ (c .before .before .before .before .loop .inv .1) (c .before .saturation .ensures) (c .later .ensures))
+loop-again c =
+    let l = c .before .before .before .before in
+    let f : ℕ → ℕ = λ j. saturationAt (at (l .before .args .t1 .rows) j) in
+    (omega arith, max-step f (l .loop .i) _ _ _ (l .loop .inv .1) (c .before .saturation .ensures .is) (c .later .ensures))
 
 returns : tie.Need-returns Inv-loop μ-loop
-returns c = let e : c .before .loop .i ≡ c .before .before .args .t1 .n = omega arith in rw e at (c .before .loop .inv .1)
+returns c =
+    let a = c .before .before .args in
+    let e : c .before .loop .i ≡ a .t1 .n = omega arith in
+    full-done (a .t1) _ (c .before .before .pre) (rw e at (c .before .loop .inv .1))
 
 pub full-compression-spec : {M : Type 1} → statement M
 full-compression-spec =

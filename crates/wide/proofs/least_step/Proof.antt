@@ -2,9 +2,8 @@
 use Prim.Native.Nat.{_-_, _≤_}
 use mathlib.Core.Path.{sym, _∙_}
 use native.Mathlib.Omega.{arith}
-use Rattle.ground.specs.Halving.{Halved}
-use Rattle.ground.proofs.Halving.{halved-all, halved-pass, halved-fail, halved-found, halved-none}
-use Rattle.wide.specs.Limits.{mostSteps}
+use Rattle.ground.proofs.Halving.{Halved, halved-all, halved-pass, halved-fail, halved-found, halved-none}
+use Rattle.wide_task.specs.Limits.{mostSteps}
 use Rattle.wide.specs.Table.{passesAt, leastStep}
 use Rattle.wide.proofs.Passing.{passes-rising}
 use Rattle.wide.proofs.least_step.Statement.{statement}

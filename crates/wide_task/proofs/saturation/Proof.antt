@@ -1,10 +1,11 @@
--- `wide::saturation` meets its contract. Assumes nothing.
+-- `wide_task::saturation` meets its contract. Assumes nothing.
 use native.Mathlib.Omega.{arith}
-use Rattle.wide.specs.Cores.{saturationAt, StepIs}
-use Rattle.wide.proofs.Tasks.{saturation-is}
+use Rattle.wide_task.specs.Cores.{saturationAt}
+use Rattle.wide_task.specs.Handover.{StepIs}
+use Rattle.wide_task.proofs.Tasks.{saturation-is}
 use borrow.Author.Needs.{needs}
-use Rattle.wide.proofs.saturation.Statement.{statement}
-use Rattle.wide.proofs.saturation.Tie as tie
+use Rattle.wide_task.proofs.saturation.Statement.{statement}
+use Rattle.wide_task.proofs.saturation.Tie as tie
 
 given : (c : tie.After-saturation) → StepIs (saturationAt (c .before .before .before .args .task)) (c .saturation .result)
 unfolding saturationAt

@@ -1,9 +1,9 @@
--- `wide::share_at` meets its contract. Assumes nothing.
-use Rattle.wide.specs.Cores.{shareAt}
-use Rattle.wide.proofs.Tasks.{share-is}
+-- `wide_task::share_at` meets its contract. Assumes nothing.
+use Rattle.wide_task.specs.Cores.{shareAt}
+use Rattle.wide_task.proofs.Tasks.{share-is}
 use borrow.Author.Needs.{needs}
-use Rattle.wide.proofs.share_at.Statement.{statement}
-use Rattle.wide.proofs.share_at.Tie as tie
+use Rattle.wide_task.proofs.share_at.Statement.{statement}
+use Rattle.wide_task.proofs.share_at.Tie as tie
 
 largest-requires : tie.Need-largest-requires
 largest-requires c κs = search needs

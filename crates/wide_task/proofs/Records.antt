@@ -4,8 +4,8 @@ use mathlib.Core.Bool.{true}
 use mathlib.Core.Path.{_≡_}
 use borrow.Author.Tests.{leb-true, ltb-true, le-leb, lt-ltb}
 use Rattle.ground.proofs.Cases.{both-true}
-use Rattle.wide.specs.declared.WideTask.{WideTask}
-use Rattle.wide.specs.WideTask.{Good, isGood}
+use Rattle.wide_task.specs.declared.WideTask.{WideTask}
+use Rattle.wide_task.specs.WideTask.{Good, isGood}
 
 pub good-is : (t : WideTask) → isGood t ≡ true → Good t
 unfolding isGood

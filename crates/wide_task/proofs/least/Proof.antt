@@ -1,8 +1,8 @@
--- `wide::least` meets its contract. Assumes nothing.
-use Rattle.wide.proofs.Tasks.{least-is}
+-- `wide_task::least` meets its contract. Assumes nothing.
+use Rattle.wide_task.proofs.Tasks.{least-is}
 use borrow.Author.Needs.{needs}
-use Rattle.wide.proofs.least.Statement.{statement}
-use Rattle.wide.proofs.least.Tie as tie
+use Rattle.wide_task.proofs.least.Statement.{statement}
+use Rattle.wide_task.proofs.least.Tie as tie
 
 part-requires : tie.Need-part-requires
 part-requires c κs = search needs

@@ -1,4 +1,4 @@
--- `wide::WideTask::good` meets its contract: each `&&` joins the tests so far with the next. Assumes nothing.
+-- `wide_task::WideTask::good` meets its contract: each `&&` joins the tests so far with the next. Assumes nothing.
 use Prim.Native.Nat.{_*_}
 use mathlib.Core.Bool.{Bool}
 use mathlib.Core.Path.{_≡_, refl, _∙_, sym}
@@ -9,11 +9,11 @@ use borrow.Author.Tests.{le-leb, lt-leb}
 use Rattle.ground.specs.Choice.{both}
 use Rattle.ground.proofs.Cases.{both-taken, both-left}
 use Rattle.kinds.specs.Limits.{longestPeriod}
-use Rattle.wide.specs.declared.WideTask.{WideTask}
-use Rattle.wide.specs.Limits.{mostTmins}
-use Rattle.wide.specs.WideTask.{isGood}
-use Rattle.wide.proofs.WideTask.good.Statement.{statement}
-use Rattle.wide.proofs.WideTask.good.Tie as tie
+use Rattle.wide_task.specs.declared.WideTask.{WideTask}
+use Rattle.wide_task.specs.Limits.{mostTmins}
+use Rattle.wide_task.specs.WideTask.{isGood}
+use Rattle.wide_task.proofs.WideTask.good.Statement.{statement}
+use Rattle.wide_task.proofs.WideTask.good.Tie as tie
 
 -- the first tests of `isGood`, by how many there are
 abbrev first-two : WideTask → Bool

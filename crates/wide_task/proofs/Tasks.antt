@@ -9,10 +9,11 @@ use Rattle.kinds.specs.Limits.{scale, longestPeriod}
 use Rattle.rule.specs.Rule.{Shortest}
 use Rattle.rule.proofs.Shares.{part-high, part-low, part-falls, share-falls, share-least, share-zero, share-high, saturation-high}
 use Rattle.rule.proofs.Periods.{period-rises, period-shortest}
-use Rattle.wide.specs.declared.WideTask.{WideTask}
-use Rattle.wide.specs.Limits.{mostTmins, mostShare, mostSteps, mostCores}
-use Rattle.wide.specs.WideTask.{Good}
-use Rattle.wide.specs.Cores.{largestOf, leastOf, shareAt, saturationAt, periodAt, coresAt, Fewest, ShareIs, StepIs, PeriodIs, CoresIs}
+use Rattle.wide_task.specs.declared.WideTask.{WideTask}
+use Rattle.wide_task.specs.Limits.{mostTmins, mostShare, mostSteps, mostCores}
+use Rattle.wide_task.specs.WideTask.{Good}
+use Rattle.wide_task.specs.Cores.{largestOf, leastOf, shareAt, saturationAt, periodAt, coresAt, Fewest}
+use Rattle.wide_task.specs.Handover.{ShareIs, StepIs, PeriodIs, CoresIs}
 
 -- the share never rises with the step
 pub falls : (t : WideTask) (j k : ℕ) → j ≤ k → shareAt t k ≤ shareAt t j

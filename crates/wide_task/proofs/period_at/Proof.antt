@@ -1,10 +1,11 @@
--- `wide::period_at` meets its contract. Assumes nothing.
+-- `wide_task::period_at` meets its contract. Assumes nothing.
 use native.Mathlib.Omega.{arith}
-use Rattle.wide.specs.Cores.{periodAt, PeriodIs}
-use Rattle.wide.proofs.Tasks.{period-is}
+use Rattle.wide_task.specs.Cores.{periodAt}
+use Rattle.wide_task.specs.Handover.{PeriodIs}
+use Rattle.wide_task.proofs.Tasks.{period-is}
 use borrow.Author.Needs.{needs}
-use Rattle.wide.proofs.period_at.Statement.{statement}
-use Rattle.wide.proofs.period_at.Tie as tie
+use Rattle.wide_task.proofs.period_at.Statement.{statement}
+use Rattle.wide_task.proofs.period_at.Tie as tie
 
 given : (c : tie.After-period) → PeriodIs (c .before .before .args .task) (c .before .before .args .k) (c .period .result)
 unfolding periodAt

@@ -1,8 +1,8 @@
--- `wide::largest` meets its contract. Assumes nothing.
-use Rattle.wide.proofs.Tasks.{largest-is}
+-- `wide_task::largest` meets its contract. Assumes nothing.
+use Rattle.wide_task.proofs.Tasks.{largest-is}
 use borrow.Author.Needs.{needs}
-use Rattle.wide.proofs.largest.Statement.{statement}
-use Rattle.wide.proofs.largest.Tie as tie
+use Rattle.wide_task.proofs.largest.Statement.{statement}
+use Rattle.wide_task.proofs.largest.Tie as tie
 
 part-requires : tie.Need-part-requires
 part-requires c κs = search needs

@@ -1,12 +1,9 @@
 -- Document 01, "Numbers on a task", for a task that needs several cores, and the cores that it needs at a step.
 -- Assumes nothing.
-use Prim.Native.Nat.{ℕ, _-_, _*_, _≤_, _<_}
-use mathlib.Core.Path.{_≡_}
+use Prim.Native.Nat.{ℕ, _-_, _*_, _≤_}
 use Rattle.ground.specs.Rounding.{ceilDiv}
-use Rattle.kinds.specs.Limits.{scale, longestPeriod}
 use Rattle.rule.specs.Rule.{partOf, shareOf, saturationOf, periodOf}
-use Rattle.wide.specs.declared.WideTask.{WideTask}
-use Rattle.wide.specs.Limits.{mostShare, mostSteps, mostCores}
+use Rattle.wide_task.specs.declared.WideTask.{WideTask}
 
 abbrev pub largestOf : WideTask → ℕ
 largestOf t = partOf (t .c) (t .tmin)
@@ -35,22 +32,3 @@ coresAt t k = coresOf (t .c) (t .l) (periodAt t k)
 pub record Fewest (t : WideTask) (k cores : ℕ) : Type 0 where
   pub enough : t .c - t .l ≤ cores * (periodAt t k - t .l)
   pub only : (x : ℕ) → t .c - t .l ≤ x * (periodAt t k - t .l) → cores ≤ x
-
--- what the functions hand back, with the bounds that their callers need
-pub record ShareIs (share r : ℕ) : Type 0 where
-  pub is : r ≡ share
-  pub some : scale < r
-  pub most : r ≤ mostShare
-
-pub record StepIs (step r : ℕ) : Type 0 where
-  pub is : r ≡ step
-  pub most : r ≤ mostSteps
-
-pub record PeriodIs (t : WideTask) (k r : ℕ) : Type 0 where
-  pub is : r ≡ periodAt t k
-  pub span : t .l < r
-  pub most : r ≤ longestPeriod
-
-pub record CoresIs (t : WideTask) (k r : ℕ) : Type 0 where
-  pub is : r ≡ coresAt t k
-  pub most : r ≤ mostCores

@@ -1,9 +1,9 @@
--- `wide::cores_at` meets its contract. Assumes nothing.
-use Rattle.wide.specs.Cores.{coresAt}
-use Rattle.wide.proofs.Tasks.{cores-is}
+-- `wide_task::cores_at` meets its contract. Assumes nothing.
+use Rattle.wide_task.specs.Cores.{coresAt}
+use Rattle.wide_task.proofs.Tasks.{cores-is}
 use borrow.Author.Needs.{needs}
-use Rattle.wide.proofs.cores_at.Statement.{statement}
-use Rattle.wide.proofs.cores_at.Tie as tie
+use Rattle.wide_task.proofs.cores_at.Statement.{statement}
+use Rattle.wide_task.proofs.cores_at.Tie as tie
 
 widened-requires : tie.Need-widened-requires
 widened-requires c κs = search needs

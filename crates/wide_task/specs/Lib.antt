@@ -1,0 +1,4 @@
+pub mod Limits
+pub mod WideTask
+pub mod Cores
+pub mod Handover
