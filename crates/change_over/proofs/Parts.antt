@@ -15,6 +15,11 @@ use Rattle.change_over.specs.declared.Section.the-variants.{Tasks, Nothi
 use Rattle.change_over.specs.ChangeOver.{sectionOf, tasksPart, tasksOr, emptyFront, changeOver, oneOf, IsPart}
 use Rattle.change_over.proofs.Sections.{section-fits}
 
+-- a task section is told by its place and its size
+pub tasks-part : (which : Which) (n from size : ℕ) → from ≡ recordsPlace → size ≡ taskSize * n
+    → record { which = which; from = from; size = size } ≡ tasksPart which n
+tasks-part which n from size a b = λ i. record { which = which; from = a i; size = b i }
+
 -- the three answers
 module _ (standing proposed : List ℕ) where
   pub takes-proposed : (n : ℕ) → sectionOf proposed ≡ Tasks n → tasksPart Proposed n ≡ changeOver standing proposed

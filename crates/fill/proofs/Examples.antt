@@ -14,7 +14,7 @@ use Rattle.plan.specs.Plan.{processorsAt, found}
 use Rattle.plain.specs.Asked.{asked}
 use Rattle.field.specs.Number.{numberAt, bytesOf}
 use Rattle.sheet.specs.Sections.{resultsFit}
-use Rattle.sheet.specs.Rows.{padded}
+use Rattle.sheet.specs.Rows.{paddedRows}
 use Rattle.sheet.specs.Reading.{settingsIn, sheetIn, readRows, readSheet}
 use Rattle.writer.specs.Encode.{taskBytes, grantedBytes, rowsBytes, settingsBytes, encode}
 use Rattle.numeral.specs.Decimal.{digitsIn, decimal}
@@ -29,7 +29,7 @@ whole-case : filled
     ∷ 1 ∷ 0 ∷ 10 ∷ 0 ∷ 0 ∷ 0 ∷ 0 ∷ 0 ∷ []
 unfolding
     filled planned plannedSheet withPlan resultsOf firstFrom firstBelow leastUpTo sumTo maxTo listTo isGood shareAt saturationAt periodAt
-    fullCompression firstBad periodsAt passes leastStep gate admission processorsAt found asked numberAt bytesOf resultsFit padded settingsIn
+    fullCompression firstBad periodsAt passes leastStep gate admission processorsAt found asked numberAt bytesOf resultsFit paddedRows settingsIn
     sheetIn readRows readSheet taskBytes grantedBytes rowsBytes settingsBytes encode
 whole-case = refl
 

@@ -2,9 +2,11 @@
 -- makes of it.
 -- Assumes nothing.
 use Prim.Native.Nat.{ℕ}
-use mathlib.Core.List.{List, [], _∷_, _++_}
+use mathlib.Core.List.{List, [], _++_}
+use mathlib.Core.Bool.{false}
 use mathlib.Core.Path.{_≡_, refl, sym, ap, _∙_}
 use native.Mathlib.Omega.{arith}
+use lib.Dec.{eqb}
 use lib.ListN.{length, drop}
 use borrow.Author.Tests.{ne-eqb}
 use Rattle.kinds.specs.declared.Refusal.{Refusal}
@@ -21,14 +23,12 @@ use Rattle.fill.specs.Fill.{planned, filled, Fills}
 
 -- a refusal leaves the buffer as it was
 pub refuses : (h : Handed (List ℕ)) (q : Refusal) → h ≡ refused [] q → (old : List ℕ) → Fills h old (Refused q) old
-refuses h q e old = rw e (record { answer = refl; output = refl; fits = omega arith })
+refuses h q e old =
+    let not-accepted = ne-eqb (numberOf q) 0 (λ z. omega (arith, refusal-numbered q)) in
+    rw e (record { answer = refl; output = rw not-accepted; fits = omega arith })
 
 pub fills-one : (h : Handed (List ℕ)) (old : List ℕ) (r q : Counted) (new other : List ℕ) → Fills h old r new → Fills h old q other → (r ≡ q) × (new ≡ other)
 fills-one h old r q new other a b = (count-one r q (a .answer ∙ sym (b .answer)), a .output ∙ sym (b .output))
-
-none-long : (bytes old : List ℕ) → length bytes ≡ 0 → bytes ++ drop (length bytes) old ≡ old
-none-long [] old e = refl
-none-long (b ∷ bytes) old e = absurd (omega (arith, e))
 
 module _ (s old new : List ℕ) where
   -- the filled sheet is what the program writes
@@ -40,16 +40,21 @@ module _ (s old new : List ℕ) where
       let long : k ≡ length bytes = ap (λ (h : Handed ℕ). h .value) (p .answer) in
       rw zero
       (fronts bytes old new k long (omega (arith, p .fits, long))
-      (p .output ∙ ap (λ (n : ℕ). bytes ++ drop n old) (sym long)))
+      ((rw zero at (p .output)) ∙ ap (λ (n : ℕ). bytes ++ drop n old) (sym long)))
 
   module _ (q : Refusal) (p : Fills (planned s) old (Refused q) new) where
+    number-told : planned s .number ≡ numberOf q
+    number-told = sym (ap (λ (h : Handed ℕ). h .number) (p .answer))
+
+    not-accepted : eqb (planned s .number) 0 ≡ false
+    not-accepted = ne-eqb (planned s .number) 0 (λ z. omega (arith, number-told, refusal-numbered q))
+
     -- of a refusal it writes the line
     pub tells-line : filled s ≡ refusalLine (numberOf q) (placeOf q)
     unfolding filled
     tells-line =
-        let number : planned s .number ≡ numberOf q = sym (ap (λ (h : Handed ℕ). h .number) (p .answer)) in
         let place : planned s .place ≡ placeOf q = sym (ap (λ (h : Handed ℕ). h .place) (p .answer)) in
-        rw (number, place, ne-eqb (numberOf q) 0 (λ z. omega (arith, refusal-numbered q)))
+        rw (not-accepted, number-told, place)
 
     pub kept : new ≡ old
-    kept = p .output ∙ none-long (planned s .value) old (sym (ap (λ (h : Handed ℕ). h .value) (p .answer)))
+    kept = rw not-accepted at (p .output)

@@ -3,7 +3,7 @@
 use Prim.Native.Nat.{ℕ, zero, suc, _+_, _*_, _≤_, _<_}
 use mathlib.Core.Bool.{true}
 use mathlib.Core.List.{List, [], append-nil}
-use mathlib.Core.Path.{_≡_, refl, sym, _∙_}
+use mathlib.Core.Path.{_≡_, sym, _∙_}
 use native.Mathlib.Omega.{arith}
 use lib.ListN.{length, getD}
 use Rattle.ground.specs.Folds.{listTo}
@@ -29,7 +29,7 @@ use Rattle.plan.proofs.Found.{Accepting, accepting}
 use Rattle.plain.specs.Asked.{asked}
 use Rattle.field.specs.Number.{Bytes, u16At, numberAt, limit}
 use Rattle.sheet.specs.Sections.{taskSize, policyPlace, mPlace, recordsPlace}
-use Rattle.sheet.specs.Rows.{taskAt, noGranted, padded}
+use Rattle.sheet.specs.Rows.{taskAt, noGranted, paddedRows}
 use Rattle.sheet.specs.Reading.{taskCount, settingsIn, sheetIn}
 use Rattle.sheet.proofs.Padding.{padded-long, padded-in, padded-out}
 use Rattle.sheet.proofs.Whole.{Whole}
@@ -47,7 +47,7 @@ list-in f n i l = rw (append-nil (listTo f n)) at (list-at f n i [] l)
 
 -- what holds of each row that is used, and of an unused place, holds at each number
 rows-held : {A : Type 0} (P : A → Type 0) (none : A) (f : ℕ → A) (n : ℕ) → n ≤ mostTasks → P none → ((i : ℕ) → i < n → P (f i)) → (i : ℕ)
-    → P (getD (padded none f n) i none)
+    → P (getD (paddedRows none f n) i none)
 rows-held P none f n few unused used i =
     by-le n i (λ h. rw (padded-out none f n i h) unused) (λ h. rw (padded-in none f n i h few) (used i h))
 

@@ -24,7 +24,7 @@ use Rattle.plan.specs.Plan.{processorsAt, periodsAfter, processorsAfter, outcom
 use Rattle.plain.specs.Asked.{asked}
 use Rattle.plain.proofs.Asked.{asked-roomy}
 use Rattle.sheet.specs.Sections.{longestSheet, resultsFit}
-use Rattle.sheet.specs.Rows.{granted, noGranted, padded}
+use Rattle.sheet.specs.Rows.{granted, noGranted, paddedRows}
 use Rattle.sheet.proofs.Padding.{padded-more, padded-cong}
 use Rattle.kinds.specs.declared.Counted.{Counted}
 use Rattle.writer.specs.Encode.{encode, lengthOf}
@@ -35,8 +35,8 @@ use Rattle.fill.specs.Results.{entryAt, resultsOf, planPeriods, planProc
 use Rattle.fill.specs.Fill.{plannedSheet, Fills}
 
 -- the rows of a results section, one by one
-module _ (periods processors : List ℕ) (rows : List Granted) (i : ℕ) (is : rows ≡ padded noGranted (entryAt periods processors) i) where
-  pub rows-more : set rows i (entryAt periods processors i) ≡ padded noGranted (entryAt periods processors) (i + 1)
+module _ (periods processors : List ℕ) (rows : List Granted) (i : ℕ) (is : rows ≡ paddedRows noGranted (entryAt periods processors) i) where
+  pub rows-more : set rows i (entryAt periods processors i) ≡ paddedRows noGranted (entryAt periods processors) (i + 1)
   rows-more = ap (λ (l : List Granted). set l i (entryAt periods processors i)) is ∙ sym (padded-more noGranted (entryAt periods processors) i)
 
   pub rows-done : (n : ℕ) → i ≡ n → record { rows = rows; n = n } ≡ resultsOf periods processors n

@@ -1,11 +1,11 @@
 -- Document 01, "Program": the bytes that the program writes for the bytes that it reads.
 -- Assumes nothing.
 use Prim.Native.Nat.{ℕ, _≤_}
-use mathlib.Core.List.{List, [], _++_}
+use mathlib.Core.List.{List, []}
 use mathlib.Core.Path.{_≡_}
-use lib.ListN.{length, drop}
+use lib.ListN.{length}
 use Rattle.kinds.specs.declared.Sheet.{Sheet}
-use Rattle.kinds.specs.Answer.{Handed, accepted, unrefused, handedCount}
+use Rattle.kinds.specs.Answer.{Handed, accepted, unrefused, handedCount, after}
 use Rattle.plain.specs.Asked.{asked}
 use Rattle.sheet.specs.Reading.{readSheet}
 use Rattle.kinds.specs.declared.Counted.{Counted}
@@ -28,9 +28,9 @@ filled input = orLine (planned input) (λ bytes. bytes)
 abbrev pub counted : Handed (List ℕ) → Handed ℕ
 counted h = record { number = h .number; place = h .place; value = length (h .value) }
 
--- and its output: the bytes, and then what stood there; a refusal has none
+-- and its output: the bytes, and then what stood there; where it is refused, as it was
 abbrev pub afterFill : Handed (List ℕ) → List ℕ → List ℕ
-afterFill h old = h .value ++ drop (length (h .value)) old
+afterFill h old = after h (h .value) (length (h .value)) old
 
 pub record Fills (h : Handed (List ℕ)) (old : List ℕ) (r : Counted) (new : List ℕ) : Type 0 where
   pub answer : handedCount r ≡ counted h

@@ -9,7 +9,7 @@ use Rattle.kinds.specs.declared.Sheet.{Sheet}
 use Rattle.kinds.specs.Policy.{meant}
 use Rattle.share.specs.Table.{periodsAt}
 use Rattle.plan.specs.Plan.{processorsAt}
-use Rattle.sheet.specs.Rows.{granted, noGranted, padded}
+use Rattle.sheet.specs.Rows.{granted, noGranted, paddedRows}
 
 -- entry i of the periods and of the processors
 abbrev pub entryAt : List ℕ → List ℕ → ℕ → Granted
@@ -17,7 +17,7 @@ entryAt periods processors i = granted (getD periods i 0) (getD processors i 0)
 
 -- their first n entries, and then unused places
 unfoldable pub resultsOf : List ℕ → List ℕ → ℕ → Results
-resultsOf periods processors n = record { rows = padded noGranted (entryAt periods processors) n; n = n }
+resultsOf periods processors n = record { rows = paddedRows noGranted (entryAt periods processors) n; n = n }
 
 -- the periods and the processors of a sheet's plan at step k
 abbrev pub planPeriods : Sheet → ℕ → List ℕ

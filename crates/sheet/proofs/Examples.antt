@@ -9,7 +9,8 @@ use Rattle.kinds.specs.Task.{task, noTask}
 use Rattle.kinds.specs.Answer.{accepted, refused}
 use Rattle.field.specs.Number.{numberAt}
 use Rattle.sheet.specs.Sections.{resultsFit}
-use Rattle.sheet.specs.Rows.{noGranted, padded}
+use Rattle.ground.specs.Folds.{listTo}
+use Rattle.sheet.specs.Rows.{noGranted, paddedRows}
 use Rattle.sheet.specs.Reading.{noSheet, settingsIn, sheetIn, readRows, readSheet}
 
 ends-in-a-count : readSheet (3 ∷ []) ≡ refused noSheet (SheetEnds 1)
@@ -42,5 +43,5 @@ whole-case : readSheet
       table = record { rows = task 6 10 20 1000 ∷ replicate 31 noTask; n = 1 };
       results = record { rows = replicate 32 noGranted; n = 0 };
     })
-unfolding readSheet readRows numberAt resultsFit sheetIn settingsIn padded
+unfolding readSheet readRows numberAt resultsFit sheetIn settingsIn paddedRows listTo
 whole-case = refl

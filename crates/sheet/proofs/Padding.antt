@@ -1,59 +1,48 @@
--- Rows with unused places after them: what stands where, and that this settles them.
+-- Rows with unused places after them: the laws of `ground` at the most tasks.
 -- Assumes nothing.
-use Prim.Native.Nat.{ℕ, zero, suc, _+_, _≤_, _<_}
+use Prim.Native.Nat.{ℕ, _+_, _≤_, _<_}
 use mathlib.Core.List.{List}
-use mathlib.Core.Path.{_≡_, refl, sym, _∙_}
-use native.Mathlib.Numerals.{add-one}
+use mathlib.Core.Path.{_≡_, sym, _∙_}
 use native.Mathlib.Omega.{arith}
-use lib.ListN.{length, getD, set, replicate, length-set, length-replicate, getD-replicate, List·getD-eq-default}
-use lib.Seq.{getD-set-same, getD-set-other, ext-getD}
+use lib.ListN.{length, getD, set, replicate, List·getD-eq-default}
+use Rattle.ground.specs.Folds.{listTo}
+use Rattle.ground.specs.Padded.{padded}
 use Rattle.ground.proofs.Cases.{by-le}
+use Rattle.ground.proofs.Padding as padding
 use Rattle.kinds.specs.Limits.{mostTasks}
-use Rattle.sheet.specs.Rows.{padded}
+use Rattle.sheet.specs.Rows.{paddedRows}
 
 module _ {A : Type 0} (none : A) where
-  -- zeros only
-  pub blank-at : (i : ℕ) → getD (replicate mostTasks none) i none ≡ none
-  blank-at i =
-      by-le (suc i) mostTasks
-      (λ h. getD-replicate mostTasks i none none h)
-      (λ h. List·getD-eq-default (replicate mostTasks none) none {n = i} (rw (length-replicate mostTasks none) (omega arith)))
-
   module _ (f : ℕ → A) where
-    pub padded-none : padded none f 0 ≡ replicate mostTasks none
-    unfolding padded
-    padded-none = refl
+    pub padded-none : paddedRows none f 0 ≡ replicate mostTasks none
+    unfolding paddedRows listTo
+    padded-none = padding.padded-none none mostTasks
 
-    pub padded-more : (i : ℕ) → padded none f (i + 1) ≡ set (padded none f i) i (f i)
-    unfolding padded
-    padded-more i = rw (add-one i)
+    pub padded-more : (i : ℕ) → paddedRows none f (i + 1) ≡ set (paddedRows none f i) i (f i)
+    unfolding paddedRows
+    padded-more = padding.padded-next none mostTasks f
 
-    pub padded-long : (n : ℕ) → length (padded none f n) ≡ mostTasks
-    unfolding padded
-    padded-long zero = length-replicate mostTasks none
-    padded-long (suc n) = length-set (padded none f n) n (f n) ∙ padded-long n
+    pub padded-long : (n : ℕ) → length (paddedRows none f n) ≡ mostTasks
+    unfolding paddedRows
+    padded-long n = padding.padded-long none mostTasks (listTo f n)
 
-    pub padded-in : (n i : ℕ) → i < n → n ≤ mostTasks → getD (padded none f n) i none ≡ f i
-    unfolding padded
-    padded-in zero i h k = absurd (omega arith)
-    padded-in (suc n) i h k =
-        let below : i < n → getD (padded none f n) i none ≡ f i = λ l. padded-in n i l (omega arith) in
-        by-le n i
-        (λ l. let e : i ≡ n = omega arith in rw e (getD-set-same (padded none f n) n (f n) none (rw (padded-long n) k)))
-        (λ l. getD-set-other (padded none f n) n i (f n) none (λ e. omega arith) ∙ below l)
+    pub padded-in : (n i : ℕ) → i < n → n ≤ mostTasks → getD (paddedRows none f n) i none ≡ f i
+    unfolding paddedRows
+    padded-in = padding.padded-in none mostTasks f
 
-    pub padded-out : (n i : ℕ) → n ≤ i → getD (padded none f n) i none ≡ none
-    unfolding padded
-    padded-out zero i h = blank-at i
-    padded-out (suc n) i h = getD-set-other (padded none f n) n i (f n) none (λ e. omega arith) ∙ padded-out n i (omega arith)
+    -- past the most tasks there is nothing to find either
+    pub padded-out : (n i : ℕ) → n ≤ i → getD (paddedRows none f n) i none ≡ none
+    unfolding paddedRows
+    padded-out n i h =
+        by-le n mostTasks
+        (λ few. padding.padded-out none mostTasks f n i few h)
+        (λ more. List·getD-eq-default (padded none mostTasks (listTo f n)) none {n = i} (rw (padded-long n) (omega arith)))
 
-    -- rows with these values and unused places after them are no others
     pub padded-is : (n : ℕ) (rows : List A) → n ≤ mostTasks → length rows ≡ mostTasks
-        → ((i : ℕ) → i < n → f i ≡ getD rows i none) → ((i : ℕ) → n ≤ i → getD rows i none ≡ none) → padded none f n ≡ rows
-    padded-is n rows few long used unused =
-        ext-getD none _ _ (padded-long n ∙ sym long)
-        (λ i l. by-le n i (λ h. padded-out n i h ∙ sym (unused i h)) (λ h. padded-in n i h few ∙ used i h))
+        → ((i : ℕ) → i < n → f i ≡ getD rows i none) → ((i : ℕ) → n ≤ i → getD rows i none ≡ none) → paddedRows none f n ≡ rows
+    unfolding paddedRows
+    padded-is = padding.padded-is none mostTasks f
 
-  pub padded-cong : (f g : ℕ → A) (n : ℕ) → n ≤ mostTasks → ((i : ℕ) → i < n → f i ≡ g i) → padded none f n ≡ padded none g n
+  pub padded-cong : (f g : ℕ → A) (n : ℕ) → n ≤ mostTasks → ((i : ℕ) → i < n → f i ≡ g i) → paddedRows none f n ≡ paddedRows none g n
   padded-cong f g n few e =
-      padded-is f n (padded none g n) few (padded-long g n) (λ i l. e i l ∙ sym (padded-in g n i l few)) (padded-out g n)
+      padded-is f n (paddedRows none g n) few (padded-long g n) (λ i l. e i l ∙ sym (padded-in g n i l few)) (padded-out g n)

@@ -1,11 +1,13 @@
 -- The rows of a section: a task record, a result, and so many of them from a place on.
 -- Assumes nothing.
-use Prim.Native.Nat.{ℕ, zero, suc, _+_, _*_}
+use Prim.Native.Nat.{ℕ, _+_, _*_}
 use mathlib.Core.Bool.{Bool, true, false}
 use mathlib.Core.List.{List}
 use lib.Dec.{leb}
-use lib.ListN.{length, set, replicate}
+use lib.ListN.{length, replicate}
 use Rattle.ground.specs.Choice.{pick}
+use Rattle.ground.specs.Folds.{listTo}
+use Rattle.ground.specs.Padded.{padded}
 use Rattle.kinds.specs.declared.Task.{Task}
 use Rattle.kinds.specs.declared.Granted.{Granted}
 use Rattle.kinds.specs.Limits.{mostTasks}
@@ -42,13 +44,12 @@ unfoldable pub grantedField : List ℕ → ℕ → GrantedField
 grantedField s at = fieldBy granted-field.Value granted-field.Missing grantedSize grantedAt s at
 
 -- n rows, f 0, f 1, .., and then unused places up to the most tasks
-unfoldable pub padded : {A : Type 0} → A → (ℕ → A) → ℕ → List A
-padded none f zero = replicate mostTasks none
-padded none f (suc n) = set (padded none f n) n (f n)
+unfoldable pub paddedRows : {A : Type 0} → A → (ℕ → A) → ℕ → List A
+paddedRows none f n = padded none mostTasks (listTo f n)
 
 -- the n rows of a size that stand from a place on
 abbrev pub rowsAt : {A : Type 0} → A → ℕ → (List ℕ → ℕ → A) → List ℕ → ℕ → ℕ → List A
-rowsAt none size rowAt s from n = padded none (λ i. rowAt s (from + size * i)) n
+rowsAt none size rowAt s from n = paddedRows none (λ i. rowAt s (from + size * i)) n
 
 -- the same with the place after them, where all are there; else no row
 abbrev pub rowsBy : {A R : Type 0} → (Bool → List A → ℕ → R) → A → ℕ → (List ℕ → ℕ → A) → List ℕ → ℕ → ℕ → R

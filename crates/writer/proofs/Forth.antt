@@ -19,7 +19,7 @@ use Rattle.field.specs.Number.{u16At, u32At, bytesOf}
 use Rattle.field.proofs.Numbers.{bytes-long}
 use Rattle.field.proofs.Parts.{Part, part-all, part-left, part-right, part-number}
 use Rattle.sheet.specs.Sections.{settingsCount, taskSize, grantedSize, settingsPlace, policyPlace, mPlace, tasksPlace, recordsPlace, resultsPlace, grantedPlace, resultsFit}
-use Rattle.sheet.specs.Rows.{taskAt, grantedAt, noGranted, padded, rowsAt}
+use Rattle.sheet.specs.Rows.{taskAt, grantedAt, noGranted, paddedRows, rowsAt}
 use Rattle.sheet.specs.Reading.{taskCount, resultCount, settingsIn, sheetIn, readSheet}
 use Rattle.sheet.proofs.Padding.{padded-cong}
 use Rattle.sheet.proofs.Stages.{fits-few}
@@ -74,7 +74,7 @@ module _ {A : Type 0} (bytes : A → List ℕ) (none : A) (size : ℕ) (rows : L
   -- and so the rows are read as they were
   rows-back : (rowAt : List ℕ → ℕ → A) (n : ℕ) → n ≤ mostTasks
       → ((i place : ℕ) → Part s place size (bytes (getD rows i none)) → rowAt s place ≡ getD rows i none)
-      → Part s from (size * n) (rowsBytes bytes none rows n) → rowsAt none size rowAt s from n ≡ padded none (λ i. getD rows i none) n
+      → Part s from (size * n) (rowsBytes bytes none rows n) → rowsAt none size rowAt s from n ≡ paddedRows none (λ i. getD rows i none) n
   rows-back rowAt n few one p =
       padded-cong none (λ i. rowAt s (from + size * i)) (λ i. getD rows i none) n few (λ i l. one i (from + size * i) (row-stands n i l p))
 
@@ -154,7 +154,7 @@ module _ (x : Sheet) (s : List ℕ) (p : Part s 0 (lengthOf x) (encode x)) where
           part-number 2 (x .table .n) (omega arith)
           (part-left 2 (taskSize * x .table .n) (bytesOf 2 (x .table .n)) (tasksBytes (x .table .rows) (x .table .n)) (bytes-long 2 (x .table .n)) tasks-part)
 
-      tasks-read : rowsAt noTask taskSize taskAt s recordsPlace (taskCount s) ≡ padded noTask (at (x .table .rows)) (x .table .n)
+      tasks-read : rowsAt noTask taskSize taskAt s recordsPlace (taskCount s) ≡ paddedRows noTask (at (x .table .rows)) (x .table .n)
       unfolding task-section
       tasks-read =
           ap (rowsAt noTask taskSize taskAt s recordsPlace) tasks-counted
@@ -171,7 +171,7 @@ module _ (x : Sheet) (s : List ℕ) (p : Part s 0 (lengthOf x) (encode x)) where
           (part-left 2 (grantedSize * x .results .n) (bytesOf 2 (x .results .n)) (resultsBytes (x .results .rows) (x .results .n))
           (bytes-long 2 (x .results .n)) results-part)
 
-      results-read : rowsAt noGranted grantedSize grantedAt s (grantedPlace (taskCount s)) (resultCount s) ≡ padded noGranted (grantedIn x) (x .results .n)
+      results-read : rowsAt noGranted grantedSize grantedAt s (grantedPlace (taskCount s)) (resultCount s) ≡ paddedRows noGranted (grantedIn x) (x .results .n)
       unfolding result-section
       results-read =
           ap (λ (n : ℕ). rowsAt noGranted grantedSize grantedAt s (grantedPlace n) (resultCount s)) tasks-counted

@@ -10,7 +10,7 @@ use Rattle.kinds.specs.Limits.{mostTasks}
 use Rattle.kinds.specs.Task.{noTask, at}
 use Rattle.kinds.specs.Policy.{policyNumber, meant}
 use Rattle.field.specs.Number.{limit}
-use Rattle.sheet.specs.Rows.{noGranted, padded}
+use Rattle.sheet.specs.Rows.{noGranted, paddedRows}
 
 abbrev pub grantedIn : Sheet → ℕ → Granted
 grantedIn x i = getD (x .results .rows) i noGranted
@@ -20,8 +20,8 @@ unfoldable pub canonical : Sheet → Sheet
 canonical x =
     record {
       settings = record { policy = meant (x .settings .policy); m = x .settings .m };
-      table = record { rows = padded noTask (at (x .table .rows)) (x .table .n); n = x .table .n };
-      results = record { rows = padded noGranted (grantedIn x) (x .results .n); n = x .results .n };
+      table = record { rows = paddedRows noTask (at (x .table .rows)) (x .table .n); n = x .table .n };
+      results = record { rows = paddedRows noGranted (grantedIn x) (x .results .n); n = x .results .n };
     }
 
 -- what every value of the kind has: its numbers fit their fields

@@ -4,6 +4,7 @@ use mathlib.Core.Path.{_≡_}
 use native.Mathlib.Omega.{arith}
 use Rattle.sheet.specs.Sections.{taskSize}
 use borrow.Author.Needs.{needs}
+use Rattle.change_over.proofs.Parts.{tasks-part}
 use Rattle.change_over.proofs.tasks_of.Statement.{statement}
 use Rattle.change_over.proofs.tasks_of.Tie as tie
 
@@ -22,7 +23,7 @@ returns c =
     let from = records .records-place .ensures in
     let size : c .results-place .result - records .records-place .result ≡ taskSize * records .before .args .n =
     omega (arith, from, c .results-place .ensures) in
-    rw (size, from)
+    tasks-part _ _ _ _ from size
 
 pub tasks-of-spec : {M : Type 1} → statement M
 tasks-of-spec = tie.close (tie.spec records-place-requires results-place-requires sub-size returns)

@@ -5,7 +5,7 @@ use native.Mathlib.Omega.{arith}
 use lib.ListN.{length, length-set}
 use borrow.Author.Needs.{needs}
 use Rattle.kinds.specs.Limits.{mostTasks}
-use Rattle.sheet.specs.Rows.{noGranted, padded}
+use Rattle.sheet.specs.Rows.{noGranted, paddedRows}
 use Rattle.sheet.proofs.Padding.{padded-none}
 use Rattle.fill.specs.Results.{entryAt}
 use Rattle.fill.proofs.Plans.{rows-more, rows-done}
@@ -14,7 +14,7 @@ use Rattle.fill.proofs.results_of.Tie as tie
 
 abbrev Inv-loop : tie.InvT-loop
 Inv-loop n periods processors rows₀ i₀ rows i =
-    (i ≤ n) × ((length rows ≡ mostTasks) × (rows ≡ padded noGranted (entryAt periods processors) i))
+    (i ≤ n) × ((length rows ≡ mostTasks) × (rows ≡ paddedRows noGranted (entryAt periods processors) i))
 
 abbrev μ-loop : tie.MeasureT-loop
 μ-loop n periods processors rows₀ i₀ rows i = n - i
