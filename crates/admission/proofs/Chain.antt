@@ -159,6 +159,7 @@ module _ (serves : Bool) (s : Settings) (xs ys : List Task) (n room : ℕ) where
       by (Refused r) e = refl
 
 -- where policy 4 is not asked, it does not matter whether the call serves it
-pub admission-serves : (s : Settings) (rows : List Task) (n room : ℕ) → isFirstFit (meant (s .policy)) ≡ false → admission true s rows n room ≡ admission false s rows n room
+pub admission-serves : (s : Settings) (rows : List Task) (n room : ℕ) → isFirstFit (meant (s .policy)) ≡ false
+    → admission true s rows n room ≡ admission false s rows n room
 unfolding admission
 admission-serves s rows n room f = rw f

@@ -30,7 +30,8 @@ unfolding saturationOn shareOn
 settled s k j h =
     by-le (s .elasticity) 0
     (λ z. let e : s .elasticity ≡ 0 = omega arith in omega (arith, ap (λ (x : ℕ). k * x) e, ap (λ (x : ℕ). (k + j) * x) e))
-    (λ pos. omega (arith, share-saturated (s .largest) (s .least) (s .elasticity) k pos h, share-saturated (s .largest) (s .least) (s .elasticity) (k + j) pos (omega arith)))
+    (λ pos. let saturated = share-saturated (s .largest) (s .least) (s .elasticity) in
+    omega (arith, saturated k pos h, saturated (k + j) pos (omega arith)))
 
 falls-on : (s : Spring) (p j : ℕ) → p + j < saturationOn s → shareOn s p ≡ shareOn s (p + j) + j * s .elasticity
 unfolding shareOn
@@ -92,7 +93,8 @@ pub need-iff : (w : Weights) → Fair w → (sum sum′ x x′ fall d j : ℕ) �
 unfolding need
 need-iff w g sum sum′ x x′ fall d j pos l es ex =
     let D : ℕ = left w fall d - w .c * d in
-    let i : (left w sum x ≤ right w x + j * D) ↔ (ceilDiv (left w sum x - right w x) D ≤ j) = line-iff (left w sum x) (right w x) D j (divisor-some w g fall d pos l) in
+    let i : (left w sum x ≤ right w x + j * D) ↔ (ceilDiv (left w sum x - right w x) D ≤ j) =
+    line-iff (left w sum x) (right w x) D j (divisor-some w g fall d pos l) in
     let t : (left w sum′ x′ ≤ right w x′) ↔ (left w sum x ≤ right w x + j * D) = rw (es, ex) (test-line w g sum′ x′ fall d j l) in
     (λ h. t .1 (i .1 h), λ h. i .0 (t .0 h))
 
@@ -148,5 +150,7 @@ both-ways w sum N x j a b p q =
     let cb : w .b ≤ w .c = omega arith in
     rw (harder-any w N x bc) (
       λ h. by-le N j (λ l. higher w sum a (max a b) cb (omega arith) (p .0 l)) (λ l. higher w sum b (max a b) cb (omega arith) (q .0 (omega arith))),
-      λ h. by-le a b (λ l. omega (arith, q .1 (rw (max-eq-right l) at h))) (λ l. let l′ : b ≤ a = omega arith in omega (arith, p .1 (rw (max-eq-left l′) at h))),
+      λ h. by-le a b
+          (λ l. omega (arith, q .1 (rw (max-eq-right l) at h)))
+          (λ l. let l′ : b ≤ a = omega arith in omega (arith, p .1 (rw (max-eq-left l′) at h))),
     ))

@@ -114,14 +114,16 @@ unfolding needTo
 need-more w springs p sum fall i = rw (add-one i)
 
 -- the sum of the slopes by columns is that of the springs
-pub slopes-are : (springs : ℕ → Spring) (elasticity saturation : List ℕ) (n p : ℕ) → ((i : ℕ) → getD elasticity i 0 ≡ springs i .elasticity) → Saturates springs saturation n
+pub slopes-are : (springs : ℕ → Spring) (elasticity saturation : List ℕ) (n p : ℕ)
+    → ((i : ℕ) → getD elasticity i 0 ≡ springs i .elasticity) → Saturates springs saturation n
     → sumTo (slopesIn elasticity saturation p) n ≡ slopeSum springs n p
 unfolding slopeSum
 slopes-are springs elasticity saturation n p e s =
     sum-cong (slopesIn elasticity saturation p) (λ i. slope (springs i) p) n (λ i l. ap₂ (λ (x y : ℕ). slopeOf x y p) (e i) (s i l))
 
 -- the division as the code works it out
-pub divided-worked-out : (w : Weights) (springs : ℕ → Spring) (n p q sum fall more : ℕ) → p < q → sum ≡ sumTo (sharesOn springs p) n → fall ≡ slopeSum springs n p
+pub divided-worked-out : (w : Weights) (springs : ℕ → Spring) (n p q sum fall more : ℕ)
+    → p < q → sum ≡ sumTo (sharesOn springs p) n → fall ≡ slopeSum springs n p
     → more ≡ needTo w springs p sum fall n
     → (more < q - p → p + more ≡ divided w springs n p q) × (q - p ≤ more → q ≡ divided w springs n p q)
 unfolding divided

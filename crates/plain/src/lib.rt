@@ -20,7 +20,8 @@ ghost use Rattle.plain.specs.Handover.{Searchable, StepHeld};
 
 // The periods and processors of the least passing step, written to the two lent outputs, or the refusal, which writes nothing.
 pub fn find(table: Table, settings: Settings, periods: &mut [u32], processors: &mut [u16]) -> Answer
-    ensures { λ r. ⌜ Meets (outcome true settings (table .rows) (table .n) (now (periods .entry)) (now (processors .entry))) r (now (periods .exit)) (now (processors .exit)) ⌝ }
+    ensures { λ r. ⌜ Meets (outcome true settings (table .rows) (table .n) (now (periods .entry)) (now (processors .entry))) r
+        (now (periods .exit)) (now (processors .exit)) ⌝ }
 {
     let mut shares = [0u32; Table::MOST_TASKS];
     let mut least = [0u32; Table::MOST_TASKS];
@@ -130,7 +131,8 @@ fn least_step(
     n: usize,
 ) -> Step
     requires { ⌜ Searchable (now shares) (now least) (now elasticity) n × (1 ≤ m) × (m ≤ mostProcessors) ⌝ }
-    ensures { λ r. ⌜ StepHeld policy m (springIn (now (shares .entry)) (now (least .entry)) (now (elasticity .entry))) (now (saturation .entry)) n r (now (shares .exit)) ⌝ }
+    ensures { λ r. ⌜ StepHeld policy m (springIn (now (shares .entry)) (now (least .entry)) (now (elasticity .entry)))
+        (now (saturation .entry)) n r (now (shares .exit)) ⌝ }
 {
     let full = springs::full_compression(saturation, n);
     let total = policy::total_of(shares, n);

@@ -45,7 +45,8 @@ split-at v p q new l g =
     by-le v p
     (λ h. rw (lt-ltb v (q + 1) (omega arith), lt-ltb v (p + 1) (omega arith), ne-eqb v q (λ z. omega arith)) (omega arith))
     (λ h. by-le v q
-    (λ m. rw (lt-ltb 0 v (omega arith), lt-ltb v (q + 1) (omega arith), le-ltb v (p + 1) (omega arith), eq-eqb v q (omega (arith, g h))) (by-bool new (λ u. rw u) (λ u. rw u)))
+    (λ m. rw (lt-ltb 0 v (omega arith), lt-ltb v (q + 1) (omega arith), le-ltb v (p + 1) (omega arith), eq-eqb v q (omega (arith, g h)))
+    (by-bool new (λ u. rw u) (λ u. rw u)))
     (λ m. rw (le-ltb v (q + 1) (omega arith), le-ltb v (p + 1) (omega arith), ne-eqb v q (λ z. omega arith)) (omega arith)))
 
 -- the next saturation step makes it one more

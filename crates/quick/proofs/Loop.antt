@@ -61,7 +61,8 @@ module _ (w : Weights) (g : Fair w) (springs : ℕ → Spring) (n : ℕ) where
         }
 
   -- no further look is due
-  pub none-due : (s : Search) (due : ℕ) → Standing w springs n s due → due ≡ 0 → SearchEnds (weighedAt w springs n) (saturations springs) n (record { step = Nothing; looks = s .looks })
+  pub none-due : (s : Search) (due : ℕ) → Standing w springs n s due → due ≡ 0
+      → SearchEnds (weighedAt w springs n) (saturations springs) n (record { step = Nothing; looks = s .looks })
   none-due s due k z = ends-nowhere w g springs n (s .step) (s .looks) (k .failed) (next-none (saturations springs) (s .step) n (sym (k .next) ∙ z))
 
   module _ (before : Search) (due : ℕ) (k : Standing w springs n before due) (h : due ≡ 0 → ⊥) where

@@ -37,7 +37,8 @@ no-second-found s rows n room r q x y =
     ap₂ looked (handed-one (r .answer) (q .answer) (x .answers ∙ sym (y .answers))) (x .count ∙ sym (y .count))
 
 module _ (s : Settings) (rows : List Task) (n : ℕ) (periods processors : List ℕ) where
-  pub no-second-look : (r q : Looked) (ps qs ps′ qs′ : List ℕ) → MeetsLooked s rows n periods processors r ps qs → MeetsLooked s rows n periods processors q ps′ qs′
+  pub no-second-look : (r q : Looked) (ps qs ps′ qs′ : List ℕ)
+      → MeetsLooked s rows n periods processors r ps qs → MeetsLooked s rows n periods processors q ps′ qs′
       → (r ≡ q) × (ps ≡ ps′) × (qs ≡ qs′)
   unfolding looked
   no-second-look r q ps qs ps′ qs′ x y =
@@ -65,7 +66,8 @@ module _ (s : Settings) (xs ys : List Task) (n : ℕ) (same : n ≤ mostTasks �
       ap (λ (a : verdict.Verdict). looksAfter a (looksOf xs n (leastStep (meant (s .policy)) (s .m) xs n))) (admission-many false s xs ys n room many)
       ∙ after-apart (admission false s ys n room) _ _ (λ e. omega (arith, admitted false s ys n room e .passed .few)))
 
-  pub meets-looked-same : (periods processors : List ℕ) (r : Looked) (ps qs : List ℕ) → MeetsLooked s xs n periods processors r ps qs → MeetsLooked s ys n periods processors r ps qs
+  pub meets-looked-same : (periods processors : List ℕ) (r : Looked) (ps qs : List ℕ)
+      → MeetsLooked s xs n periods processors r ps qs → MeetsLooked s ys n periods processors r ps qs
   meets-looked-same periods processors r ps qs x =
       record {
         meets = rw (← outcome-same false s xs ys n periods processors same) (x .meets);

@@ -45,7 +45,8 @@ pub struct Ended {
 
 // The periods and processors of the least passing step, written to the two lent outputs, or the refusal, which writes nothing.
 pub fn find(table: Table, settings: Settings, periods: &mut [u32], processors: &mut [u16]) -> Looked
-    ensures { λ r. ⌜ MeetsLooked settings (table .rows) (table .n) (now (periods .entry)) (now (processors .entry)) r (now (periods .exit)) (now (processors .exit)) ⌝ }
+    ensures { λ r. ⌜ MeetsLooked settings (table .rows) (table .n) (now (periods .entry)) (now (processors .entry)) r
+        (now (periods .exit)) (now (processors .exit)) ⌝ }
 {
     let mut largest = [0u32; Table::MOST_TASKS];
     let mut least = [0u32; Table::MOST_TASKS];

@@ -13,7 +13,8 @@ use Rattle.division.proofs.need_over.Statement.{statement}
 use Rattle.division.proofs.need_over.Tie as tie
 
 abbrev Inv-loop : tie.InvT-loop
-Inv-loop w largest least elasticity saturation n p sum fall hardest₀ i₀ hardest i = (i ≤ n) × NeedIs (needTo w (springIn largest least elasticity) p sum fall i) hardest
+Inv-loop w largest least elasticity saturation n p sum fall hardest₀ i₀ hardest i =
+    (i ≤ n) × NeedIs (needTo w (springIn largest least elasticity) p sum fall i) hardest
 
 abbrev μ-loop : tie.MeasureT-loop
 μ-loop w largest least elasticity saturation n p sum fall hardest₀ i₀ hardest i = n - i

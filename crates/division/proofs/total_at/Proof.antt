@@ -80,7 +80,8 @@ loop-again c =
     let s = c .before in
     let l = s .before .before .before .before .before .before .before in
     let a = l .before .args in
-    (omega arith, total-more (sharesOn (springIn (a .largest .now) (a .least .now) (a .elasticity .now)) (a .k)) _ _ _ _ _ (l .loop .inv .1) (shared s .0) (shared s .1) (c .larger .ensures))
+    let load = sharesOn (springIn (a .largest .now) (a .least .now) (a .elasticity .now)) (a .k) in
+    (omega arith, total-more load _ _ _ _ _ (l .loop .inv .1) (shared s .0) (shared s .1) (c .larger .ensures))
 
 returns : tie.Need-returns Inv-loop μ-loop
 returns c = let e : c .before .loop .i ≡ c .before .before .args .n = omega arith in rw e at (c .before .loop .inv .1)

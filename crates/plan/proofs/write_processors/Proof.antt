@@ -42,7 +42,8 @@ returns-2 c =
     let i = w .before .before .before in
     let s = i .before .before in
     w .write-front2 .ensures ∙ ap (λ (l : List ℕ). l ++ drop (s .args .n) (s .args .out .now))
-    (any-processors (s .args .policy) (s .args .m) (loadIn (s .args .loads .now)) _ (s .pre .light .few) (sym (i .is-first-fit .ensures) ∙ w .before .before .if1 .left))
+    (any-processors (s .args .policy) (s .args .m) (loadIn (s .args .loads .now)) _ (s .pre .light .few)
+    (sym (i .is-first-fit .ensures) ∙ w .before .before .if1 .left))
 
 pub write-processors-spec : {M : Type 1} → statement M
 write-processors-spec =

@@ -42,7 +42,7 @@ let-down-requires : tie.Need-let-down-requires Inv-loop μ-loop
 let-down-requires c κs =
     let t = c .before .before .before in
     let w = t .before .before .pre .2 _ (t .loop-test .taken) in
-    (omega (arith, w .least-largest, w .largest-most), w .elasticity-most)
+    (omega (arith, w .least-largest, w .largest-most, w .elasticity-most), omega (arith, w .least-largest, w .largest-most, w .elasticity-most))
 
 mul-shares : tie.Need-mul-shares Inv-loop μ-loop
 mul-shares c = omega arith

@@ -59,8 +59,11 @@ loop-less c = omega arith
 loop-again : tie.Need-loop-again Inv-loop μ-loop
 loop-again c =
     let l = c .before .before .before .before .before in
-    let a = l .before .args in
-    (omega arith, shares-more (a .shares .now) (a .least .now) (a .elasticity .now) _ (a .k) _ (l .loop .inv .1) _ (omega arith) (c .share-on .ensures ∙ on-spring _ _ _ _))
+    let a = l .before .args in (
+      omega arith,
+      shares-more (a .shares .now) (a .least .now) (a .elasticity .now) _ (a .k) _ (l .loop .inv .1) _ (omega arith)
+          (c .share-on .ensures ∙ on-spring _ _ _ _),
+    )
 
 returns : tie.Need-returns Inv-loop μ-loop
 returns c =

@@ -35,10 +35,11 @@ good-requires c κs = tt
 returns : tie.Need-returns Inv-loop μ-loop
 unfolding firstBad
 returns c =
-    let l = c .before .before .before .before in
+    let t = c .before .before .before in
+    let l = t .before in
     let rows = l .before .args .t1 .rows in
     record {
-      first = bad-here (λ j. isGood (at rows j)) _ _ (l .loop .inv .1) (c .before .before .before .loop-test .taken) _ (c .before .good2 .ensures) (c .if1 .taken);
+      first = bad-here (λ j. isGood (at rows j)) _ _ (l .loop .inv .1) (t .loop-test .taken) _ (c .before .good2 .ensures) (c .if1 .taken);
       sprung = l .loop .inv .2;
     }
 
