@@ -5,7 +5,7 @@ use mathlib.Core.Bool.{Bool, true, false, not}
 use mathlib.Core.List.{List}
 use mathlib.Core.Path.{_≡_, refl, ap}
 use native.Mathlib.Omega.{arith}
-use lib.Dec.{ltb, lit≤}
+use lib.Dec.{ltb, lit≤, lit<}
 use borrow.Author.Tests.{ltb-false}
 use Rattle.ground.specs.Choice.{both, either}
 use Rattle.ground.proofs.Cases.{true-false}
@@ -15,11 +15,12 @@ use Rattle.kinds.specs.declared.Policy.{Policy}
 use Rattle.kinds.specs.declared.Refusal.{Refusal}
 use Rattle.kinds.specs.declared.Verdict.{Verdict}
 use Rattle.kinds.specs.declared.Verdict.the-variants.{Accepted, Refused}
-use Rattle.kinds.specs.declared.Refusal.the-variants.{NoSuchPolicy, NoSuchProcessors, TooManyTasks, PolicyNotServed, OutputTooShort, BadRecord}
+use Rattle.kinds.specs.declared.Refusal.the-variants.{NoSuchPolicy, PolicyWithdrawn, NoSuchProcessors, TooManyTasks, PolicyNotServed, OutputTooShort, BadRecord}
 use Rattle.kinds.specs.Answer.{check, handedVerdict}
 use Rattle.kinds.specs.Refusal.{numberOf}
 use Rattle.kinds.specs.Limits.{mostTasks, mostProcessors}
-use Rattle.kinds.specs.Policy.{meant, isFirstFit, isFurther}
+use Rattle.kinds.specs.Policy.{meant, isWeighed, isFirstFit, isWithdrawn, isFurther, Served}
+use Rattle.kinds.proofs.Policies.{known-served}
 use Rattle.kinds.specs.Task.{at}
 use Rattle.share.specs.Table.{firstBad}
 use Rattle.share.proofs.Tables.{bad-same}
@@ -71,6 +72,7 @@ roomy-passed n room e = ltb-false _ _ (unchecked _ _ _ e .0)
 -- what 1 to 5 have checked
 pub record Passed (serves : Bool) (p : Policy) (m n room : ℕ) : Type 0 where
   pub known : isFurther p ≡ false
+  pub standing : isWithdrawn p ≡ false
   pub m-some : 1 ≤ m
   pub m-most : m ≤ mostProcessors
   pub few : n ≤ mostTasks
@@ -80,12 +82,14 @@ pub record Passed (serves : Bool) (p : Policy) (m n room : ℕ) : Type 0 where
 pub all-passed : (serves : Bool) (s : Settings) (n room : ℕ) → gateOf serves s n room ≡ Accepted → Passed serves (meant (s .policy)) (s .m) n room
 all-passed serves s n room e =
     let known = then-admitted _ _ e in
+    let numbered = unchecked _ _ _ (known .0) in
     let set = then-admitted _ _ (known .1) in
     let asked = then-admitted _ _ (set .1) in
     let opens = gate-opens (missetUnder s) n (set .0) in
     let few = set-few (s .m) n (neither _ _ (opens .0) .0) (opens .1) in
     record {
-      known = unchecked _ _ _ (known .0) .0;
+      known = numbered .0;
+      standing = unchecked _ _ _ (numbered .1) .0;
       m-some = few .m-some;
       m-most = few .m-most;
       few = few .few;
@@ -93,46 +97,69 @@ all-passed serves s n room e =
       roomy = roomy-passed n room (asked .1);
     }
 
--- the greatest number that a chain of checks gives
-check-most : (most : ℕ) (test : Bool) (r : Refusal) (rest : Verdict) → numberOf r ≤ most → handedVerdict rest .number ≤ most
-    → handedVerdict (check test (Refused r) rest) .number ≤ most
-check-most most true r rest h g = h
-check-most most false r rest h g = g
+-- a verdict does not refuse by k
+abbrev pub Unlike : ℕ → Verdict → Type 0
+Unlike k v = handedVerdict v .number ≡ k → ⊥
 
-then-most : (most : ℕ) (a rest : Verdict) → handedVerdict a .number ≤ most → handedVerdict rest .number ≤ most
-    → handedVerdict (andThen a rest) .number ≤ most
-then-most most Accepted rest h g = g
-then-most most (Refused r) rest h g = h
+pub check-unlike : (k : ℕ) (test : Bool) (r : Refusal) (rest : Verdict) → (numberOf r ≡ k → ⊥) → Unlike k rest → Unlike k (check test (Refused r) rest)
+check-unlike k true r rest h g = h
+check-unlike k false r rest h g = g
 
-gate-five : (serves : Bool) (s : Settings) (n room : ℕ) → handedVerdict (gateOf serves s n room) .number ≤ 5
+pub then-unlike : (k : ℕ) (a rest : Verdict) → Unlike k a → Unlike k rest → Unlike k (andThen a rest)
+then-unlike k Accepted rest h g = g
+then-unlike k (Refused r) rest h g = h
+
+pub gate-unlike : (test : Bool) (n k : ℕ) → 6 ≤ k → Unlike k (gate test n)
 unfolding gate
-gate-five serves s n room =
-    let p = meant (s .policy) in
-    let one = check-most 5 (isFurther p) NoSuchPolicy Accepted (lit≤ tt) (lit≤ tt) in
-    let three = check-most 5 (ltb mostTasks n) (TooManyTasks n) Accepted (lit≤ tt) (lit≤ tt) in
-    let two = check-most 5 (missetUnder s) NoSuchProcessors (check (ltb mostTasks n) (Refused (TooManyTasks n)) Accepted) (lit≤ tt) three in
-    let four = check-most 5 (both (isFirstFit p) (not serves)) PolicyNotServed Accepted (lit≤ tt) (lit≤ tt) in
-    let five = check-most 5 (ltb room n) (OutputTooShort n) Accepted (lit≤ tt) (lit≤ tt) in
-    then-most 5 (knows p) _ one (then-most 5 (gate (missetUnder s) n) _ two (then-most 5 (served serves p) (roomy n room) four five))
+gate-unlike test n k l =
+    check-unlike k test NoSuchProcessors _ (λ e. omega arith)
+    (check-unlike k (ltb mostTasks n) (TooManyTasks n) Accepted (λ e. omega arith) (λ e. omega arith))
 
--- "The lowest number comes first": where 6 is given, no number from 1 to 5 is
+pub roomy-unlike : (n room k : ℕ) → 6 ≤ k → Unlike k (roomy n room)
+roomy-unlike n room k l = check-unlike k (ltb room n) (OutputTooShort n) Accepted (λ e. omega arith) (λ e. omega arith)
+
+knows-unlike : (p : Policy) (k : ℕ) → 6 ≤ k → k < 15 → Unlike k (knows p)
+knows-unlike p k l h =
+    check-unlike k (isFurther p) NoSuchPolicy _ (λ e. omega arith)
+    (check-unlike k (isWithdrawn p) PolicyWithdrawn Accepted (λ e. omega arith) (λ e. omega arith))
+
+-- the gate refuses by 1 to 5 and by 15 only
+all-unlike : (serves : Bool) (s : Settings) (n room k : ℕ) → 6 ≤ k → k < 15 → Unlike k (gateOf serves s n room)
+all-unlike serves s n room k l h =
+    let p = meant (s .policy) in
+    let four = check-unlike k (both (isFirstFit p) (not serves)) PolicyNotServed Accepted (λ e. omega arith) (λ e. omega arith) in
+    let last = then-unlike k (served serves p) (roomy n room) four (roomy-unlike n room k l) in
+    then-unlike k (knows p) _ (knows-unlike p k l h) (then-unlike k (gate (missetUnder s) n) _ (gate-unlike (missetUnder s) n k l) last)
+
+-- "The lowest number comes first", and 15 "in the place of refusal 1": where 6 is given, none of those before it is
 pub six-last : (serves : Bool) (s : Settings) (rows : List Task) (n room place : ℕ) → admission serves s rows n room ≡ Refused (BadRecord place)
     → gateOf serves s n room ≡ Accepted
 unfolding admission
-six-last serves s rows n room place = by (gateOf serves s n room) (gate-five serves s n room)
+six-last serves s rows n room place = by (gateOf serves s n room) (all-unlike serves s n room 6 (lit≤ tt) (lit< tt))
   where
-    by : (a : Verdict) → handedVerdict a .number ≤ 5 → andThen a (recordsGood rows n) ≡ Refused (BadRecord place) → a ≡ Accepted
+    by : (a : Verdict) → Unlike 6 a → andThen a (recordsGood rows n) ≡ Refused (BadRecord place) → a ≡ Accepted
     by Accepted h e = refl
-    by (Refused r) h e = absurd (omega (arith, h, ap (λ (v : Verdict). handedVerdict v .number) e))
+    by (Refused r) h e = absurd (h (ap (λ (v : Verdict). handedVerdict v .number) e))
 
--- and none above 6
-pub admission-six : (serves : Bool) (s : Settings) (rows : List Task) (n room : ℕ) → handedVerdict (admission serves s rows n room) .number ≤ 6
+-- an admission does not refuse by 7
+pub admission-unlike : (serves : Bool) (s : Settings) (rows : List Task) (n room : ℕ) → Unlike 7 (admission serves s rows n room)
 unfolding admission
-admission-six serves s rows n room =
+admission-unlike serves s rows n room =
     let bad = firstBad rows n in
-    then-most 6 (gateOf serves s n room) (recordsGood rows n)
-    (omega (arith, gate-five serves s n room))
-    (check-most 6 (ltb bad n) (BadRecord bad) Accepted (lit≤ tt) (lit≤ tt))
+    then-unlike 7 (gateOf serves s n room) (recordsGood rows n)
+    (all-unlike serves s n room 7 (lit≤ tt) (lit< tt))
+    (check-unlike 7 (ltb bad n) (BadRecord bad) Accepted (λ e. omega arith) (λ e. omega arith))
+
+-- the policy is served, and weighed where the call does not serve policy 4
+pub passed-served : (serves : Bool) (p : Policy) (m n room : ℕ) → Passed serves p m n room → Served p
+passed-served serves p m n room a = known-served p (a .known) (a .standing)
+
+pub passed-weighed : (p : Policy) (m n room : ℕ) → Passed false p m n room → isWeighed p ≡ true
+passed-weighed p m n room a = passed-served false p m n room a (placed-not (isFirstFit p) (a .served))
+  where
+    placed-not : (b : Bool) → both b (not false) ≡ false → b ≡ false
+    placed-not true e = e
+    placed-not false e = refl
 
 pub record Ready (serves : Bool) (s : Settings) (rows : List Task) (n room : ℕ) : Type 0 where
   pub passed : Passed serves (meant (s .policy)) (s .m) n room

@@ -8,11 +8,11 @@ use Rattle.ground.specs.Choice.{both, either}
 use Rattle.kinds.specs.declared.Task.{Task}
 use Rattle.kinds.specs.declared.Policy.{Policy}
 use Rattle.kinds.specs.declared.Settings.{Settings}
-use Rattle.kinds.specs.declared.Refusal.the-variants.{NoSuchPolicy, NoSuchProcessors, TooManyTasks, PolicyNotServed, OutputTooShort, BadRecord}
+use Rattle.kinds.specs.declared.Refusal.the-variants.{NoSuchPolicy, PolicyWithdrawn, NoSuchProcessors, TooManyTasks, PolicyNotServed, OutputTooShort, BadRecord}
 use Rattle.kinds.specs.declared.Verdict.{Verdict}
 use Rattle.kinds.specs.declared.Verdict.the-variants.{Accepted, Refused}
 use Rattle.kinds.specs.Limits.{mostTasks, mostProcessors}
-use Rattle.kinds.specs.Policy.{meant, isFirstFit, isOneCore, isFurther}
+use Rattle.kinds.specs.Policy.{meant, isFirstFit, isOneCore, isWithdrawn, isFurther}
 use Rattle.kinds.specs.Answer.{check}
 use Rattle.share.specs.Table.{firstBad}
 
@@ -21,9 +21,9 @@ abbrev pub andThen : Verdict → Verdict → Verdict
 andThen Accepted rest = rest
 andThen (Refused r) rest = Refused r
 
--- 1, the policy's own refusal: it is none of those numbered
+-- the policy's own refusal: 1 where it is none of those numbered, and in the same place 15 where it is withdrawn
 abbrev pub knows : Policy → Verdict
-knows p = check (isFurther p) (Refused NoSuchPolicy) Accepted
+knows p = check (isFurther p) (Refused NoSuchPolicy) (check (isWithdrawn p) (Refused PolicyWithdrawn) Accepted)
 
 -- what 2 is given for: m is 0 or above the most
 abbrev pub misset : ℕ → Bool

@@ -14,14 +14,18 @@ ghost use Rattle.springs.specs.Handover.{Roomy};
 ghost use Rattle.admission.specs.Admission.{andThen, knows, misset, unsuited, missetUnder, gate, served, roomy, gateOf};
 ghost use Rattle.admission.specs.Handover.{AdmittedSprung};
 
-// Refusal 1, the policy's own: it is none of those numbered.
+// The policy's own refusal: 1 where it is none of those numbered, 15 where it is withdrawn.
 pub fn knows(policy: Policy) -> Verdict
     ensures { λ r. ⌜ r ≡ knows policy ⌝ }
 {
-    if policy.is_further() {
-        return Verdict::Refused(Refusal::NoSuchPolicy);
+    match policy {
+        Policy::Pooled => Verdict::Accepted,
+        Policy::GlobalEdf => Verdict::Accepted,
+        Policy::GlobalRm => Verdict::Refused(Refusal::PolicyWithdrawn),
+        Policy::FirstFit => Verdict::Accepted,
+        Policy::OneCoreRm => Verdict::Accepted,
+        Policy::Further(_) => Verdict::Refused(Refusal::NoSuchPolicy),
     }
-    Verdict::Accepted
 }
 
 // Whether there are no processors, or more than the most.

@@ -107,6 +107,12 @@ fn starred() {
     run(b"G\n", Policy::GlobalRm, 1, alone);
     run_margin(Policy::GlobalRm, 1, alone, 0);
     run(b"H\n", Policy::GlobalRm, 1, same(six, 2));
+    run(
+        b"H, the policy as a further choice, on no processor\n",
+        Policy::Further(3),
+        0,
+        same(six, 2),
+    );
     let third = same(Task::new(1, 3, 3, 0), 3);
     run(b"I\n", Policy::Pooled, 1, third);
     run_margin(Policy::Pooled, 1, third, 4_294_967_295);

@@ -1,21 +1,21 @@
 -- Between two neighbouring saturation steps every share is a line, and so is each side of the test.
 -- Assumes nothing.
-use Prim.Native.Nat.{ℕ, _+_, _-_, _*_, _≤_, _<_, max, min}
+use Prim.Native.Nat.{ℕ, _+_, _-_, _*_, _≤_, _<_, max}
 use mathlib.Core.Logic.{_↔_}
 use mathlib.Core.Path.{_≡_, ap}
-use native.Mathlib.Nat.{mul-le-mul-left, mul-le-mul-right, mul-pos, mul-lt-mul-of-pos-right, max-eq-left, max-eq-right}
+use native.Mathlib.Nat.{mul-le-mul-left, mul-le-mul-right, max-eq-left, max-eq-right}
 use native.Mathlib.Omega.{arith}
-use borrow.Author.Tests.{le-leb, lt-leb, lt-ltb, le-ltb}
+use borrow.Author.Tests.{lt-ltb, le-ltb}
 use Rattle.ground.specs.Rounding.{ceilDiv}
 use Rattle.ground.proofs.Cases.{by-le}
 use Rattle.ground.proofs.Rounding.{ceil-enough, ceil-least, ceil-over}
 use Rattle.policy.specs.declared.Weights.{Weights}
-use Rattle.policy.specs.Sides.{left, right}
+use Rattle.policy.specs.Sides.{left}
 use Rattle.rule.proofs.Shares.{share-saturated, share-above}
 use Rattle.division.specs.declared.Line.{Line}
 use Rattle.springs.specs.declared.Spring.{Spring}
 use Rattle.springs.specs.Spring.{shareOn, saturationOn}
-use Rattle.division.specs.Division.{Fair, slopeOf, slope, need, harder}
+use Rattle.division.specs.Division.{slopeOf, slope, need}
 use Rattle.division.specs.Handover.{LineIs, NeedIs}
 
 -- a spring with its saturation step above k is still falling at k
@@ -72,85 +72,48 @@ line-iff L R D j pos = (
   λ h. omega (arith, ceil-enough (L - R) D pos, mul-le-mul-right D h),
 )
 
--- while something falls, the left side falls faster than the right
-pub divisor-some : (w : Weights) → Fair w → (fall d : ℕ) → 0 < fall → d ≤ fall → 0 < left w fall d - w .c * d
-divisor-some w g fall d pos l =
-    by-le d 0
-    (λ z. let e : d ≡ 0 = omega arith in omega (arith, mul-pos (g .sum-counts) pos, ap (λ (x : ℕ). w .c * x) e, ap (λ (x : ℕ). w .b * x) e))
-    (λ z. omega (arith, mul-lt-mul-of-pos-right (g .left-heavier) z, mul-le-mul-left (w .a) l))
-
-test-line : (w : Weights) → Fair w → (sum x fall d j : ℕ) → d ≤ fall
-    → (left w sum x ≤ right w x) ↔ (left w (sum + j * fall) (x + j * d) ≤ right w (x + j * d) + j * (left w fall d - w .c * d))
-test-line w g sum x fall d j l =
-    let D : ℕ = left w fall d - w .c * d in
-    let e : D + w .c * d ≡ left w fall d = omega (arith, mul-le-mul-left (w .a) l, mul-le-mul-right d (g .sum-heavier)) in
-    let je : j * (D + w .c * d) ≡ j * (left w fall d) = ap (λ (q : ℕ). j * q) e in
-    (λ h. omega arith, λ h. omega arith)
+-- j steps on, the left side has fallen by its own fall at each step
+test-line : (w : Weights) (sum x fall d j : ℕ) → (left w sum x ≤ w .r) ↔ (left w (sum + j * fall) (x + j * d) ≤ w .r + j * left w fall d)
+test-line w sum x fall d j = (λ h. omega arith, λ h. omega arith)
 
 -- the test j steps on, with x taken for the max, by one division now
-pub need-iff : (w : Weights) → Fair w → (sum sum′ x x′ fall d j : ℕ) → 0 < fall → d ≤ fall → sum ≡ sum′ + j * fall → x ≡ x′ + j * d
-    → (need w sum fall x d ≤ j) ↔ (left w sum′ x′ ≤ right w x′)
+pub need-iff : (w : Weights) (sum sum′ x x′ fall d j : ℕ) → 0 < fall → sum ≡ sum′ + j * fall → x ≡ x′ + j * d
+    → (need w sum fall x d ≤ j) ↔ (left w sum′ x′ ≤ w .r)
 unfolding need
-need-iff w g sum sum′ x x′ fall d j pos l es ex =
-    let D : ℕ = left w fall d - w .c * d in
-    let i : (left w sum x ≤ right w x + j * D) ↔ (ceilDiv (left w sum x - right w x) D ≤ j) =
-    line-iff (left w sum x) (right w x) D j (divisor-some w g fall d pos l) in
-    let t : (left w sum′ x′ ≤ right w x′) ↔ (left w sum x ≤ right w x + j * D) = rw (es, ex) (test-line w g sum′ x′ fall d j l) in
+need-iff w sum sum′ x x′ fall d j pos es ex =
+    let i : (left w sum x ≤ w .r + j * left w fall d) ↔ (ceilDiv (left w sum x - w .r) (left w fall d) ≤ j) =
+    line-iff (left w sum x) (w .r) (left w fall d) j (omega arith) in
+    let t : (left w sum′ x′ ≤ w .r) ↔ (left w sum x ≤ w .r + j * left w fall d) = rw (es, ex) (test-line w sum′ x′ fall d j) in
     (λ h. t .1 (i .1 h), λ h. i .0 (t .0 h))
 
--- the test in the max alone: it holds of smaller ones, or of greater ones
-lower : (w : Weights) (sum x y : ℕ) → w .c ≤ w .b → x ≤ y → left w sum y ≤ right w y → left w sum x ≤ right w x
-lower w sum x y cb h t =
-    let d : ℕ = w .b - w .c in
-    let e : w .b ≡ w .c + d = omega arith in
-    omega (arith, mul-le-mul-left d h, ap (λ (q : ℕ). q * x) e, ap (λ (q : ℕ). q * y) e)
-
-higher : (w : Weights) (sum x y : ℕ) → w .b ≤ w .c → x ≤ y → left w sum x ≤ right w x → left w sum y ≤ right w y
-higher w sum x y cb h t =
-    let d : ℕ = w .c - w .b in
-    let e : w .c ≡ w .b + d = omega arith in
-    omega (arith, mul-le-mul-left d h, ap (λ (q : ℕ). q * x) e, ap (λ (q : ℕ). q * y) e)
-
-pub harder-all : (w : Weights) (x y : ℕ) → w .c ≤ w .b → harder w x y ≡ max x y
-unfolding harder
-harder-all w x y h = rw (le-leb (w .c) (w .b) h)
-
-pub harder-any : (w : Weights) (x y : ℕ) → w .b < w .c → harder w x y ≡ min x y
-unfolding harder
-harder-any w x y h = rw (lt-leb (w .c) (w .b) h)
+-- the test in the max alone: it holds of smaller ones
+lower : (w : Weights) (sum x y : ℕ) → x ≤ y → left w sum y ≤ w .r → left w sum x ≤ w .r
+lower w sum x y h t = omega (arith, mul-le-mul-left (w .b) h)
 
 -- the harder of the steps x and of a quotient rounded up, which need not be divided where a product says that it is no more
-module _ (w : Weights) (x over by : ℕ) (few : x ≤ 1000000000) where
-  pub harder-kept : w .c ≤ w .b → 1 ≤ by → over ≤ x * by → NeedIs (harder w x (ceilDiv over by)) x
-  harder-kept h some e = record { is = omega (arith, harder-all w x (ceilDiv over by) h, ceil-least over by x some e); most = few }
+module _ (x over by : ℕ) (few : x ≤ 1000000000) where
+  pub harder-kept : 1 ≤ by → over ≤ x * by → NeedIs (max x (ceilDiv over by)) x
+  harder-kept some e = record { is = omega (arith, ceil-least over by x some e); most = few }
 
-  pub harder-divided : (r : ℕ) → w .c ≤ w .b → 1 ≤ by → x * by < over → NeedIs (ceilDiv over by) r → NeedIs (harder w x (ceilDiv over by)) r
-  harder-divided r h some e n =
-      record { is = omega (arith, n .is, harder-all w x (ceilDiv over by) h, ceil-over over by x some e); most = n .most }
-
-  pub harder-smaller : (q r : ℕ) → w .b < w .c → NeedIs (ceilDiv over by) q → r ≡ min x q → NeedIs (harder w x (ceilDiv over by)) r
-  harder-smaller q r h n e = record { is = omega (arith, e, n .is, harder-any w x (ceilDiv over by) h); most = omega arith }
+  pub harder-divided : (r : ℕ) → 1 ≤ by → x * by < over → NeedIs (ceilDiv over by) r → NeedIs (max x (ceilDiv over by)) r
+  harder-divided r some e n = record { is = omega (arith, n .is, ceil-over over by x some e); most = n .most }
 
 -- the steps that a line needs
 pub need-line : (w : Weights) (sum fall x d : ℕ) (r : Line) → LineIs w sum fall x d r → ceilDiv (r .over) (r .by) ≡ need w sum fall x d
 unfolding need
 need-line w sum fall x d r l = rw (l .over-is, l .by-is)
 
--- the max over one task more, either way
-pub both-ways : (w : Weights) (sum N x j a b : ℕ) → (N ≤ j) ↔ (left w sum a ≤ right w a) → (x ≤ j) ↔ (left w sum b ≤ right w b)
-    → (harder w N x ≤ j) ↔ (left w sum (max a b) ≤ right w (max a b))
-both-ways w sum N x j a b p q =
-    by-le (w .c) (w .b)
-    (λ cb.
-    rw (harder-all w N x cb) (
-      λ h. by-le a b (λ l. rw (max-eq-right l) (q .0 (omega arith))) (λ l. let l′ : b ≤ a = omega arith in rw (max-eq-left l′) (p .0 (omega arith))),
-      λ h. omega (arith, p .1 (lower w sum a (max a b) cb (omega arith) h), q .1 (lower w sum b (max a b) cb (omega arith) h)),
-    ))
-    (λ bc.
-    let cb : w .b ≤ w .c = omega arith in
-    rw (harder-any w N x bc) (
-      λ h. by-le N j (λ l. higher w sum a (max a b) cb (omega arith) (p .0 l)) (λ l. higher w sum b (max a b) cb (omega arith) (q .0 (omega arith))),
-      λ h. by-le a b
-          (λ l. omega (arith, q .1 (rw (max-eq-right l) at h)))
-          (λ l. let l′ : b ≤ a = omega arith in omega (arith, p .1 (rw (max-eq-left l′) at h))),
-    ))
+-- where the max does not count, it does not matter which task has it
+pub need-flat : (w : Weights) (sum fall x d : ℕ) → w .b ≡ 0 → need w sum fall x d ≡ need w sum fall 0 0
+unfolding need
+need-flat w sum fall x d e =
+    let left-flat : (s y : ℕ) → left w s y ≡ left w s 0 = λ s y. omega (arith, ap (λ (b : ℕ). b * y) e, ap (λ (b : ℕ). b * 0) e) in
+    rw (left-flat sum x, left-flat fall d)
+
+-- the max over one task more
+pub both-ways : (w : Weights) (sum N x j a b : ℕ) → (N ≤ j) ↔ (left w sum a ≤ w .r) → (x ≤ j) ↔ (left w sum b ≤ w .r)
+    → (max N x ≤ j) ↔ (left w sum (max a b) ≤ w .r)
+both-ways w sum N x j a b p q = (
+  λ h. by-le a b (λ l. rw (max-eq-right l) (q .0 (omega arith))) (λ l. let l′ : b ≤ a = omega arith in rw (max-eq-left l′) (p .0 (omega arith))),
+  λ h. omega (arith, p .1 (lower w sum a (max a b) (omega arith) h), q .1 (lower w sum b (max a b) (omega arith) h)),
+)

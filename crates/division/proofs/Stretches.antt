@@ -1,6 +1,6 @@
 -- The division gives the least passing step of a stretch whose first step fails and whose last one, the next saturation step, passes.
 -- Assumes nothing.
-use Prim.Native.Nat.{ℕ, zero, suc, _+_, _-_, _*_, _≤_, _<_, min}
+use Prim.Native.Nat.{ℕ, zero, suc, _+_, _-_, _*_, _≤_, _<_, max, min}
 use mathlib.Core.Bool.{Bool, true, false}
 use mathlib.Core.Logic.{_↔_}
 use mathlib.Core.List.{List}
@@ -13,10 +13,10 @@ use borrow.Author.Tests.{leb-true, le-leb}
 use Rattle.ground.specs.Folds.{sumTo, maxTo}
 use Rattle.ground.specs.Least.{LeastAt, Rising}
 use Rattle.ground.proofs.Cases.{by-le, true-false, false-of}
-use Rattle.ground.proofs.Folds.{sum-none, sum-more, sum-cong, sum-le, max-falls, max-gap, sum-line, term-le-sum}
+use Rattle.ground.proofs.Folds.{sum-none, sum-more, sum-cong, sum-le, max-falls, sum-line, term-le-sum}
 use Rattle.kinds.specs.Limits.{greatestElasticity}
 use Rattle.policy.specs.declared.Weights.{Weights}
-use Rattle.policy.specs.Sides.{left, right}
+use Rattle.policy.specs.Sides.{left}
 use Rattle.policy.proofs.Tests.{test-stays}
 use Rattle.rule.proofs.Shares.{share-falls}
 use Rattle.springs.specs.declared.Spring.{Spring}
@@ -24,19 +24,19 @@ use Rattle.springs.specs.Spring.{shareOn, saturationOn, sharesOn, saturations}
 use Rattle.springs.specs.Handover.{Saturates}
 use Rattle.division.specs.Weighed.{weighed, weighedAt}
 use Rattle.division.specs.Next.{Next}
-use Rattle.division.specs.Division.{Fair, slopeOf, slope, slopesIn, slopeSum, need, harder, needTo, divided}
+use Rattle.division.specs.Division.{slopeOf, slope, slopesIn, slopeSum, need, needTo, divided}
 use Rattle.division.specs.Handover.{FallIs}
-use Rattle.division.proofs.Lines.{share-line, slope-some, need-iff, both-ways}
+use Rattle.division.proofs.Lines.{share-line, slope-some, need-iff, need-flat, both-ways}
 
-need-to-iff : (w : Weights) → Fair w → (springs : ℕ → Spring) (p q j sum sum′ fall n : ℕ) → 0 < fall → sum ≡ sum′ + j * fall → p + j < q
-    → ((i : ℕ) → i < n → slope (springs i) p ≤ fall) → ((i : ℕ) → i < n → p < saturationOn (springs i) → q ≤ saturationOn (springs i))
-    → (needTo w springs p sum fall n ≤ j) ↔ (left w sum′ (maxTo (sharesOn springs (p + j)) n) ≤ right w (maxTo (sharesOn springs (p + j)) n))
+need-to-iff : (w : Weights) (springs : ℕ → Spring) (p q j sum sum′ fall n : ℕ) → 0 < fall → sum ≡ sum′ + j * fall → p + j < q
+    → ((i : ℕ) → i < n → p < saturationOn (springs i) → q ≤ saturationOn (springs i))
+    → (needTo w springs p sum fall n ≤ j) ↔ (left w sum′ (maxTo (sharesOn springs (p + j)) n) ≤ w .r)
 unfolding needTo maxTo
-need-to-iff w g springs p q j sum sum′ fall zero pos es l hb hq = need-iff w g sum sum′ 0 0 fall 0 j pos (omega arith) es (omega arith)
-need-to-iff w g springs p q j sum sum′ fall (suc n) pos es l hb hq =
+need-to-iff w springs p q j sum sum′ fall zero pos es l hq = need-iff w sum sum′ 0 0 fall 0 j pos es (omega arith)
+need-to-iff w springs p q j sum sum′ fall (suc n) pos es l hq =
     both-ways w sum′ _ _ j _ _
-    (need-to-iff w g springs p q j sum sum′ fall n pos es l (λ i m. hb i (omega arith)) (λ i m. hq i (omega arith)))
-    (need-iff w g sum sum′ _ _ fall _ j pos (hb n (omega arith)) es (share-line (springs n) p q j (hq n (omega arith)) l))
+    (need-to-iff w springs p q j sum sum′ fall n pos es l (λ i m. hq i (omega arith)))
+    (need-iff w sum sum′ _ _ fall _ j pos es (share-line (springs n) p q j (hq n (omega arith)) l))
 
 pub slope-within : (springs : ℕ → Spring) (n p i : ℕ) → i < n → slope (springs i) p ≤ slopeSum springs n p
 unfolding slopeSum
@@ -48,24 +48,24 @@ something-falls springs n p q x =
     omega (arith, slope-some (springs (x .by)) p (omega (arith, x .is, x .above)), slope-within springs n p (x .by) (x .by-below))
 
 -- inside a stretch the test holds from the needed step on
-stretch : (w : Weights) → Fair w → (springs : ℕ → Spring) (n p q j : ℕ) → Next (saturations springs) n p q → p + j < q
+stretch : (w : Weights) (springs : ℕ → Spring) (n p q j : ℕ) → Next (saturations springs) n p q → p + j < q
     → (needTo w springs p (sumTo (sharesOn springs p) n) (slopeSum springs n p) n ≤ j) ↔ (weighedAt w springs n (p + j) ≡ true)
 unfolding slopeSum weighed
-stretch w g springs n p q j x l =
+stretch w springs n p q j x l =
     let t : _ ↔ _ =
-    need-to-iff w g springs p q j _ (sumTo (sharesOn springs (p + j)) n) _ n (something-falls springs n p q x)
+    need-to-iff w springs p q j _ (sumTo (sharesOn springs (p + j)) n) _ n (something-falls springs n p q x)
     (sum-line _ _ _ j n (λ i m. share-line (springs i) p q j (x .least i m) l)) l
-    (λ i m. slope-within springs n p i m) (x .least) in
+    (x .least) in
     (λ h. le-leb _ _ (t .0 h), λ h. t .1 (leb-true _ _ h))
 
 -- the test stays once it holds
-pub weighed-rising : (w : Weights) → Fair w → (springs : ℕ → Spring) (n : ℕ) → Rising (weighedAt w springs n)
+pub weighed-rising : (w : Weights) (springs : ℕ → Spring) (n : ℕ) → Rising (weighedAt w springs n)
 unfolding weighed shareOn
-weighed-rising w g springs n j k h t =
+weighed-rising w springs n j k h t =
     let falls : (i : ℕ) → i < n → shareOn (springs i) k ≤ shareOn (springs i) j =
     λ i l. share-falls (springs i .largest) (springs i .least) (springs i .elasticity) j k h in
     le-leb _ _
-    (test-stays w _ _ _ _ (g .sum-heavier) (sum-le _ _ n falls) (max-falls _ _ n falls) (max-gap _ _ n falls) (leb-true _ _ t))
+    (test-stays w _ _ _ _ (sum-le _ _ n falls) (max-falls _ _ n falls) (leb-true _ _ t))
 
 -- what fails fails at every earlier step
 pub fails-before : (test : ℕ → Bool) → Rising test → (p k : ℕ) → test p ≡ false → k ≤ p → test k ≡ false
@@ -86,12 +86,12 @@ least-by test K p q N pq qK f t e =
         let z : p + (k - p) ≡ k = omega arith in
         false-of (test k) (λ u. absurd (omega (arith, e (k - p) (omega arith) .1 (rw z u)))))
 
-pub divided-least : (w : Weights) → Fair w → (springs : ℕ → Spring) (n K p q : ℕ) → q ≤ K → Next (saturations springs) n p q
+pub divided-least : (w : Weights) (springs : ℕ → Spring) (n K p q : ℕ) → q ≤ K → Next (saturations springs) n p q
     → weighedAt w springs n p ≡ false → weighedAt w springs n q ≡ true → LeastAt (weighedAt w springs n) K (divided w springs n p q)
 unfolding divided
-divided-least w g springs n K p q h x f t =
+divided-least w springs n K p q h x f t =
     least-by (weighedAt w springs n) K p q _ (x .above) h
-    (λ k l. fails-before (weighedAt w springs n) (weighed-rising w g springs n) p k f l) t (λ j l. stretch w g springs n p q j x l)
+    (λ k l. fails-before (weighedAt w springs n) (weighed-rising w springs n) p k f l) t (λ j l. stretch w springs n p q j x l)
 
 pub divided-most : (w : Weights) (springs : ℕ → Spring) (n p q : ℕ) → divided w springs n p q ≤ q
 unfolding divided
@@ -108,8 +108,15 @@ pub need-none : (w : Weights) (springs : ℕ → Spring) (p sum fall : ℕ) → 
 unfolding needTo
 need-none w springs p sum fall = refl
 
+-- where the max does not count
+pub need-flatly : (w : Weights) (springs : ℕ → Spring) (p sum fall n : ℕ) → w .b ≡ 0 → needTo w springs p sum fall n ≡ need w sum fall 0 0
+unfolding needTo
+need-flatly w springs p sum fall zero e = refl
+need-flatly w springs p sum fall (suc n) e =
+    omega (arith, need-flatly w springs p sum fall n e, need-flat w sum fall (shareOn (springs n) p) (slope (springs n) p) e)
+
 pub need-more : (w : Weights) (springs : ℕ → Spring) (p sum fall i : ℕ)
-    → needTo w springs p sum fall (i + 1) ≡ harder w (needTo w springs p sum fall i) (need w sum fall (shareOn (springs i) p) (slope (springs i) p))
+    → needTo w springs p sum fall (i + 1) ≡ max (needTo w springs p sum fall i) (need w sum fall (shareOn (springs i) p) (slope (springs i) p))
 unfolding needTo
 need-more w springs p sum fall i = rw (add-one i)
 

@@ -4,11 +4,10 @@ use Prim.Native.Nat.{ℕ}
 use mathlib.Core.Path.{_≡_}
 use lib.Dec.{leb}
 use Rattle.policy.specs.declared.Weights.{Weights}
-use Rattle.policy.specs.Sides.{left, right}
+use Rattle.policy.specs.Sides.{left}
 use Rattle.policy.specs.Handover.{TotalIs}
 use Rattle.division.specs.Weighed.{weighed}
 
-pub weighed-worked-out : (w : Weights) (load : ℕ → ℕ) (n sum max l r : ℕ) → TotalIs load n sum max → l ≡ left w sum max → r ≡ right w max
-    → leb l r ≡ weighed w load n
+pub weighed-worked-out : (w : Weights) (load : ℕ → ℕ) (n sum max : ℕ) → TotalIs load n sum max → leb (left w sum max) (w .r) ≡ weighed w load n
 unfolding weighed
-weighed-worked-out w load n sum max l r t el er = rw (el, er, t .sum-is, t .max-is)
+weighed-worked-out w load n sum max t = rw (t .sum-is, t .max-is)

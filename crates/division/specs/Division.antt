@@ -1,22 +1,16 @@
 -- The division of a stretch: from the step p on each share falls by its slope, as far as the next saturation step.
 -- Assumes nothing.
-use Prim.Native.Nat.{ℕ, zero, suc, _+_, _-_, _*_, _≤_, _<_, max, min}
+use Prim.Native.Nat.{ℕ, zero, suc, _+_, _-_, max, min}
 use mathlib.Core.List.{List}
-use lib.Dec.{leb, ltb}
+use lib.Dec.{ltb}
 use lib.ListN.{getD}
 use Rattle.ground.specs.Choice.{pick}
 use Rattle.ground.specs.Folds.{sumTo}
 use Rattle.ground.specs.Rounding.{ceilDiv}
 use Rattle.policy.specs.declared.Weights.{Weights}
-use Rattle.policy.specs.Sides.{left, right}
+use Rattle.policy.specs.Sides.{left}
 use Rattle.springs.specs.declared.Spring.{Spring}
 use Rattle.springs.specs.Spring.{shareOn, saturationOn, sharesOn}
-
--- the sum counts, for no less than the max does on the right, and so does the whole of the left
-pub record Fair (w : Weights) : Type 0 where
-  pub sum-counts : 0 < w .a
-  pub sum-heavier : w .c ≤ w .a
-  pub left-heavier : w .c < w .a + w .b
 
 -- by how much a share falls at each step after p, before the next saturation step
 unfoldable pub slopeOf : ℕ → ℕ → ℕ → ℕ
@@ -34,17 +28,13 @@ slopeSum springs n p = sumTo (λ i. slope (springs i) p) n
 
 -- the steps that are needed after p if the task with the share x and the slope d has the max; the sum falls by `fall`
 unfoldable pub need : Weights → ℕ → ℕ → ℕ → ℕ → ℕ
-need w sum fall x d = ceilDiv (left w sum x - right w x) (left w fall d - w .c * d)
+need w sum fall x d = ceilDiv (left w sum x - w .r) (left w fall d)
 
--- "the max counts the other way" where it weighs more on the right: then the least of the needs, else the greatest
-unfoldable pub harder : Weights → ℕ → ℕ → ℕ
-harder w x y = pick (leb (w .c) (w .b)) (max x y) (min x y)
-
--- over no task (share 0, slope 0), and over each of the first n
+-- the greatest of the needs: over no task (share 0, slope 0), and over each of the first n
 unfoldable pub needTo : Weights → (ℕ → Spring) → ℕ → ℕ → ℕ → ℕ → ℕ
 needTo w springs p sum fall zero = need w sum fall 0 0
 needTo w springs p sum fall (suc n) =
-    harder w (needTo w springs p sum fall n) (need w sum fall (shareOn (springs n) p) (slope (springs n) p))
+    max (needTo w springs p sum fall n) (need w sum fall (shareOn (springs n) p) (slope (springs n) p))
 
 -- the least passing step of the stretch from p to q
 unfoldable pub divided : Weights → (ℕ → Spring) → ℕ → ℕ → ℕ → ℕ

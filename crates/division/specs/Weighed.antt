@@ -1,17 +1,17 @@
--- The test of a policy that has a formula, on springs.
+-- The test of a policy that is weighed, on springs.
 -- Assumes nothing.
 use Prim.Native.Nat.{ℕ}
 use mathlib.Core.Bool.{Bool}
 use lib.Dec.{leb}
 use Rattle.ground.specs.Folds.{sumTo, maxTo}
 use Rattle.policy.specs.declared.Weights.{Weights}
-use Rattle.policy.specs.Sides.{left, right}
+use Rattle.policy.specs.Sides.{left}
 use Rattle.springs.specs.declared.Spring.{Spring}
 use Rattle.springs.specs.Spring.{sharesOn}
 
 -- a test in the one form, over any loads
 unfoldable pub weighed : Weights → (ℕ → ℕ) → ℕ → Bool
-weighed w load n = leb (left w (sumTo load n) (maxTo load n)) (right w (maxTo load n))
+weighed w load n = leb (left w (sumTo load n) (maxTo load n)) (w .r)
 
 -- at step k on the shares of the springs
 abbrev pub weighedAt : Weights → (ℕ → Spring) → ℕ → ℕ → Bool

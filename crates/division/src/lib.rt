@@ -4,19 +4,19 @@ use kinds::Table;
 use policy::Total;
 use policy::Weights;
 ghost use mathlib.Core.Path.{_≡_};
-ghost use Prim.Native.Nat.{ℕ, _≤_, _<_};
+ghost use Prim.Native.Nat.{ℕ, _≤_, _<_, max};
 ghost use lib.Dec.{leb};
 ghost use lib.ListN.{getD};
 ghost use Rattle.ground.specs.Rounding.{ceilDiv};
 ghost use Rattle.kinds.specs.Limits.{scale, greatestElasticity, mostTasks};
-ghost use Rattle.policy.specs.Sides.{left, right};
+ghost use Rattle.policy.specs.Sides.{left};
 ghost use Rattle.policy.specs.Handover.{Light, TotalIs};
 ghost use Rattle.rule.specs.Rule.{shareOf};
 ghost use Rattle.springs.specs.Spring.{sharesOn};
 ghost use Rattle.springs.specs.Handover.{SumIs, AllWithin};
 ghost use Rattle.springs.specs.Columns.{springIn};
 ghost use Rattle.division.specs.Next.{nearer, nextTo};
-ghost use Rattle.division.specs.Division.{Fair, slopeOf, slopesIn, harder, needTo, divided};
+ghost use Rattle.division.specs.Division.{slopeOf, slopesIn, needTo, divided};
 ghost use Rattle.division.specs.Handover.{FallIs, Falls, Falling, LineIs, NeedIs, Stretches};
 
 // How far the left side of a test is above the right, and by how much that falls at each step.
@@ -54,9 +54,9 @@ pub fn total_at(
 // Whether the test holds for a sum and a max.
 pub fn weighs(w: Weights, total: Total) -> bool
     requires { ⌜ Light w × (total .sum ≤ 32000000) × (total .max ≤ scale) ⌝ }
-    ensures { λ r. ⌜ r ≡ leb (left w (total .sum) (total .max)) (right w (total .max)) ⌝ }
+    ensures { λ r. ⌜ r ≡ leb (left w (total .sum) (total .max)) (w .r) ⌝ }
 {
-    policy::left_of(w, total.sum, total.max) <= policy::right_of(w, total.max)
+    policy::left_of(w, total.sum, total.max) <= w.r
 }
 
 // Of the steps above p, the nearer of what was found before (0: nothing) and x.
@@ -111,12 +111,12 @@ fn slope_sum(
 // By how much the left side of the test is above the right if a task with this share and slope has the max, and by how much that falls
 // at each step.
 fn line_of(w: Weights, sum: u64, fall: u64, share: u64, slope: u64) -> Line
-    requires { ⌜ Light w × Fair w × (sum ≤ 32000000) × (share ≤ scale) × (1 ≤ fall) × (fall ≤ 32000000) × (slope ≤ fall) × (slope ≤ greatestElasticity) ⌝ }
+    requires { ⌜ Light w × (sum ≤ 32000000) × (share ≤ scale) × (1 ≤ fall) × (fall ≤ 32000000) × (slope ≤ greatestElasticity) ⌝ }
     ensures { λ r. ⌜ LineIs w sum fall share slope r ⌝ }
 {
     Line {
-        over: ground::less_or_zero(policy::left_of(w, sum, share), policy::right_of(w, share)),
-        by: ground::less_or_zero(policy::left_of(w, fall, slope), w.c * slope),
+        over: ground::less_or_zero(policy::left_of(w, sum, share), w.r),
+        by: policy::left_of(w, fall, slope),
     }
 }
 
@@ -131,8 +131,8 @@ fn line_of_task(
     sum: u64,
     fall: u64,
 ) -> Line
-    requires { ⌜ Light w × Fair w × (largest ≤ scale) × (least ≤ scale) × (elasticity ≤ greatestElasticity)
-        × (sum ≤ 32000000) × (1 ≤ fall) × (fall ≤ 32000000) × (slopeOf elasticity saturation p ≤ fall) ⌝ }
+    requires { ⌜ Light w × (largest ≤ scale) × (least ≤ scale) × (elasticity ≤ greatestElasticity)
+        × (sum ≤ 32000000) × (1 ≤ fall) × (fall ≤ 32000000) ⌝ }
     ensures { λ r. ⌜ LineIs w sum fall (shareOf largest least elasticity p) (slopeOf elasticity saturation p) r ⌝ }
 {
     let share = rule::share_at(
@@ -153,19 +153,16 @@ fn need_of(line: Line) -> u64
     ground::ceil_div(line.over, line.by)
 }
 
-// The greater of the steps needed before and those that a line needs, or the smaller where the max counts the other way. It divides only
-// where it must: a product says that a line needs no more.
-fn harder_of(w: Weights, before: u64, line: Line) -> u64
+// The greater of the steps needed before and those that a line needs. It divides only where it must: a product says that a line needs
+// no more.
+fn harder_of(before: u64, line: Line) -> u64
     requires { ⌜ Falling line × (before ≤ 1000000000) ⌝ }
-    ensures { λ r. ⌜ NeedIs (harder w before (ceilDiv (line .over) (line .by))) r ⌝ }
+    ensures { λ r. ⌜ NeedIs (max before (ceilDiv (line .over) (line .by))) r ⌝ }
 {
-    if w.c <= w.b {
-        if line.over <= before * line.by {
-            return before;
-        }
-        return need_of(line);
+    if line.over <= before * line.by {
+        return before;
     }
-    ground::smaller(before, need_of(line))
+    need_of(line)
 }
 
 // The steps that are needed after p, over all tasks.
@@ -180,7 +177,7 @@ fn need_over(
     sum: u64,
     fall: u64,
 ) -> u64
-    requires { ⌜ Light w × Fair w × Falls (springIn (now largest) (now least) (now elasticity)) (now saturation) n p sum fall ⌝ }
+    requires { ⌜ Light w × Falls (springIn (now largest) (now least) (now elasticity)) (now saturation) n sum fall ⌝ }
     ensures { λ r. ⌜ r ≡ needTo w (springIn (now (largest .entry)) (now (least .entry)) (now (elasticity .entry))) p sum fall n ⌝ }
 {
     let mut hardest = need_of(line_of(w, sum, fall, 0, 0));
@@ -195,9 +192,30 @@ fn need_over(
             sum,
             fall,
         );
-        hardest = harder_of(w, hardest, line);
+        hardest = harder_of(hardest, line);
     }
     hardest
+}
+
+// The same, without the walk where the max does not count: there no task needs more than none.
+fn needed(
+    w: Weights,
+    largest: &[u32; Table::MOST_TASKS],
+    least: &[u32; Table::MOST_TASKS],
+    elasticity: &[u32; Table::MOST_TASKS],
+    saturation: &[u32; Table::MOST_TASKS],
+    n: usize,
+    p: u32,
+    sum: u64,
+    fall: u64,
+) -> u64
+    requires { ⌜ Light w × Falls (springIn (now largest) (now least) (now elasticity)) (now saturation) n sum fall ⌝ }
+    ensures { λ r. ⌜ r ≡ needTo w (springIn (now (largest .entry)) (now (least .entry)) (now (elasticity .entry))) p sum fall n ⌝ }
+{
+    if w.b == 0 {
+        return need_of(line_of(w, sum, fall, 0, 0));
+    }
+    need_over(w, largest, least, elasticity, saturation, n, p, sum, fall)
 }
 
 // The least passing step of the stretch from p, which fails, to the next saturation step q, which passes. The sum of the shares at p
@@ -213,12 +231,12 @@ pub fn divide(
     q: u32,
     sum: u64,
 ) -> u32
-    requires { ⌜ Light w × Fair w × Stretches (springIn (now largest) (now least) (now elasticity)) (now saturation) n p q
+    requires { ⌜ Light w × Stretches (springIn (now largest) (now least) (now elasticity)) (now saturation) n p q
         × SumIs (springIn (now largest) (now least) (now elasticity)) n p sum ⌝ }
     ensures { λ r. ⌜ r ≡ divided w (springIn (now (largest .entry)) (now (least .entry)) (now (elasticity .entry))) n p q ⌝ }
 {
     let fall = slope_sum(elasticity, saturation, n, p);
-    let more = need_over(w, largest, least, elasticity, saturation, n, p, sum, fall);
+    let more = needed(w, largest, least, elasticity, saturation, n, p, sum, fall);
     if more < (q - p) as u64 {
         return p + more as u32;
     }

@@ -3,7 +3,6 @@
 use Prim.Native.Nat.{ℕ, zero, suc, _+_, _*_, _≤_, _<_, max}
 use mathlib.Core.Bool.{Bool, true, false}
 use mathlib.Core.Path.{_≡_, refl, ap, sym, _∙_}
-use native.Mathlib.Nat.{max-eq-left, max-eq-right}
 use native.Mathlib.Numerals.{add-one}
 use native.Mathlib.Omega.{arith}
 use Rattle.ground.specs.Choice.{bit}
@@ -70,16 +69,6 @@ unfolding maxTo
 max-to-le f zero b h = omega arith
 max-to-le f (suc n) b h = omega (arith, max-to-le f n b (λ i l. h i (omega arith)), h n (omega arith))
 
--- what is true of 0 and of each value is true of their maximum
-pub max-at : (P : ℕ → Type 0) (f : ℕ → ℕ) (n : ℕ) → P 0 → ((i : ℕ) → i < n → P (f i)) → P (maxTo f n)
-unfolding maxTo
-max-at P f zero z h = z
-max-at P f (suc n) z h =
-    let rec : P (maxTo f n) = max-at P f n z (λ i l. h i (omega arith)) in
-    by-le (maxTo f n) (f n)
-    (λ l. rw (max-eq-right l) (h n (omega arith)))
-    (λ l. let l′ : f n ≤ maxTo f n = omega arith in rw (max-eq-left l′) rec)
-
 -- a number below the maximum is below one of the values
 pub max-reached : (f : ℕ → ℕ) (n b : ℕ) → b < maxTo f n → (i : ℕ) × (i < n) × (b < f i)
 unfolding maxTo
@@ -89,23 +78,9 @@ max-reached f (suc n) b h =
     (λ l. (n, omega arith, l))
     (λ l. let r = max-reached f n b (omega arith) in (r .0, omega (arith, r .1), r .2))
 
--- values that fall: the maximum falls, and the sum falls at least as far
+-- values that fall: the maximum falls
 pub max-falls : (f g : ℕ → ℕ) (n : ℕ) → ((i : ℕ) → i < n → g i ≤ f i) → maxTo g n ≤ maxTo f n
 max-falls f g n h = max-to-le g n (maxTo f n) (λ i l. omega (arith, h i l, le-max-to f n i l))
-
-sum-gap : (f g : ℕ → ℕ) (n i : ℕ) → ((i : ℕ) → i < n → g i ≤ f i) → i < n → sumTo g n + f i ≤ sumTo f n + g i
-unfolding sumTo
-sum-gap f g zero i h l = absurd (omega arith)
-sum-gap f g (suc n) i h l =
-    by-le (suc i) n
-    (λ l′. omega (arith, sum-gap f g n i (λ j m. h j (omega arith)) l′, h n (omega arith)))
-    (λ l′. let e : i ≡ n = omega arith in omega (arith, sum-le g f n (λ j m. h j (omega arith)), ap f e, ap g e))
-
-pub max-gap : (f g : ℕ → ℕ) (n : ℕ) → ((i : ℕ) → i < n → g i ≤ f i) → sumTo g n + maxTo f n ≤ sumTo f n + maxTo g n
-max-gap f g n h =
-    max-at (λ x. sumTo g n + x ≤ sumTo f n + maxTo g n) f n
-    (omega (arith, sum-le g f n h))
-    (λ i l. omega (arith, sum-gap f g n i h l, le-max-to g n i l))
 
 pub max-cong : (f g : ℕ → ℕ) (n : ℕ) → ((i : ℕ) → i < n → f i ≡ g i) → maxTo f n ≡ maxTo g n
 unfolding maxTo

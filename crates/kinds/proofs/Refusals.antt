@@ -8,7 +8,7 @@ use Rattle.ground.specs.Choice.{pick}
 use Rattle.kinds.specs.declared.Refusal.{Refusal}
 use Rattle.kinds.specs.declared.Refusal.the-variants.{NoSuchPolicy, NoSuchProcessors, TooManyTasks, PolicyNotServed, OutputTooShort}
 use Rattle.kinds.specs.declared.Refusal.the-variants.{BadRecord, NoStepPasses, SheetEnds, NotTwoSettings, WrongResultCount}
-use Rattle.kinds.specs.declared.Refusal.the-variants.{BytesAfterLast, BadLine, BadPeriod, NoResults, WrongResult}
+use Rattle.kinds.specs.declared.Refusal.the-variants.{BytesAfterLast, PolicyWithdrawn, BadLine, BadPeriod, NoResults, WrongResult}
 use Rattle.kinds.specs.Refusal.{numberOf, placeOf}
 
 -- from its number and place a refusal can be had back
@@ -25,10 +25,11 @@ again number place =
     (pick (eqb number 9) NotTwoSettings
     (pick (eqb number 10) (WrongResultCount place)
     (pick (eqb number 11) (BytesAfterLast place)
+    (pick (eqb number 15) PolicyWithdrawn
     (pick (eqb number 16) (BadLine place)
     (pick (eqb number 17) (BadPeriod place)
     (pick (eqb number 18) NoResults
-    (WrongResult place))))))))))))))
+    (WrongResult place)))))))))))))))
 
 again-is : (r : Refusal) → again (numberOf r) (placeOf r) ≡ r
 unfolding again
@@ -43,6 +44,7 @@ again-is (SheetEnds place) = refl
 again-is NotTwoSettings = refl
 again-is (WrongResultCount place) = refl
 again-is (BytesAfterLast place) = refl
+again-is PolicyWithdrawn = refl
 again-is (BadLine place) = refl
 again-is (BadPeriod place) = refl
 again-is NoResults = refl
@@ -64,6 +66,7 @@ refusal-numbered (SheetEnds place) = omega arith
 refusal-numbered NotTwoSettings = omega arith
 refusal-numbered (WrongResultCount place) = omega arith
 refusal-numbered (BytesAfterLast place) = omega arith
+refusal-numbered PolicyWithdrawn = omega arith
 refusal-numbered (BadLine place) = omega arith
 refusal-numbered (BadPeriod place) = omega arith
 refusal-numbered NoResults = omega arith

@@ -2,6 +2,7 @@
 -- Assumes nothing.
 use Prim.Native.Nat.{ℕ}
 use mathlib.Core.Bool.{Bool, true, false}
+use mathlib.Core.Path.{_≡_}
 use lib.Dec.{eqb}
 use Rattle.ground.specs.Choice.{pick}
 use Rattle.kinds.specs.declared.Policy.{Policy}
@@ -27,14 +28,14 @@ policyNumber (Further q) = q
 abbrev pub meant : Policy → Policy
 meant p = policyOf (policyNumber p)
 
--- policies 1 to 3 and 5, whose tests have a formula
-abbrev pub hasFormula : Policy → Bool
-hasFormula Pooled = true
-hasFormula GlobalEdf = true
-hasFormula GlobalRm = true
-hasFormula FirstFit = false
-hasFormula OneCoreRm = true
-hasFormula (Further q) = false
+-- policies 1, 2 and 5, whose tests weigh the sum and the max against a bound
+abbrev pub isWeighed : Policy → Bool
+isWeighed Pooled = true
+isWeighed GlobalEdf = true
+isWeighed GlobalRm = false
+isWeighed FirstFit = false
+isWeighed OneCoreRm = true
+isWeighed (Further q) = false
 
 -- policy 4
 abbrev pub isFirstFit : Policy → Bool
@@ -54,6 +55,15 @@ isOneCore FirstFit = false
 isOneCore OneCoreRm = true
 isOneCore (Further q) = false
 
+-- Ask 8: "Global RM is withdrawn."
+abbrev pub isWithdrawn : Policy → Bool
+isWithdrawn Pooled = false
+isWithdrawn GlobalEdf = false
+isWithdrawn GlobalRm = true
+isWithdrawn FirstFit = false
+isWithdrawn OneCoreRm = false
+isWithdrawn (Further q) = false
+
 -- none of the five
 abbrev pub isFurther : Policy → Bool
 isFurther Pooled = false
@@ -62,6 +72,10 @@ isFurther GlobalRm = false
 isFurther FirstFit = false
 isFurther OneCoreRm = false
 isFurther (Further q) = true
+
+-- a policy that is served is placed by first fit, or weighed
+abbrev pub Served : Policy → Type 0
+Served p = isFirstFit p ≡ false → isWeighed p ≡ true
 
 abbrev pub settings : Policy → ℕ → Settings
 settings policy m = record { policy = policy; m = m }

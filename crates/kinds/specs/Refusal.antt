@@ -4,7 +4,7 @@ use Prim.Native.Nat.{ℕ}
 use Rattle.kinds.specs.declared.Refusal.{Refusal}
 use Rattle.kinds.specs.declared.Refusal.the-variants.{NoSuchPolicy, NoSuchProcessors, TooManyTasks, PolicyNotServed, OutputTooShort}
 use Rattle.kinds.specs.declared.Refusal.the-variants.{BadRecord, NoStepPasses, SheetEnds, NotTwoSettings, WrongResultCount}
-use Rattle.kinds.specs.declared.Refusal.the-variants.{BytesAfterLast, BadLine, BadPeriod, NoResults, WrongResult}
+use Rattle.kinds.specs.declared.Refusal.the-variants.{BytesAfterLast, PolicyWithdrawn, BadLine, BadPeriod, NoResults, WrongResult}
 
 abbrev pub numberOf : Refusal → ℕ
 numberOf NoSuchPolicy = 1
@@ -18,6 +18,7 @@ numberOf (SheetEnds place) = 8
 numberOf NotTwoSettings = 9
 numberOf (WrongResultCount place) = 10
 numberOf (BytesAfterLast place) = 11
+numberOf PolicyWithdrawn = 15
 numberOf (BadLine place) = 16
 numberOf (BadPeriod place) = 17
 numberOf NoResults = 18
@@ -35,6 +36,7 @@ placeOf (SheetEnds place) = place
 placeOf NotTwoSettings = 0
 placeOf (WrongResultCount place) = place
 placeOf (BytesAfterLast place) = place
+placeOf PolicyWithdrawn = 0
 placeOf (BadLine place) = place
 placeOf (BadPeriod place) = place
 placeOf NoResults = 0

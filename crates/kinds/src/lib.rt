@@ -3,7 +3,7 @@
 ghost use mathlib.Core.Path.{_≡_};
 ghost use Rattle.kinds.specs.Limits.{scale, longestPeriod, greatestElasticity, mostTasks, mostProcessors};
 ghost use Rattle.kinds.specs.Task.{isGood, task, table};
-ghost use Rattle.kinds.specs.Policy.{policyOf, policyNumber, meant, hasFormula, isFirstFit, isOneCore, isFurther, settings};
+ghost use Rattle.kinds.specs.Policy.{policyOf, policyNumber, meant, isFirstFit, isOneCore, settings};
 ghost use Rattle.kinds.specs.Refusal.{numberOf, placeOf};
 ghost use Rattle.kinds.specs.Answer.{isAccepted, stepOf};
 
@@ -126,20 +126,6 @@ impl Policy {
         Policy::of(self.number())
     }
 
-    // Policies 1 to 3 and 5, whose tests have a formula.
-    pub fn has_formula(self) -> bool
-        ensures { λ r. ⌜ r ≡ hasFormula self ⌝ }
-    {
-        match self {
-            Policy::Pooled => true,
-            Policy::GlobalEdf => true,
-            Policy::GlobalRm => true,
-            Policy::FirstFit => false,
-            Policy::OneCoreRm => true,
-            Policy::Further(_) => false,
-        }
-    }
-
     // Policy 4.
     pub fn is_first_fit(self) -> bool
         ensures { λ r. ⌜ r ≡ isFirstFit self ⌝ }
@@ -165,20 +151,6 @@ impl Policy {
             Policy::FirstFit => false,
             Policy::OneCoreRm => true,
             Policy::Further(_) => false,
-        }
-    }
-
-    // None of the five.
-    pub fn is_further(self) -> bool
-        ensures { λ r. ⌜ r ≡ isFurther self ⌝ }
-    {
-        match self {
-            Policy::Pooled => false,
-            Policy::GlobalEdf => false,
-            Policy::GlobalRm => false,
-            Policy::FirstFit => false,
-            Policy::OneCoreRm => false,
-            Policy::Further(_) => true,
         }
     }
 }
@@ -241,6 +213,7 @@ pub enum Refusal {
     NotTwoSettings,
     WrongResultCount(usize),
     BytesAfterLast(usize),
+    PolicyWithdrawn,
     BadLine(usize),
     BadPeriod(usize),
     NoResults,
@@ -263,6 +236,7 @@ impl Refusal {
             Refusal::NotTwoSettings => 9,
             Refusal::WrongResultCount(_) => 10,
             Refusal::BytesAfterLast(_) => 11,
+            Refusal::PolicyWithdrawn => 15,
             Refusal::BadLine(_) => 16,
             Refusal::BadPeriod(_) => 17,
             Refusal::NoResults => 18,
@@ -285,6 +259,7 @@ impl Refusal {
             Refusal::NotTwoSettings => 0,
             Refusal::WrongResultCount(place) => place,
             Refusal::BytesAfterLast(place) => place,
+            Refusal::PolicyWithdrawn => 0,
             Refusal::BadLine(place) => place,
             Refusal::BadPeriod(place) => place,
             Refusal::NoResults => 0,

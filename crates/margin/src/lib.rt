@@ -1,4 +1,4 @@
-// The margin of a step: by how much a table passes or fails the test of policies 1 to 3. Contracts cite `specs/Margin`.
+// The margin of a step: by how much a table passes or fails the test of policies 1, 2 and 5. Contracts cite `specs/Margin`.
 use kinds::Margin;
 use kinds::Settings;
 use kinds::Table;

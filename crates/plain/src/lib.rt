@@ -12,6 +12,7 @@ ghost use mathlib.Core.Path.{_≡_};
 ghost use Prim.Native.Nat.{_≤_};
 ghost use Rattle.kinds.specs.Answer.{handed};
 ghost use Rattle.kinds.specs.Limits.{mostProcessors};
+ghost use Rattle.kinds.specs.Policy.{Served};
 ghost use Rattle.springs.specs.Columns.{columns, springIn};
 ghost use Rattle.springs.specs.Handover.{Roomy};
 ghost use Rattle.plan.specs.Plan.{found, outcome, Meets};
@@ -130,7 +131,7 @@ fn least_step(
     saturation: &[u32; Table::MOST_TASKS],
     n: usize,
 ) -> Step
-    requires { ⌜ Searchable (now shares) (now least) (now elasticity) n × (1 ≤ m) × (m ≤ mostProcessors) ⌝ }
+    requires { ⌜ Searchable (now shares) (now least) (now elasticity) n × (1 ≤ m) × (m ≤ mostProcessors) × Served policy ⌝ }
     ensures { λ r. ⌜ StepHeld policy m (springIn (now (shares .entry)) (now (least .entry)) (now (elasticity .entry)))
         (now (saturation .entry)) n r (now (shares .exit)) ⌝ }
 {

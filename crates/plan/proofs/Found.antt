@@ -16,7 +16,7 @@ use Rattle.kinds.specs.declared.Answer.{Answer}
 use Rattle.kinds.specs.declared.Answer.the-variants.{Accepted, Refused}
 use Rattle.kinds.specs.declared.Refusal.{Refusal}
 use Rattle.kinds.specs.declared.Refusal.the-variants.{NoStepPasses}
-use Rattle.kinds.specs.Answer.{Handed, accepted, handed, isAccepted, stepOf, after, handedVerdict}
+use Rattle.kinds.specs.Answer.{Handed, accepted, handed, isAccepted, stepOf, after}
 use Rattle.kinds.specs.Policy.{meant}
 use Rattle.kinds.proofs.Answers.{not-refused}
 use Rattle.share.specs.Table.{periodsAt}
@@ -28,7 +28,7 @@ use Rattle.policy.specs.Passing.{leastStep}
 use Rattle.policy.proofs.Demand.{step-at}
 use Rattle.kinds.specs.declared.Verdict as verdict
 use Rattle.admission.specs.Admission.{admission}
-use Rattle.admission.proofs.Chain.{Ready, admitted, not-admitted, admission-six}
+use Rattle.admission.proofs.Chain.{Ready, admitted, not-admitted, Unlike, admission-unlike}
 use Rattle.plan.specs.Plan.{processorOn, processorsAt, decided, periodsAfter, processorsAfter, found, outcome, Meets}
 use Rattle.plan.specs.Handover.{FoundHeld, Leaves, MayGrant}
 use Rattle.plan.proofs.Processors.{held-processors, placeable}
@@ -53,16 +53,16 @@ refused-held (Accepted k) a step r e q t = not-admitted a q (decided-accepted a 
 refused-held (Refused x) a step r e q t = true-false t refl
 
 -- no admission refuses by 7, so 7 comes from the search for a step
-decided-seven : (a : verdict.Verdict) (step : Step) → handedVerdict a .number ≤ 6 → decided a step .number ≡ 7
+pub decided-seven : (a : verdict.Verdict) (step : Step) → Unlike 7 a → decided a step .number ≡ 7
     → (a ≡ verdict.the-variants.Accepted) × (step ≡ Nothing)
-decided-seven (verdict.the-variants.Refused r) step h e = absurd (omega arith)
+decided-seven (verdict.the-variants.Refused r) step h e = absurd (h e)
 decided-seven verdict.the-variants.Accepted (At j) h e = absurd (omega arith)
 decided-seven verdict.the-variants.Accepted Nothing h e = (refl, refl)
 
 pub refused-seven : (serves : Bool) (s : Settings) (rows : List Task) (n room : ℕ) → found serves s rows n room .number ≡ 7
     → (admission serves s rows n room ≡ verdict.the-variants.Accepted) × (leastStep (meant (s .policy)) (s .m) rows n ≡ Nothing)
 unfolding found
-refused-seven serves s rows n room e = decided-seven _ _ (admission-six serves s rows n room) e
+refused-seven serves s rows n room e = decided-seven _ _ (admission-unlike serves s rows n room) e
 
 pub record Accepting (serves : Bool) (s : Settings) (rows : List Task) (n room k : ℕ) : Type 0 where
   pub ready : Ready serves s rows n room

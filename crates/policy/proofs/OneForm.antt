@@ -1,39 +1,35 @@
--- The one form of the tests is what document 01 prints for each policy.
+-- The one form of the tests is what the documents print for each policy that is weighed.
 -- Assumes nothing.
 use Prim.Native.Nat.{ℕ, _*_, _≤_}
+use mathlib.Core.Bool.{true}
 use mathlib.Core.Path.{_≡_, refl}
 use native.Mathlib.Nat.{mul-le-mul}
 use native.Mathlib.Omega.{arith}
+use Rattle.ground.proofs.Cases.{true-false}
 use Rattle.kinds.specs.declared.Policy.{Policy}
 use Rattle.kinds.specs.declared.Policy.the-variants.{Pooled, GlobalEdf, GlobalRm, FirstFit, OneCoreRm, Further}
 use Rattle.kinds.specs.Limits.{scale}
+use Rattle.kinds.specs.Policy.{isWeighed}
 use Rattle.policy.specs.declared.Weights.{Weights}
-use Rattle.policy.specs.Sides.{leftSide, rightSide, left, right, weightsOf}
+use Rattle.policy.specs.Sides.{leftSide, rightSide, left, weightsOf}
 use Rattle.policy.specs.Handover.{Light}
 
-pub one-left : (p : Policy) (m n sum max : ℕ) → left (weightsOf p m n) sum max ≡ leftSide p m sum max
-one-left Pooled m n sum max = omega arith
-one-left GlobalEdf m n sum max = omega arith
-one-left GlobalRm m n sum max = refl
-one-left FirstFit m n sum max = omega arith
-one-left OneCoreRm m n sum max = omega arith
-one-left (Further q) m n sum max = omega arith
+pub one-left : (p : Policy) (m n sum max : ℕ) → isWeighed p ≡ true → left (weightsOf p m n) sum max ≡ leftSide p m sum max
+one-left Pooled m n sum max f = omega arith
+one-left GlobalEdf m n sum max f = refl
+one-left GlobalRm m n sum max f = true-false f refl
+one-left FirstFit m n sum max f = true-false f refl
+one-left OneCoreRm m n sum max f = omega arith
+one-left (Further q) m n sum max f = true-false f refl
 
-pub one-right : (p : Policy) (m n max : ℕ) → right (weightsOf p m n) max ≡ rightSide p m n max
-one-right Pooled m n max = omega arith
-one-right GlobalEdf m n max = omega arith
-one-right GlobalRm m n max = refl
-one-right FirstFit m n max = omega arith
-one-right OneCoreRm m n max = omega arith
-one-right (Further q) m n max = omega arith
+pub one-right : (p : Policy) (m n max : ℕ) → isWeighed p ≡ true → weightsOf p m n .r ≡ rightSide p m n max
+one-right Pooled m n max f = refl
+one-right GlobalEdf m n max f = refl
+one-right GlobalRm m n max f = true-false f refl
+one-right FirstFit m n max f = true-false f refl
+one-right OneCoreRm m n max f = refl
+one-right (Further q) m n max f = true-false f refl
 
--- the products that the code forms are small
-module _ (w : Weights) (l : Light w) where
-  pub sum-part : (sum : ℕ) → sum ≤ 32000000 → w .a * sum ≤ 512000000
-  sum-part sum h = mul-le-mul (l .a-most) h
-
-  pub left-part : (max : ℕ) → max ≤ scale → w .b * max ≤ 16000000
-  left-part max h = mul-le-mul (l .b-most) h
-
-  pub right-part : (max : ℕ) → max ≤ scale → w .c * max ≤ 16000000
-  right-part max h = mul-le-mul (l .c-most) h
+-- the product that the code forms is small
+pub max-part : (w : Weights) → Light w → (max : ℕ) → max ≤ scale → w .b * max ≤ 16000000
+max-part w l max h = mul-le-mul (l .b-most) h

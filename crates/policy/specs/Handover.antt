@@ -8,9 +8,7 @@ use Rattle.policy.specs.declared.Weights.{Weights}
 
 -- weights that are small enough that no side overflows
 pub record Light (w : Weights) : Type 0 where
-  pub a-most : w .a ≤ 16
   pub b-most : w .b ≤ 16
-  pub c-most : w .c ≤ 16
   pub r-most : w .r ≤ 16000000
 
 -- a side, with the bound that its callers need

@@ -31,20 +31,17 @@ rightSide (Further q) m n max = 0
 unfoldable pub marginOf : Policy → ℕ → (ℕ → ℕ) → ℕ → ℤ
 marginOf p m load n = subℕ (rightSide p m n (maxTo load n)) (leftSide p m (sumTo load n) (maxTo load n))
 
--- the one form: a · sum + b · max ≤ r + c · max
+-- the one form of the policies that are weighed: sum + b · max ≤ r
 abbrev pub left : Weights → ℕ → ℕ → ℕ
-left w sum max = w .a * sum + w .b * max
+left w sum max = sum + w .b * max
 
-abbrev pub right : Weights → ℕ → ℕ
-right w max = w .r + w .c * max
-
-abbrev pub weights : ℕ → ℕ → ℕ → ℕ → Weights
-weights a b c r = record { a = a; b = b; c = c; r = r }
+abbrev pub weights : ℕ → ℕ → Weights
+weights b r = record { b = b; r = r }
 
 abbrev pub weightsOf : Policy → ℕ → ℕ → Weights
-weightsOf Pooled m n = weights 1 0 0 (m * scale)
-weightsOf GlobalEdf m n = weights 1 (m - 1) 0 (m * scale)
-weightsOf GlobalRm m n = weights 2 m 2 (m * scale)
-weightsOf FirstFit m n = weights 0 0 0 0
-weightsOf OneCoreRm m n = weights 1 0 0 (boundOf n)
-weightsOf (Further q) m n = weights 0 0 0 0
+weightsOf Pooled m n = weights 0 (m * scale)
+weightsOf GlobalEdf m n = weights (m - 1) (m * scale)
+weightsOf GlobalRm m n = weights 0 0
+weightsOf FirstFit m n = weights 0 0
+weightsOf OneCoreRm m n = weights 0 (boundOf n)
+weightsOf (Further q) m n = weights 0 0

@@ -3,26 +3,26 @@
 use kinds::Policy;
 use kinds::Share;
 use kinds::Table;
+ghost use mathlib.Core.Bool.{true};
 ghost use mathlib.Core.Path.{_≡_};
 ghost use Prim.Native.Nat.{_≤_};
 ghost use lib.IntN.{subℕ};
 ghost use Rattle.ground.specs.Folds.{sumTo};
 ghost use Rattle.kinds.specs.Limits.{scale, mostTasks, mostProcessors};
+ghost use Rattle.kinds.specs.Policy.{isWeighed, Served};
 ghost use Rattle.fit.specs.Fit.{loadIn};
 ghost use Rattle.fit.specs.Handover.{Loads};
-ghost use Rattle.policy.specs.Sides.{weightsOf, left, right, marginOf};
+ghost use Rattle.policy.specs.Sides.{weightsOf, left, marginOf};
 ghost use Rattle.policy.specs.Handover.{Light, SideIs, TotalIs};
 ghost use Rattle.policy.specs.Passing.{passes};
 
-// The test of a policy that has a formula is a · sum + b · max ≤ r + c · max.
+// The test of a policy that is weighed is sum + b · max ≤ r.
 pub struct Weights {
-    pub a: u64,
     pub b: u64,
-    pub c: u64,
     pub r: u64,
 }
 
-// The weights of a policy for n tasks on m processors; one that has no formula has none.
+// The weights of a policy for n tasks on m processors; one that is not weighed has none.
 pub fn weights_of(policy: Policy, m: u16, n: usize) -> Weights
     requires { ⌜ (1 ≤ m) × (m ≤ mostProcessors) × (n ≤ mostTasks) ⌝ }
     ensures { λ w. ⌜ (w ≡ weightsOf policy m n) × Light w ⌝ }
@@ -30,42 +30,15 @@ pub fn weights_of(policy: Policy, m: u16, n: usize) -> Weights
     let m = m as u64;
     let all = m * Share::SCALE;
     match policy {
-        Policy::Pooled => Weights {
-            a: 1,
-            b: 0,
-            c: 0,
-            r: all,
-        },
-        Policy::GlobalEdf => Weights {
-            a: 1,
-            b: m - 1,
-            c: 0,
-            r: all,
-        },
-        Policy::GlobalRm => Weights {
-            a: 2,
-            b: m,
-            c: 2,
-            r: all,
-        },
-        Policy::FirstFit => Weights {
-            a: 0,
-            b: 0,
-            c: 0,
-            r: 0,
-        },
+        Policy::Pooled => Weights { b: 0, r: all },
+        Policy::GlobalEdf => Weights { b: m - 1, r: all },
+        Policy::GlobalRm => Weights { b: 0, r: 0 },
+        Policy::FirstFit => Weights { b: 0, r: 0 },
         Policy::OneCoreRm => Weights {
-            a: 1,
             b: 0,
-            c: 0,
             r: bound::bound_of(n),
         },
-        Policy::Further(_) => Weights {
-            a: 0,
-            b: 0,
-            c: 0,
-            r: 0,
-        },
+        Policy::Further(_) => Weights { b: 0, r: 0 },
     }
 }
 
@@ -74,15 +47,7 @@ pub fn left_of(w: Weights, sum: u64, max: u64) -> u64
     requires { ⌜ Light w × (sum ≤ 32000000) × (max ≤ scale) ⌝ }
     ensures { λ r. ⌜ SideIs (left w sum max) r ⌝ }
 {
-    w.a * sum + w.b * max
-}
-
-// The right side of the test, for a max.
-pub fn right_of(w: Weights, max: u64) -> u64
-    requires { ⌜ Light w × (max ≤ scale) ⌝ }
-    ensures { λ r. ⌜ SideIs (right w max) r ⌝ }
-{
-    w.r + w.c * max
+    sum + w.b * max
 }
 
 // The sum and the max of some loads.
@@ -109,21 +74,18 @@ pub fn total_of(loads: &[u32; Table::MOST_TASKS], n: usize) -> Total
     }
 }
 
-// Whether n tasks with these loads pass the policy's test on m processors.
+// Whether n tasks with these loads pass the test of a policy that is served on m processors.
 pub fn passes(policy: Policy, m: u16, loads: &[u32; Table::MOST_TASKS], n: usize) -> bool
-    requires { ⌜ Loads (now loads) n × (1 ≤ m) × (m ≤ mostProcessors) ⌝ }
+    requires { ⌜ Loads (now loads) n × (1 ≤ m) × (m ≤ mostProcessors) × Served policy ⌝ }
     ensures { λ r. ⌜ r ≡ passes policy m (loadIn (now (loads .entry))) n ⌝ }
 {
-    if policy.has_formula() {
-        let w = weights_of(policy, m, n);
-        let total = total_of(loads, n);
-        return left_of(w, total.sum, total.max) <= right_of(w, total.max);
-    }
     if policy.is_first_fit() {
         let trial = fit::first_fit(loads, n, m as usize);
         return trial.placed;
     }
-    false
+    let w = weights_of(policy, m, n);
+    let total = total_of(loads, n);
+    left_of(w, total.sum, total.max) <= w.r
 }
 
 // The same with the sum of the loads at hand: where they add up to more than the processors have, no policy passes and none is tried.
@@ -134,7 +96,7 @@ pub fn passes_summed(
     n: usize,
     sum: u64,
 ) -> bool
-    requires { ⌜ Loads (now loads) n × (1 ≤ m) × (m ≤ mostProcessors) × (sum ≡ sumTo (loadIn (now loads)) n) ⌝ }
+    requires { ⌜ Loads (now loads) n × (1 ≤ m) × (m ≤ mostProcessors) × Served policy × (sum ≡ sumTo (loadIn (now loads)) n) ⌝ }
     ensures { λ r. ⌜ r ≡ passes policy m (loadIn (now (loads .entry))) n ⌝ }
 {
     if m as u64 * Share::SCALE < sum {
@@ -143,14 +105,14 @@ pub fn passes_summed(
     passes(policy, m, loads, n)
 }
 
-// The right side of the test minus the left, as a signed number.
+// The right side of the test minus the left, as a signed number, of a policy that is weighed.
 pub fn margin_of(policy: Policy, m: u16, loads: &[u32; Table::MOST_TASKS], n: usize) -> i64
-    requires { ⌜ Loads (now loads) n × (1 ≤ m) × (m ≤ mostProcessors) ⌝ }
+    requires { ⌜ Loads (now loads) n × (1 ≤ m) × (m ≤ mostProcessors) × (isWeighed policy ≡ true) ⌝ }
     ensures { λ r. ⌜ r ≡ marginOf policy m (loadIn (now (loads .entry))) n ⌝ }
 {
     let w = weights_of(policy, m, n);
     let total = total_of(loads, n);
-    difference(right_of(w, total.max), left_of(w, total.sum, total.max))
+    difference(w.r, left_of(w, total.sum, total.max))
 }
 
 // The first number minus the second.

@@ -16,7 +16,7 @@ use Rattle.springs.specs.declared.Spring.{Spring}
 use Rattle.springs.specs.Spring.{saturations}
 use Rattle.division.specs.Weighed.{weighedAt}
 use Rattle.division.specs.Next.{Next}
-use Rattle.division.specs.Division.{Fair, divided}
+use Rattle.division.specs.Division.{divided}
 use Rattle.division.proofs.Stretches.{weighed-rising, fails-before, divided-least, divided-most}
 use Rattle.quick.specs.Handover.{SearchEnds}
 use Rattle.quick.proofs.Counts.{below-same, below-next, below-most, below-one, below-all}
@@ -30,7 +30,7 @@ looks-above : (s : ℕ → ℕ) (n k : ℕ) → 0 < k → looksFor s n (At k) �
 looks-above s n zero h = absurd (omega arith)
 looks-above s n (suc k) h = refl
 
-module _ (w : Weights) (g : Fair w) (springs : ℕ → Spring) (n : ℕ) where
+module _ (w : Weights) (springs : ℕ → Spring) (n : ℕ) where
   -- the first look passes
   pub ends-at-zero : (looks : ℕ) → looks ≡ 1 → weighedAt w springs n 0 ≡ true
       → SearchEnds (weighedAt w springs n) (saturations springs) n (record { step = At 0; looks = looks })
@@ -49,7 +49,7 @@ module _ (w : Weights) (g : Fair w) (springs : ℕ → Spring) (n : ℕ) where
 
   module _ (p looks : ℕ) (k : Failed (weighedAt w springs n) (saturations springs) n p looks) where
     fails-up-to : (j : ℕ) → j ≤ p → weighedAt w springs n j ≡ false
-    fails-up-to j h = fails-before (weighedAt w springs n) (weighed-rising w g springs n) p j (k .failed) h
+    fails-up-to j h = fails-before (weighedAt w springs n) (weighed-rising w springs n) p j (k .failed) h
 
     -- no further look is due
     pub ends-nowhere : ((i : ℕ) → i < n → saturations springs i ≤ p)
@@ -74,7 +74,7 @@ module _ (w : Weights) (g : Fair w) (springs : ℕ → Spring) (n : ℕ) where
       ends-divided t =
           let K = maxTo (saturations springs) n in
           let l : LeastAt (weighedAt w springs n) K (divided w springs n p q) =
-          divided-least w g springs n K p q (omega (arith, x .is, le-max-to (saturations springs) n (x .by) (x .by-below))) x (k .failed) t in
+          divided-least w springs n K p q (omega (arith, x .is, le-max-to (saturations springs) n (x .by) (x .by-below))) x (k .failed) t in
           let above : p < divided w springs n p q =
           by-le (divided w springs n p q) p (λ h. true-false (l .passes) (fails-up-to _ h)) (λ h. h) in
           let same = below-same (saturations springs) n p q (divided w springs n p q) (x .least) above (divided-most w springs n p q) in

@@ -15,7 +15,7 @@ use Rattle.springs.specs.Spring.{saturations}
 use Rattle.springs.specs.Handover.{Saturates}
 use Rattle.division.specs.Weighed.{weighedAt}
 use Rattle.division.specs.Next.{Next, nextTo}
-use Rattle.division.specs.Division.{Fair, divided}
+use Rattle.division.specs.Division.{divided}
 use Rattle.division.specs.Handover.{Stretches}
 use Rattle.division.proofs.Nexts.{next-is, next-none, next-cong}
 use Rattle.quick.specs.declared.Search.{Search}
@@ -41,7 +41,7 @@ pub record Standing (w : Weights) (springs : ℕ → Spring) (n : ℕ) (s : Sear
   pub failed : Failed (weighedAt w springs n) (saturations springs) n (s .step) (s .looks)
   pub next : due ≡ nextTo (saturations springs) (s .step) n
 
-module _ (w : Weights) (g : Fair w) (springs : ℕ → Spring) (n : ℕ) where
+module _ (w : Weights) (springs : ℕ → Spring) (n : ℕ) where
   module _ (start after : Search) (z : start .looks ≡ 0) (o : OneLook (weighedAt w springs n) (saturations springs) n start after) where
     -- the first look was at step 0
     at-zero : after .step ≡ 0
@@ -51,19 +51,19 @@ module _ (w : Weights) (g : Fair w) (springs : ℕ → Spring) (n : ℕ) where
     once = omega (arith, o .count)
 
     pub first-passes : after .passed ≡ true → SearchEnds (weighedAt w springs n) (saturations springs) n (record { step = At 0; looks = after .looks })
-    first-passes t = ends-at-zero w g springs n (after .looks) once (sym (rw at-zero at (o .tested)) ∙ t)
+    first-passes t = ends-at-zero w springs n (after .looks) once (sym (rw at-zero at (o .tested)) ∙ t)
 
     pub first-fails : (due : ℕ) → after .passed ≡ false → due ≡ nextTo (saturations springs) 0 n → Standing w springs n after due
     first-fails due f e =
         record {
-          failed = rw at-zero (failed-at-zero w g springs n (after .looks) once (sym (rw at-zero at (o .tested)) ∙ f));
+          failed = rw at-zero (failed-at-zero w springs n (after .looks) once (sym (rw at-zero at (o .tested)) ∙ f));
           next = rw at-zero e;
         }
 
   -- no further look is due
   pub none-due : (s : Search) (due : ℕ) → Standing w springs n s due → due ≡ 0
       → SearchEnds (weighedAt w springs n) (saturations springs) n (record { step = Nothing; looks = s .looks })
-  none-due s due k z = ends-nowhere w g springs n (s .step) (s .looks) (k .failed) (next-none (saturations springs) (s .step) n (sym (k .next) ∙ z))
+  none-due s due k z = ends-nowhere w springs n (s .step) (s .looks) (k .failed) (next-none (saturations springs) (s .step) n (sym (k .next) ∙ z))
 
   module _ (before : Search) (due : ℕ) (k : Standing w springs n before due) (h : due ≡ 0 → ⊥) where
     ahead : Next (saturations springs) n (before .step) due
@@ -75,7 +75,7 @@ module _ (w : Weights) (g : Fair w) (springs : ℕ → Spring) (n : ℕ) where
     -- what a further look relies on
     pub look-due : n ≤ mostTasks → (before .looks ≤ mostTasks) × (due ≡ dueAfter (saturations springs) n before)
     look-due few = (
-      omega (arith, looks-left w g springs n (before .step) (before .looks) (k .failed) due ahead),
+      omega (arith, looks-left w springs n (before .step) (before .looks) (k .failed) due ahead),
       k .next ∙ sym (due-later (saturations springs) n before looked),
     )
 
@@ -92,14 +92,14 @@ module _ (w : Weights) (g : Fair w) (springs : ℕ → Spring) (n : ℕ) where
           → SearchEnds (weighedAt w springs n) (saturations springs) n (record { step = At step; looks = after .looks })
       next-passes step t e =
           rw (e, o .from, at-due, o .count)
-          (ends-divided w g springs n (before .step) (before .looks) (k .failed) due ahead (sym (rw at-due at (o .tested)) ∙ t))
+          (ends-divided w springs n (before .step) (before .looks) (k .failed) due ahead (sym (rw at-due at (o .tested)) ∙ t))
 
       pub next-fails : (due′ : ℕ) → after .passed ≡ false → due′ ≡ nextTo (saturations springs) (after .step) n
           → Standing w springs n after due′ × (n + 1 - after .looks < n + 1 - before .looks)
       next-fails due′ f e = (
         record {
-          failed = rw (at-due, o .count) (failed-next w g springs n (before .step) (before .looks) (k .failed) due ahead (sym (rw at-due at (o .tested)) ∙ f));
+          failed = rw (at-due, o .count) (failed-next w springs n (before .step) (before .looks) (k .failed) due ahead (sym (rw at-due at (o .tested)) ∙ f));
           next = e;
         },
-        omega (arith, o .count, looks-left w g springs n (before .step) (before .looks) (k .failed) due ahead),
+        omega (arith, o .count, looks-left w springs n (before .step) (before .looks) (k .failed) due ahead),
       )

@@ -1,4 +1,4 @@
--- The search on the springs of a table is the search that demand 2 asks for, under each policy that has a formula.
+-- The search on the springs of a table is the search that demand 2 asks for, under each policy that is weighed.
 -- Assumes nothing.
 use Prim.Native.Nat.{ℕ, _+_, _≤_}
 use mathlib.Core.Bool.{true, false, not}
@@ -14,9 +14,8 @@ use Rattle.ground.proofs.Folds.{max-cong}
 use Rattle.ground.proofs.Least.{least-cong}
 use Rattle.kinds.specs.declared.Task.{Task}
 use Rattle.kinds.specs.declared.Policy.{Policy}
-use Rattle.kinds.specs.declared.Policy.the-variants.{Pooled, GlobalEdf, GlobalRm, FirstFit, OneCoreRm, Further}
 use Rattle.kinds.specs.declared.Settings.{Settings}
-use Rattle.kinds.specs.Policy.{hasFormula, isFirstFit, isFurther, meant}
+use Rattle.kinds.specs.Policy.{isWeighed, meant}
 use Rattle.kinds.specs.Task.{at}
 use Rattle.share.specs.Share.{saturationAt}
 use Rattle.share.specs.Table.{shares, fullCompression}
@@ -31,7 +30,6 @@ use Rattle.springs.specs.Spring.{sharesOn, saturations}
 use Rattle.springs.specs.Columns.{Columns, springsIn}
 use Rattle.springs.specs.Handover.{Sprung}
 use Rattle.division.specs.Weighed.{weighed, weighedAt}
-use Rattle.division.specs.Division.{Fair}
 use Rattle.springs.proofs.Columns.{shares-are, saturations-are}
 use Rattle.quick.specs.declared.Ended.{Ended}
 use Rattle.quick.specs.Looked.{looksAfter, looks}
@@ -42,25 +40,7 @@ pub record LeastFound (p : Policy) (m : ℕ) (rows : List Task) (n : ℕ) (r : E
   pub least : r .step ≡ leastStep p m rows n
   pub count : r .looks ≡ looksOf rows n (leastStep p m rows n)
 
--- the weights of the policies that have a formula
-pub fair : (p : Policy) (m n : ℕ) → hasFormula p ≡ true → 1 ≤ m → Fair (weightsOf p m n)
-fair Pooled m n f h = omega arith
-fair GlobalEdf m n f h = omega arith
-fair GlobalRm m n f h = omega arith
-fair FirstFit m n f h = true-false f refl
-fair OneCoreRm m n f h = omega arith
-fair (Further q) m n f h = true-false f refl
-
--- a policy that the call serves and knows has a formula
-pub formula : (p : Policy) → isFurther p ≡ false → both (isFirstFit p) (not false) ≡ false → hasFormula p ≡ true
-formula Pooled a b = refl
-formula GlobalEdf a b = refl
-formula GlobalRm a b = refl
-formula FirstFit a b = true-false refl b
-formula OneCoreRm a b = refl
-formula (Further q) a b = true-false refl a
-
-module _ (p : Policy) (m : ℕ) (rows : List Task) (n : ℕ) (s : Columns) (w : Sprung rows n s) (f : hasFormula p ≡ true) where
+module _ (p : Policy) (m : ℕ) (rows : List Task) (n : ℕ) (s : Columns) (w : Sprung rows n s) (f : isWeighed p ≡ true) where
   -- the test on the springs is the policy's on the shares
   test-is : (k : ℕ) → weighedAt (weightsOf p m n) (springsIn s) n k ≡ passesAt p m rows n k
   unfolding weighed

@@ -16,7 +16,6 @@ ghost use Rattle.springs.specs.Spring.{saturations};
 ghost use Rattle.springs.specs.Handover.{SumIs, AllWithin, Roomy};
 ghost use Rattle.springs.specs.Columns.{columns, springIn};
 ghost use Rattle.division.specs.Weighed.{weighedAt};
-ghost use Rattle.division.specs.Division.{Fair};
 ghost use Rattle.quick.specs.Search.{dueAfter, OneLook};
 ghost use Rattle.quick.specs.Handover.{Searchable, SearchEnds, FoundLookedHeld, HeldAt};
 ghost use Rattle.quick.specs.Looked.{FoundLooked, MeetsLooked};
@@ -200,7 +199,7 @@ fn search_columns(
     saturation: &[u32; Table::MOST_TASKS],
     n: usize,
 ) -> Ended
-    requires { ⌜ Light w × Fair w × Searchable (springIn (now largest) (now least) (now elasticity)) (now saturation) n ⌝ }
+    requires { ⌜ Light w × Searchable (springIn (now largest) (now least) (now elasticity)) (now saturation) n ⌝ }
     ensures { λ r. ⌜ SearchEnds (weighedAt w (springIn (now (largest .entry)) (now (least .entry)) (now (elasticity .entry))) n)
         (saturations (springIn (now (largest .entry)) (now (least .entry)) (now (elasticity .entry)))) n r ⌝ }
 {

@@ -14,19 +14,17 @@ use Rattle.ground.proofs.Cases.{true-false}
 use Rattle.kinds.specs.declared.Answer.{Answer}
 use Rattle.kinds.specs.declared.Answer.the-variants.{Accepted, Refused}
 use Rattle.kinds.specs.declared.Refusal.{Refusal}
-use Rattle.kinds.specs.declared.Refusal.the-variants.{NoSuchProcessors, TooManyTasks, OutputTooShort, BadRecord}
-use Rattle.kinds.specs.Answer.{accepted, check, handed}
-use Rattle.kinds.specs.Limits.{mostTasks}
-use Rattle.kinds.specs.Refusal.{numberOf}
+use Rattle.kinds.specs.declared.Refusal.the-variants.{BadRecord}
+use Rattle.kinds.specs.Answer.{accepted, handed}
 use Rattle.kinds.specs.declared.Verdict as verdict
-use Rattle.admission.specs.Admission.{andThen, misset, gate}
-use Rattle.admission.proofs.Chain.{Few, unchecked, gate-passed, roomy-passed, then-admitted}
+use Rattle.admission.specs.Admission.{andThen, misset, gate, roomy}
+use Rattle.admission.proofs.Chain.{Few, Unlike, unchecked, gate-passed, roomy-passed, then-admitted, check-unlike, then-unlike, gate-unlike, roomy-unlike}
 use Rattle.plan.specs.Plan.{decided, Meets}
-use Rattle.plan.proofs.Found.{decided-accepted}
+use Rattle.plan.proofs.Found.{decided-accepted, decided-seven}
 use Rattle.wide_task.specs.declared.WideTask.{WideTask}
 use Rattle.wide_task.specs.declared.WideTable.{WideTable}
 use Rattle.wide.specs.Table.{firstBad, leastStep}
-use Rattle.wide.specs.Wide.{admission, found, outcome}
+use Rattle.wide.specs.Wide.{recordsGood, admission, found, outcome}
 use Rattle.wide.specs.Handover.{MayGrant, Leaves}
 use Rattle.wide.proofs.Tables.{good-table}
 use Rattle.wide.proofs.Passing.{cores-fit, step-at}
@@ -44,40 +42,19 @@ admitted m rows n room e =
     let b = then-admitted _ _ (a .0) in
     record { passed = gate-passed m n (b .0); roomy = roomy-passed n room (b .1); none-bad = ltb-false _ _ (unchecked _ _ _ (a .1) .0) }
 
--- an admission refuses by 6 at most
-abbrev numbered : verdict.Verdict → ℕ
-numbered verdict.the-variants.Accepted = 0
-numbered (verdict.the-variants.Refused r) = numberOf r
-
-six : (a b c d : Bool) (n bad : ℕ)
-    → numbered
-    (andThen
-    (andThen
-    (check a (verdict.the-variants.Refused NoSuchProcessors) (check b (verdict.the-variants.Refused (TooManyTasks n)) verdict.the-variants.Accepted))
-    (check c (verdict.the-variants.Refused (OutputTooShort n)) verdict.the-variants.Accepted))
-    (check d (verdict.the-variants.Refused (BadRecord bad)) verdict.the-variants.Accepted))
-    ≤ 6
-six true b c d n bad = lit≤ tt
-six false true c d n bad = lit≤ tt
-six false false true d n bad = lit≤ tt
-six false false false true n bad = lit≤ tt
-six false false false false n bad = lit≤ tt
-
-admission-six : (m : ℕ) (rows : List WideTask) (n room : ℕ) → numbered (admission m rows n room) ≤ 6
-unfolding admission gate
-admission-six m rows n room =
-    six (misset m) (ltb mostTasks n) (ltb room n) (ltb (firstBad rows n) n) n (firstBad rows n)
-
--- so 7 comes from the search for a step
-decided-seven : (a : verdict.Verdict) (step : Step) → numbered a ≤ 6 → decided a step .number ≡ 7 → (a ≡ verdict.the-variants.Accepted) × (step ≡ Nothing)
-decided-seven (verdict.the-variants.Refused r) step h e = absurd (omega arith)
-decided-seven verdict.the-variants.Accepted (At j) h e = absurd (omega arith)
-decided-seven verdict.the-variants.Accepted Nothing h e = (refl, refl)
+-- an admission does not refuse by 7, so 7 comes from the search for a step
+admission-unlike : (m : ℕ) (rows : List WideTask) (n room : ℕ) → Unlike 7 (admission m rows n room)
+unfolding admission
+admission-unlike m rows n room =
+    let bad = firstBad rows n in
+    then-unlike 7 (andThen (gate (misset m) n) (roomy n room)) (recordsGood rows n)
+    (then-unlike 7 (gate (misset m) n) (roomy n room) (gate-unlike (misset m) n 7 (lit≤ tt)) (roomy-unlike n room 7 (lit≤ tt)))
+    (check-unlike 7 (ltb bad n) (BadRecord bad) verdict.the-variants.Accepted (λ e. omega arith) (λ e. omega arith))
 
 pub refused-seven : (m : ℕ) (rows : List WideTask) (n room : ℕ) → found m rows n room .number ≡ 7
     → (admission m rows n room ≡ verdict.the-variants.Accepted) × (leastStep m rows n ≡ Nothing)
 unfolding found
-refused-seven m rows n room e = decided-seven _ _ (admission-six m rows n room) e
+refused-seven m rows n room e = decided-seven _ _ (admission-unlike m rows n room) e
 
 pub record Accepting (m : ℕ) (rows : List WideTask) (n room k : ℕ) : Type 0 where
   pub ready : Ready m rows n room

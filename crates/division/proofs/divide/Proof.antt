@@ -3,7 +3,7 @@ use mathlib.Core.Path.{_≡_, refl, _∙_}
 use native.Mathlib.Omega.{arith}
 use Rattle.springs.specs.Columns.{springIn}
 use Rattle.division.specs.Division.{slopeSum}
-use Rattle.division.proofs.Stretches.{slopes-are, something-falls, slope-within, divided-worked-out}
+use Rattle.division.proofs.Stretches.{slopes-are, something-falls, divided-worked-out}
 use borrow.Author.Needs.{needs}
 use Rattle.division.proofs.divide.Statement.{statement}
 use Rattle.division.proofs.divide.Tie as tie
@@ -16,28 +16,26 @@ fallen c =
     let a = b .args in
     let springs = springIn (a .largest .now) (a .least .now) (a .elasticity .now) in
     c .slope-sum .ensures .is
-    ∙ slopes-are springs (a .elasticity .now) (a .saturation .now) (a .n) (a .p) (λ i. refl) (b .pre .2 .saturates)
+    ∙ slopes-are springs (a .elasticity .now) (a .saturation .now) (a .n) (a .p) (λ i. refl) (b .pre .1 .saturates)
 
 slope-sum-requires : tie.Need-slope-sum-requires
-slope-sum-requires c κs = let s = c .pre .2 in (s .few, λ i l. s .within i l .elasticity-most)
+slope-sum-requires c κs = let s = c .pre .1 in (s .few, λ i l. s .within i l .elasticity-most)
 
-need-over-requires : tie.Need-need-over-requires
-need-over-requires c κs =
+needed-requires : tie.Need-needed-requires
+needed-requires c κs =
     let b = c .before in
-    let s = b .pre .2 in
+    let s = b .pre .1 in
     let a = b .args in
     let springs = springIn (a .largest .now) (a .least .now) (a .elasticity .now) in
     let e = fallen c in (
       b .pre .0,
-      b .pre .1,
       record {
         few = s .few;
         within = s .within;
         saturates = s .saturates;
-        sum-most = omega (arith, b .pre .3 .most, s .few);
+        sum-most = omega (arith, b .pre .2 .most, s .few);
         fall-some = omega (arith, e, something-falls springs _ _ _ (s .next));
         fall-most = omega (arith, c .slope-sum .ensures .most, s .few);
-        slopes = λ i l. omega (arith, e, slope-within springs (a .n) (a .p) i l);
       },
     )
 
@@ -59,7 +57,7 @@ returns c =
     let s = b .before in
     let a = s .args in
     let springs = springIn (a .largest .now) (a .least .now) (a .elasticity .now) in
-    divided-worked-out _ springs _ _ _ _ _ _ (s .pre .2 .next .above) (s .pre .3 .is) (fallen b) (c .before .need-over .ensures) .0 (c .if1 .taken)
+    divided-worked-out _ springs _ _ _ _ _ _ (s .pre .1 .next .above) (s .pre .2 .is) (fallen b) (c .before .needed .ensures) .0 (c .if1 .taken)
 
 returns-2 : tie.Need-returns-2
 returns-2 c =
@@ -67,14 +65,14 @@ returns-2 c =
     let s = b .before in
     let a = s .args in
     let springs = springIn (a .largest .now) (a .least .now) (a .elasticity .now) in
-    divided-worked-out _ springs _ _ _ _ _ _ (s .pre .2 .next .above) (s .pre .3 .is) (fallen b) (c .before .need-over .ensures) .1 (c .if1 .left)
+    divided-worked-out _ springs _ _ _ _ _ _ (s .pre .1 .next .above) (s .pre .2 .is) (fallen b) (c .before .needed .ensures) .1 (c .if1 .left)
 
 pub divide-spec : {M : Type 1} → statement M
 divide-spec =
     tie.close
     (tie.spec
     slope-sum-requires
-    need-over-requires
+    needed-requires
     sub-if1
     cast-if1
     cast-result

@@ -32,7 +32,7 @@ line-of-requires c κs =
     let p = s .pre in
     let e = c .widened3 .ensures ∙ c .before .slope-of .ensures in
     let most = slope-most (s .args .elasticity) (s .args .saturation) (s .args .p) in
-    (p .0, p .1, p .5, omega (arith, shared (c .before .before), p .2, p .3), p .6, p .7, omega (arith, e, p .8), omega (arith, e, most, p .4))
+    (p .0, p .4, omega (arith, shared (c .before .before), p .1, p .2), p .5, p .6, omega (arith, e, most, p .3))
 
 returns : tie.Need-returns
 returns c =

@@ -1,11 +1,11 @@
 -- `division::need_over` meets its contract. Assumes nothing.
-use Prim.Native.Nat.{_-_, _≤_}
+use Prim.Native.Nat.{_-_, _≤_, max}
 use mathlib.Core.Path.{_≡_, sym, ap₂, _∙_}
 use native.Mathlib.Omega.{arith}
 use lib.ListN.{getD}
 use Rattle.springs.specs.Spring.{shareOn, saturationOn}
 use Rattle.springs.specs.Columns.{springIn}
-use Rattle.division.specs.Division.{slopeOf, harder, needTo}
+use Rattle.division.specs.Division.{slopeOf, needTo}
 use Rattle.division.specs.Handover.{LineIs, NeedIs}
 use Rattle.division.proofs.Lines.{need-line}
 use Rattle.division.proofs.Stretches.{need-none, need-more}
@@ -20,7 +20,7 @@ abbrev μ-loop : tie.MeasureT-loop
 μ-loop w largest least elasticity saturation n p sum fall hardest₀ i₀ hardest i = n - i
 
 line-of-requires : tie.Need-line-of-requires Inv-loop μ-loop
-line-of-requires c κs = let f = c .pre .2 in (c .pre .0, c .pre .1, f .sum-most, omega arith, f .fall-some, f .fall-most, omega arith, omega arith)
+line-of-requires c κs = let f = c .pre .1 in (c .pre .0, f .sum-most, omega arith, f .fall-some, f .fall-most, omega arith)
 
 need-of-requires : tie.Need-need-of-requires Inv-loop μ-loop
 need-of-requires c κs = c .line-of .ensures .falling
@@ -59,18 +59,16 @@ line-of-task-requires c κs =
     let t = c .before .before .before .before in
     let i = t .before .loop .i in
     let p = t .before .before .before .before .pre in
-    let f = p .2 in
+    let f = p .1 in
     let below = t .loop-test .taken in
     let w = f .within i below in (
       p .0,
-      p .1,
       w .largest-most,
       omega (arith, w .least-largest, w .largest-most),
       w .elasticity-most,
       f .sum-most,
       f .fall-some,
       f .fall-most,
-      rw (f .saturates i below) (f .slopes i below),
     )
 
 harder-of-requires : tie.Need-harder-of-requires Inv-loop μ-loop
@@ -91,7 +89,7 @@ loop-again c =
     let b = l .before .before .before in
     let a = b .args in
     let springs = springIn (a .largest .now) (a .least .now) (a .elasticity .now) in
-    let s = b .pre .2 .saturates (l .loop .i) (t .loop-test .taken) in
+    let s = b .pre .1 .saturates (l .loop .i) (t .loop-test .taken) in
     let i = l .loop .i in
     let share = shareOn (springs i) (a .p) in
     let slope = slopeOf (getD (a .elasticity .now) i 0) (saturationOn (springs i)) (a .p) in
@@ -101,7 +99,7 @@ loop-again c =
       record {
         is =
             h .is
-            ∙ (ap₂ (harder (a .w)) (l .loop .inv .1 .is) (need-line _ _ _ _ _ _ e) ∙ sym (need-more (a .w) springs (a .p) (a .sum) (a .fall) i));
+            ∙ (ap₂ max (l .loop .inv .1 .is) (need-line _ _ _ _ _ _ e) ∙ sym (need-more (a .w) springs (a .p) (a .sum) (a .fall) i));
         most = h .most;
       },
     )

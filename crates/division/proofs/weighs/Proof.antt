@@ -6,11 +6,8 @@ use Rattle.division.proofs.weighs.Tie as tie
 left-of-requires : tie.Need-left-of-requires
 left-of-requires c κs = search needs
 
-right-of-requires : tie.Need-right-of-requires
-right-of-requires c κs = search needs
-
 returns : tie.Need-returns
-returns c = rw (c .before .left-of .ensures .is, c .right-of .ensures .is)
+returns c = rw (c .before .left-of .ensures .is)
 
 pub weighs-spec : {M : Type 1} → statement M
-weighs-spec = tie.close (tie.spec left-of-requires right-of-requires returns)
+weighs-spec = tie.close (tie.spec left-of-requires returns)

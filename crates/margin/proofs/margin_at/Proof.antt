@@ -8,6 +8,7 @@ use Rattle.springs.specs.Handover.{SharesOf}
 use Rattle.springs.proofs.Columns.{shares-of, held-most}
 use Rattle.fit.specs.Fit.{loadIn}
 use Rattle.policy.proofs.Tests.{margin-same}
+use Rattle.admission.proofs.Chain.{passed-weighed}
 use Rattle.admission.proofs.Opened.{Opened, opened}
 use Rattle.margin.specs.Margin.{marginHanded}
 use borrow.Author.Needs.{needs}
@@ -62,7 +63,7 @@ margin-of-requires c κs =
     let p = b .ready .passed in
     let a = start (let-down h .before .before) .args in
     let most = held-most (a .table .rows) _ (a .step) (h .shares-at .last .0) (b .good) (held h) in
-    (record { few = p .few; most = most }, p .m-some, p .m-most)
+    (record { few = p .few; most = most }, p .m-some, p .m-most, rw (c .before .meant .ensures) (passed-weighed _ _ _ _ p))
 
 returns : tie.Need-returns
 unfolding marginHanded

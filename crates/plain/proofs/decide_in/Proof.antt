@@ -4,6 +4,7 @@ use mathlib.Core.Path.{_∙_}
 use Rattle.kinds.specs.Policy.{meant}
 use Rattle.springs.specs.Columns.{Columns, columns}
 use Rattle.springs.proofs.Columns.{held-columns}
+use Rattle.admission.proofs.Chain.{passed-served}
 use Rattle.admission.proofs.Opened.{Opened, opened}
 use Rattle.plan.proofs.Found.{refused-found, admitted-found, answered-at, refused-held}
 use Rattle.plain.proofs.Stepping.{step-found, step-held}
@@ -56,7 +57,7 @@ least-step-requires c κs =
     let m = c .before .before .before .before in
     let b = begun (m .before) in
     let p = b .ready .passed in
-    (record { few = p .few; long = b .sprung .roomy .largest; within = b .within }, p .m-some, p .m-most)
+    (record { few = p .few; long = b .sprung .roomy .largest; within = b .within }, p .m-some, p .m-most, rw (m .meant .ensures) (passed-served true _ _ _ _ p))
 
 decide-requires-2 : tie.Need-decide-requires-2
 decide-requires-2 c κs = search needs

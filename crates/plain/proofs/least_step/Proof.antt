@@ -31,7 +31,7 @@ passes-summed-requires c κs =
     let a = s .args in
     let loads =
     stepped-loads (a .policy) (a .m) (a .shares .now) (a .least .now) (a .elasticity .now) (a .saturation .now) _ (s .pre .0) _ _ _ (l .loop .inv .1) in
-    (loads, s .pre .1, s .pre .2, l .loop .inv .1 .added)
+    (loads, s .pre .1, s .pre .2, s .pre .3, l .loop .inv .1 .added)
 
 returns : tie.Need-returns Inv-loop μ-loop
 returns c =

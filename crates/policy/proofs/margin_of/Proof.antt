@@ -11,9 +11,6 @@ weights-of-requires c κs = search needs
 total-of-requires : tie.Need-total-of-requires
 total-of-requires c κs = search needs
 
-right-of-requires : tie.Need-right-of-requires
-right-of-requires c κs = search needs
-
 left-of-requires : tie.Need-left-of-requires
 left-of-requires c κs = search needs
 
@@ -22,9 +19,9 @@ difference-requires c κs = search needs
 
 returns : tie.Need-returns
 returns c =
-    let w = c .before .before .before .before in
-    let t = c .before .before .before .total-of .ensures in
-    let worked = margin-worked-out _ _ _ _ _ _ _ _ _ (w .weights-of .ensures .0) t (c .before .left-of .ensures .is) (c .before .before .right-of .ensures .is) in
+    let w = c .before .before .before in
+    let t = c .before .before .total-of .ensures in
+    let worked = margin-worked-out _ _ _ _ _ _ _ _ (w .before .pre .3) (w .weights-of .ensures .0) t (c .before .left-of .ensures .is) in
     search needs ∙ (c .difference .ensures ∙ worked)
 
 pub margin-of-spec : {M : Type 1} → statement M
@@ -33,7 +30,6 @@ margin-of-spec =
     (tie.spec
     weights-of-requires
     total-of-requires
-    right-of-requires
     left-of-requires
     difference-requires
     returns)

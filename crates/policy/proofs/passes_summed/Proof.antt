@@ -15,7 +15,7 @@ returns c =
     let s = c .before in
     let a = s .args in
     let p = s .pre in
-    sym (too-much (a .policy) (a .m) (loadIn (a .loads .now)) (a .n) (p .1) (p .2) (omega (arith, p .3)))
+    sym (too-much (a .policy) (a .m) (loadIn (a .loads .now)) (a .n) (p .1) (p .2) (p .3) (omega (arith, p .4)))
 
 passes-requires : tie.Need-passes-requires
 passes-requires c κs = search needs

@@ -1,12 +1,13 @@
 -- `quick::decide_in` meets its contract. Assumes nothing.
 use mathlib.Core.Bool.{true, false}
 use mathlib.Core.Path.{_≡_, _∙_}
-use Rattle.kinds.specs.Policy.{hasFormula, meant}
+use Rattle.kinds.specs.Policy.{isWeighed, meant}
+use Rattle.admission.proofs.Chain.{passed-weighed}
 use Rattle.admission.proofs.Opened.{Opened, opened}
 use Rattle.plan.proofs.Found.{refused-found, admitted-found, answered-at, refused-held}
 use Rattle.springs.specs.Columns.{Columns, columns}
 use Rattle.springs.proofs.Columns.{sprung-saturates, shares-of, held-columns}
-use Rattle.quick.proofs.Served.{fair, formula, least-found, no-looks, some-looks}
+use Rattle.quick.proofs.Served.{least-found, no-looks, some-looks}
 use borrow.Author.Needs.{needs}
 use Rattle.quick.proofs.decide_in.Statement.{statement}
 use Rattle.quick.proofs.decide_in.Tie as tie
@@ -27,11 +28,9 @@ begun : (c : tie.After-enum-told) → let a = start (c .before .before) .args in
     Opened false (a .settings) (a .table .rows) (a .table .n) (a .room) (springs (c .before .before))
 begun c = let d = c .before .before in opened false _ _ _ _ _ (springs d) (d .admit .ensures) (c .enum-told .given .1)
 
--- the policy has a formula
-formulated : (c : tie.After-enum-told) → hasFormula (meant (start (c .before .before) .args .settings .policy)) ≡ true
-formulated c =
-    let p = begun c .ready .passed in
-    formula (meant (start (c .before .before) .args .settings .policy)) (p .known) (p .served)
+-- the policy is weighed
+weighed : (c : tie.After-enum-told) → isWeighed (meant (start (c .before .before) .args .settings .policy)) ≡ true
+weighed c = passed-weighed _ _ _ _ (begun c .ready .passed)
 
 admit-requires : tie.Need-admit-requires
 admit-requires c κs = search needs
@@ -71,11 +70,7 @@ search-columns-requires c κs =
     let d = t .before .before in
     let b = begun t in
     let p = b .ready .passed in
-    let policy = meant (start d .args .settings .policy) in (
-      w .weights-of .ensures .1,
-      rw (w .weights-of .ensures .0, w .before .meant .ensures) (fair policy _ _ (formulated t) (p .m-some)),
-      record { few = p .few; within = b .within; saturates = sprung-saturates _ _ (springs d) (b .sprung) },
-    )
+    (w .weights-of .ensures .1, record { few = p .few; within = b .within; saturates = sprung-saturates _ _ (springs d) (b .sprung) })
 
 let-down-to-requires : tie.Need-let-down-to-requires
 let-down-to-requires c κs =
@@ -99,7 +94,7 @@ returns-2 c =
     let policy = meant (start d .args .settings .policy) in
     let sprung = begun t .sprung in
     let ends = rw (w .weights-of .ensures .0, w .before .meant .ensures) at (l .search-columns .ensures) in
-    let f = least-found policy _ _ _ (springs d) sprung (formulated t) _ ends in
+    let f = least-found policy _ _ _ (springs d) sprung (weighed t) _ ends in
     record {
       held =
           record {

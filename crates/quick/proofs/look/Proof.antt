@@ -21,7 +21,7 @@ returns c =
       record {
         step = t .before .pre .4;
         from = refl;
-        tested = b .weighs .ensures ∙ weighed-worked-out _ _ _ _ _ _ _ (t .total-at .ensures) refl refl;
+        tested = b .weighs .ensures ∙ weighed-worked-out _ _ _ _ _ (t .total-at .ensures);
         count = refl;
       },
       record { is = t .total-at .ensures .sum-is; most = t .total-at .ensures .sum-most },

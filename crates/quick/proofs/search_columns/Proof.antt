@@ -28,29 +28,29 @@ stands c =
     let s = l .before .before .before .before in
     let a = s .args in
     let springs = springIn (a .largest .now) (a .least .now) (a .elasticity .now) in
-    next-fails (a .w) (s .pre .1) springs (a .n) _ _ (l .loop .inv .0) (k .before .loop-test .taken) _ (k .look2 .ensures .0) _ (c .before .if2 .left)
-    (next-in springs (a .saturation .now) (a .n) _ _ (s .pre .2 .saturates) (c .next-due2 .ensures))
+    next-fails (a .w) springs (a .n) _ _ (l .loop .inv .0) (k .before .loop-test .taken) _ (k .look2 .ensures .0) _ (c .before .if2 .left)
+    (next-in springs (a .saturation .now) (a .n) _ _ (s .pre .1 .saturates) (c .next-due2 .ensures))
 
 look-requires : tie.Need-look-requires Inv-loop μ-loop
-look-requires c κs = (c .pre .0, c .pre .2 .few, c .pre .2 .within, omega arith, sym (due-first _ _ _ refl))
+look-requires c κs = (c .pre .0, c .pre .1 .few, c .pre .1 .within, omega arith, sym (due-first _ _ _ refl))
 
 returns : tie.Need-returns Inv-loop μ-loop
 returns c =
     let l = c .before in
     let a = l .before .args in
     let springs = springIn (a .largest .now) (a .least .now) (a .elasticity .now) in
-    first-passes (a .w) (l .before .pre .1) springs (a .n) _ _ refl (l .look .ensures .0) (c .if1 .taken)
+    first-passes (a .w) springs (a .n) _ _ refl (l .look .ensures .0) (c .if1 .taken)
 
 next-due-requires : tie.Need-next-due-requires Inv-loop μ-loop
-next-due-requires c κs = c .before .before .pre .2 .few
+next-due-requires c κs = c .before .before .pre .1 .few
 
 loop-holds : tie.Need-loop-holds Inv-loop μ-loop
 loop-holds c =
     let l = c .before .before in
     let a = l .before .args in
     let springs = springIn (a .largest .now) (a .least .now) (a .elasticity .now) in (
-      first-fails (a .w) (l .before .pre .1) springs (a .n) _ _ refl (l .look .ensures .0) _ (c .before .if1 .left)
-          (next-in springs (a .saturation .now) (a .n) 0 _ (l .before .pre .2 .saturates) (c .next-due .ensures)),
+      first-fails (a .w) springs (a .n) _ _ refl (l .look .ensures .0) _ (c .before .if1 .left)
+          (next-in springs (a .saturation .now) (a .n) 0 _ (l .before .pre .1 .saturates) (c .next-due .ensures)),
       l .look .ensures .1,
     )
 
@@ -60,8 +60,8 @@ look-requires-2 c κs =
     let s = l .before .before .before .before in
     let a = s .args in
     let springs = springIn (a .largest .now) (a .least .now) (a .elasticity .now) in
-    let d = look-due (a .w) (s .pre .1) springs (a .n) _ _ (l .loop .inv .0) (c .loop-test .taken) (s .pre .2 .few) in
-    (s .pre .0, s .pre .2 .few, s .pre .2 .within, d .0, d .1)
+    let d = look-due (a .w) springs (a .n) _ _ (l .loop .inv .0) (c .loop-test .taken) (s .pre .1 .few) in
+    (s .pre .0, s .pre .1 .few, s .pre .1 .within, d .0, d .1)
 
 divide-requires : tie.Need-divide-requires Inv-loop μ-loop
 divide-requires c κs =
@@ -72,8 +72,8 @@ divide-requires c κs =
     let springs = springIn (a .largest .now) (a .least .now) (a .elasticity .now) in
     let looked = k .look2 .ensures .0 in
     let stretch =
-    divides (a .w) (s .pre .1) springs (a .n) _ _ (l .loop .inv .0) (k .before .loop-test .taken) _ looked (a .saturation .now) (s .pre .2) in
-    (s .pre .0, s .pre .1, stretch, rw (looked .from) (l .loop .inv .1))
+    divides (a .w) springs (a .n) _ _ (l .loop .inv .0) (k .before .loop-test .taken) _ looked (a .saturation .now) (s .pre .1) in
+    (s .pre .0, stretch, rw (looked .from) (l .loop .inv .1))
 
 returns-2 : tie.Need-returns-2 Inv-loop μ-loop
 returns-2 c =
@@ -82,11 +82,11 @@ returns-2 c =
     let s = l .before .before .before .before in
     let a = s .args in
     let springs = springIn (a .largest .now) (a .least .now) (a .elasticity .now) in
-    next-passes (a .w) (s .pre .1) springs (a .n) _ _ (l .loop .inv .0) (k .before .loop-test .taken) _ (k .look2 .ensures .0) _
+    next-passes (a .w) springs (a .n) _ _ (l .loop .inv .0) (k .before .loop-test .taken) _ (k .look2 .ensures .0) _
     (c .before .if2 .taken) (c .divide .ensures)
 
 next-due-requires-2 : tie.Need-next-due-requires-2 Inv-loop μ-loop
-next-due-requires-2 c κs = c .before .before .before .before .before .before .before .pre .2 .few
+next-due-requires-2 c κs = c .before .before .before .before .before .before .before .pre .1 .few
 
 loop-less : tie.Need-loop-less Inv-loop μ-loop
 loop-less c = stands c .1
@@ -100,7 +100,7 @@ returns-3 c =
     let s = l .before .before .before .before in
     let a = s .args in
     let springs = springIn (a .largest .now) (a .least .now) (a .elasticity .now) in
-    none-due (a .w) (s .pre .1) springs (a .n) _ _ (l .loop .inv .0) (omega (arith, c .loop-test .left))
+    none-due (a .w) springs (a .n) _ _ (l .loop .inv .0) (omega (arith, c .loop-test .left))
 
 pub search-columns-spec : {M : Type 1} → statement M
 search-columns-spec =
