@@ -1,4 +1,4 @@
-//! The checks 1 to 6 that stand before every search, "the lowest number first".
+//! The checks 1 to 6 that stand before every search, "the lowest number first"; Ask 8's 15 stands in the place of 1.
 
 use super::kinds::{refuse, Policy, Record, Refusal, MOST_PROCESSORS, MOST_TASKS};
 
@@ -18,11 +18,15 @@ pub enum Serves {
     FormulasOnly,
 }
 
-/// Refuses by 1 to 6 in this order; `rooms` are the entries of the lent outputs.
+/// Refuses by 1 or 15, then by 2 to 6 in this order; `rooms` are the entries of the lent outputs.
 pub fn admit(question: &Question, serves: Serves, rooms: &[usize]) -> Result<(), Refusal> {
     let policy = question.policy.meaning();
     if matches!(policy, Policy::Further(_)) {
         return refuse(1, 0);
+    }
+    // Ask 8: "now refuse it by 15, in the place of refusal 1"
+    if policy == Policy::GlobalRm {
+        return refuse(15, 0);
     }
     // Ask 1's policy "needs m = 1 (otherwise refusal 2)"
     let most = if policy == Policy::OneCoreRm { 1 } else { MOST_PROCESSORS };

@@ -23,7 +23,7 @@ pub fn least_passing_step(question: &Question) -> Option<u32> {
     })
 }
 
-/// "for each task its period and a processor: 1 to m under policy 4, and 0 ("any") under 1 to 3", and under 5
+/// "for each task its period and a processor: 1 to m under policy 4, and 0 ("any") under 1 to 3", and under 5; 3 is withdrawn
 fn write_plan(question: &Question, step: u32, periods: &mut [u32], processors: &mut [u16]) {
     let shares = shares_at(&springs(&question.rows), step);
     for (index, row) in question.rows.iter().enumerate() {

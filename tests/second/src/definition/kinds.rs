@@ -43,6 +43,7 @@ impl Record {
 pub enum Policy {
     Pooled,
     GlobalEdf,
+    /// Ask 8: "withdrawn"; no finder and no margin serves it any more, and "the rule itself stays".
     GlobalRm,
     FirstFit,
     /// Ask 1's one-core rate monotonic.

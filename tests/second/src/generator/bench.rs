@@ -17,7 +17,7 @@ pub fn case_k_rows() -> Vec<Record> {
     rows
 }
 
-/// The cases A to K by their letters, and case B under Ask 1's policy.
+/// The cases A to K by their letters, of which F, G and H are under the policy withdrawn, and case B under Ask 1's.
 pub fn cases() -> Vec<(&'static str, Table)> {
     vec![
         ("A", Table::new(1, 1, &[])),

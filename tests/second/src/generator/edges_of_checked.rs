@@ -54,6 +54,8 @@ fn refused_first() -> Vec<Call> {
     let tables = [
         Table::new(0, 1, &[good]),
         Table::new(6, 1, &[good]),
+        Table::new(3, 2, &[good]),
+        Table::new(3, 0, &[good]),
         Table::new(5, 2, &[good]),
         Table::new(1, 0, &[good]),
         Table::new(1, 17, &[good]),

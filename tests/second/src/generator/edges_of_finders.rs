@@ -56,7 +56,7 @@ fn settings() -> Vec<Call> {
 fn counts_above() -> Vec<Call> {
     let mut calls = Vec::new();
     for count in [33, 40, 65535] {
-        for (number, m) in [(1, 1), (4, 16), (9, 1), (2, 17), (5, 1), (5, 2)] {
+        for (number, m) in [(1, 1), (4, 16), (9, 1), (2, 17), (5, 1), (5, 2), (3, 1)] {
             let table = counted(Settings::new(number, m), count);
             for entries in [0, 40] {
                 calls.extend(ask(&table, Rooms { periods: entries, processors: entries }, 7));
@@ -66,15 +66,17 @@ fn counts_above() -> Vec<Call> {
     calls
 }
 
-/// Every combination of things that are refused, under policy 1 and, with m = 2 for the wrong one, under policy 5.
+/// Every combination of things that are refused: under policy 1, with 9 and with 3 for the policy that is refused, and under policy 5,
+/// with m = 2 for the wrong one.
 fn order_of_checks() -> Vec<Call> {
-    let mut calls = order_under(1, 17);
-    calls.extend(order_under(5, 2));
+    let mut calls = order_under(1, 9, 17);
+    calls.extend(order_under(1, 3, 17));
+    calls.extend(order_under(5, 9, 2));
     calls
 }
 
-/// The combinations under a policy that is known and an m that is wrong for it, asked of all three calls.
-fn order_under(known: u16, wrong_m: u16) -> Vec<Call> {
+/// The combinations under a policy that is served, another that is refused and an m that is wrong, asked of all three calls.
+fn order_under(served: u16, refused: u16, wrong_m: u16) -> Vec<Call> {
     let mut calls = Vec::new();
     for wrong in 0_u32..128 {
         let is_wrong = |check: u32| wrong & (1 << check) != 0;
@@ -82,11 +84,11 @@ fn order_under(known: u16, wrong_m: u16) -> Vec<Call> {
             continue;
         }
         let number = if is_wrong(0) {
-            9
+            refused
         } else if is_wrong(3) {
             4
         } else {
-            known
+            served
         };
         let m = if is_wrong(1) { wrong_m } else { 1 };
         let share = if is_wrong(6) { 10 } else { 2 };
@@ -144,8 +146,8 @@ fn records() -> Vec<Call> {
     let light = Record::new(1, 100, 200, 1000);
     let mut calls = Vec::new();
     for (index, record) in telling_records().into_iter().enumerate() {
-        let alone = Table::new(1 + index as u16 % 4, 2, &[record]);
-        let among = Table::new(1 + index as u16 % 3, 2, &[light, record, light, record]);
+        let alone = Table::new([1, 2, 4][index % 3], 2, &[record]);
+        let among = Table::new([1, 2][index % 2], 2, &[light, record, light, record]);
         for table in [alone, among] {
             calls.extend(ask(&table, Rooms::just(&table), 1));
         }
@@ -173,13 +175,12 @@ fn outputs() -> Vec<Call> {
 /// Rigid tables a part under, at and over an exact fit, under each policy and m.
 fn fits() -> Vec<Call> {
     let mut calls = Vec::new();
-    for (number, m) in [(1, 1), (1, 2), (2, 1), (2, 3), (3, 1), (3, 2), (3, 4), (4, 1), (4, 2)] {
+    for (number, m) in [(1, 1), (1, 2), (2, 1), (2, 3), (4, 1), (4, 2)] {
         let full = u64::from(m) * SCALE;
-        // two equal shares u: 2u, (m + 1)u and (m + 2)u parts are asked under policies 1, 2, 3
+        // two equal shares u: 2u and (m + 1)u parts are asked under policies 1 and 2
         let equal = match number {
             1 => full / 2,
             2 => full / (u64::from(m) + 1),
-            3 => full / (u64::from(m) + 2),
             _ => SCALE / 2,
         };
         for off in 0..4 {
@@ -229,7 +230,7 @@ fn saturation_steps() -> Vec<Call> {
         vec![short, long, short, long],
         vec![long, Record::new(12, 20, 60, 1000), short],
     ] {
-        for (number, m) in [(1, 1), (2, 2), (3, 1), (3, 2), (4, 2), (5, 1)] {
+        for (number, m) in [(1, 1), (2, 2), (4, 2), (5, 1)] {
             let table = Table::new(number, m, &ties);
             calls.extend(ask(&table, Rooms::just(&table), 55));
         }
@@ -240,20 +241,17 @@ fn saturation_steps() -> Vec<Call> {
 /// "E = 1 with a huge range", a few times for the plain finder, more often for the others.
 fn huge_ranges() -> Vec<Call> {
     let refused = Table::new(1, 1, &[rigid(SCALE), rigid(1), HUGE_RANGE]);
-    let two = Table::new(3, 1, &[HUGE_RANGE; 2]);
+    let two = Table::new(5, 1, &[HUGE_RANGE; 2]);
     let three = Table::new(2, 2, &[HUGE_RANGE; 3]);
-    let one_core = Table::new(5, 1, &[HUGE_RANGE; 3]);
     let mut calls = Vec::new();
-    for table in [refused, two, three, one_core] {
+    for table in [refused, two, three] {
         calls.extend(ask(&table, Rooms::just(&table), 999_998));
         calls.extend(
             [499_999, 500_000, 500_001, 999_999, 1_000_000]
                 .map(|step| Call::Margin(table.clone(), step)),
         );
     }
-    for (number, m, count) in
-        [(1, 1, 32), (1, 16, 32), (2, 16, 32), (3, 16, 32), (3, 1, 32), (5, 1, 32)]
-    {
+    for (number, m, count) in [(1, 1, 32), (1, 16, 32), (2, 16, 32), (5, 1, 32)] {
         let table = Table::new(number, m, &vec![HUGE_RANGE; count]);
         calls.push(Call::Quick(table.clone(), Rooms::just(&table)));
     }

@@ -173,6 +173,7 @@ fn change_over_sheets() -> Vec<Vec<u8>> {
         vec![],
         sheet_under(0, 1, 1),
         sheet_under(6, 1, 1),
+        sheet_of(&Table::new(3, 2, &[Record::new(6, 10, 20, 1000); 3])),
         sheet_of(&Table::new(5, 1, &[Record::new(6, 10, 20, 1000); 2])),
         sheet_under(5, 2, 1),
         sheet_under(5, 1, 1),

@@ -17,9 +17,9 @@ use crate::random::Random;
 /// One call in that many is a plain finder's scan of nearly a million steps.
 const LONG_SCAN_EVERY: usize = 5_000;
 
-/// The numbers of every policy, and of those that have a formula.
-const EVERY: [u16; 5] = [1, 2, 3, 4, 5];
-const FORMULAS: [u16; 4] = [1, 2, 3, 5];
+/// The numbers of every policy that is served, and of those that have a formula.
+const EVERY: [u16; 4] = [1, 2, 4, 5];
+const FORMULAS: [u16; 3] = [1, 2, 5];
 
 pub fn random_call(random: &mut Random, index: usize) -> Call {
     if index % LONG_SCAN_EVERY == LONG_SCAN_EVERY / 2 {
@@ -86,7 +86,7 @@ fn huge_table(random: &mut Random) -> Table {
     Table::new(number, m, &huge(random, 5))
 }
 
-/// Mostly few processors; policy 3 with m = 1 comes often, and policy 5 seldom with more.
+/// Mostly few processors; one comes often, and policy 5 seldom with more.
 fn processors(random: &mut Random, number: u16) -> u16 {
     if number == 5 && !random.one_in(12) {
         return 1;
@@ -107,8 +107,8 @@ fn most_steps(random: &mut Random) -> u32 {
 fn table(random: &mut Random, numbers: &[u16]) -> Table {
     let mut table = good_table(random, numbers);
     table.settings.further = random.one_in(8);
-    if random.one_in(25) {
-        table.settings.number = random.pick(&[0, 4, 5, 6, 256, 257, 65535]);
+    if random.one_in(15) {
+        table.settings.number = random.pick(&[0, 3, 3, 3, 4, 5, 6, 256, 257, 65535]);
     }
     if random.one_in(25) {
         table.settings.m = random.pick(&[0, 17, 18, 256, 65535]);

@@ -144,9 +144,8 @@ fn fit_at(random: &mut Random, rows: &mut Vec<Record>, step: u32, aim: Aim) {
         return fit_bound(random, rows, shares.iter().sum());
     }
     let largest = shares.iter().copied().max().unwrap_or(1);
-    let (left, right) = sides(Policy::from_number(aim.number), aim.m, &shares).expect("1 to 3");
-    let weight = if aim.number == 3 { 2 } else { 1 };
-    let missing = (right - left) / weight + random.between(0, 3) as i128 - 1;
+    let (left, right) = sides(Policy::from_number(aim.number), aim.m, &shares).expect("1 or 2");
+    let missing = right - left + random.between(0, 3) as i128 - 1;
     fill(random, rows, missing.max(0) as u64, largest);
 }
 

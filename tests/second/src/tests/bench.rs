@@ -2,10 +2,12 @@
 
 use super::{plan_of, quick_of, refused, step_of, HALF_SPRING};
 use crate::call::{Settings, Table};
-use crate::definition::finder::{distinct_positive_saturation_steps, shares_at};
+use crate::definition::finder::{
+    distinct_positive_saturation_steps, least_passing_step, shares_at,
+};
 use crate::definition::kinds::{Policy, Record};
 use crate::definition::margin::margin;
-use crate::definition::policy::passes;
+use crate::definition::policy::{passes, sides};
 use crate::definition::program::program;
 use crate::definition::reader::read;
 use crate::definition::share::{full_compression, springs};
@@ -32,8 +34,6 @@ fn cases_with_steps_periods_and_looks() {
     expect("C", 100, &[10, 16], 2);
     expect("D", 146, &[11, 14], 3);
     expect("E", 100, &[12, 12, 12], 2);
-    expect("F", 267, &[19, 19, 19], 2);
-    expect("G", 0, &[10], 1);
     expect("J", 500_000, &[2, 2], 2);
     expect("B under 5", 186, &[15, 15], 2);
 }
@@ -45,20 +45,28 @@ fn case_d_saturates_at_55_and_400() {
 }
 
 #[test]
+fn cases_f_g_and_h_are_kept_for_the_rule_and_refused_by_15() {
+    for (name, step) in [("F", 267), ("G", 0), ("H", 267)] {
+        let table = case(name);
+        assert_eq!(least_passing_step(&table.question()), Some(step), "case {name}");
+        assert_eq!(step_of(&table), refused(15, 0), "case {name}");
+        assert_eq!(quick_of(&table), (refused(15, 0), 0), "case {name}");
+        assert_eq!(margin(&table.question(), step), refused(15, 0), "case {name}");
+        assert_eq!(program(&sheet_of(&table)), b"refused 15 at 0\n", "case {name}");
+    }
+}
+
+#[test]
 fn case_g_has_margin_0_at_step_0() {
-    assert_eq!(margin(&case("G").question(), 0), Ok(0));
+    let table = case("G");
+    let shares = shares_at(&springs(&table.rows), 0);
+    assert_eq!(sides(Policy::GlobalRm, 1, &shares), Some((3_000_000, 3_000_000)));
 }
 
 #[test]
 fn case_b_under_policy_5_has_margin_427_at_step_186() {
     assert_eq!(margin(&case("B under 5").question(), 186), Ok(427));
     assert_eq!(margin(&case("B under 5").question(), 185), Ok(-1_573));
-}
-
-#[test]
-fn case_h_is_step_267() {
-    assert_eq!(step_of(&case("H")), Ok(267));
-    assert_eq!(quick_of(&case("H")).0, Ok(267));
 }
 
 #[test]

@@ -4,8 +4,9 @@ use super::{quick_of, refused, step_of, HALF_SPRING};
 use crate::call::{Settings, Table};
 use crate::definition::bound::{bound, is_within};
 use crate::definition::finder::{plain, quick};
-use crate::definition::kinds::Record;
+use crate::definition::kinds::{Policy, Record};
 use crate::definition::margin::margin;
+use crate::definition::policy::sides;
 use crate::definition::share::{halved_period, stepped_period};
 
 fn counted(number: u16, m: u16, count: u16) -> Table {
@@ -77,6 +78,7 @@ fn policy_4_asked_of_quick_finder_or_margin() {
 
 #[test]
 fn a_further_choice_of_1_to_5_means_that_policy() {
+    // 3 is refused by 15 in either form
     for (number, m) in [(1, 2), (2, 2), (3, 2), (4, 2), (5, 1)] {
         let read = Table::new(number, m, &[HALF_SPRING; 2]);
         let mut further = read.clone();
@@ -116,11 +118,27 @@ fn the_bound_is_the_largest_that_is_within() {
 }
 
 #[test]
-fn the_margin_of_policy_3_is_in_the_printed_units() {
-    // shares 600,000 twice, m = 1: 1,000,000 + 1,200,000 − (2,400,000 + 600,000)
-    assert_eq!(margin(&Table::new(3, 1, &[HALF_SPRING; 2]).question(), 0), Ok(-800_000));
-    // at the last step both are at their least share: 1,000,000 + 600,000 − (1,200,000 + 300,000)
-    assert_eq!(margin(&Table::new(3, 1, &[HALF_SPRING; 2]).question(), u32::MAX), Ok(100_000));
+fn policy_3_is_refused_by_15_before_all_else() {
+    for (m, count) in [(0, 1), (2, 1), (1, 33), (17, 40)] {
+        for further in [false, true] {
+            let mut table = counted(3, m, count);
+            table.settings.further = further;
+            table.rows[0].c = 0;
+            let question = table.question();
+            assert_eq!(plain(&question, &mut [], &mut []), refused(15, 0));
+            assert_eq!(quick(&question, &mut [], &mut []), (refused(15, 0), 0));
+            assert_eq!(margin(&question, 0), refused(15, 0));
+        }
+    }
+}
+
+#[test]
+fn the_sides_of_policy_3_are_in_the_printed_units() {
+    // shares 600,000 twice, m = 1
+    let sides_of = |share| sides(Policy::GlobalRm, 1, &[share; 2]);
+    assert_eq!(sides_of(600_000), Some((2_400_000 + 600_000, 1_000_000 + 1_200_000)));
+    // at the last step both are at their least share
+    assert_eq!(sides_of(300_000), Some((1_200_000 + 300_000, 1_000_000 + 600_000)));
 }
 
 #[test]

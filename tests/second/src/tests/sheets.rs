@@ -51,8 +51,9 @@ fn the_reader_keeps_a_strange_policy_and_judges_no_record() {
 
 #[test]
 fn what_is_read_is_written_back() {
-    let (one_core, strange) = (Table::new(5, 2, &[]), Table::new(65535, 0, &[]));
-    for bytes in [two_tasks(), full().bytes(), sheet_of(&one_core), sheet_of(&strange)] {
+    let withdrawn = Raw::honest(&Table::new(3, 2, &[HALF_SPRING; 3]), &made_up_results(3));
+    let others = [(5, 2), (65535, 0)].map(|(number, m)| sheet_of(&Table::new(number, m, &[])));
+    for bytes in [two_tasks(), full().bytes(), withdrawn.bytes()].into_iter().chain(others) {
         let mut buffer = vec![0xEE; bytes.len() + 3];
         let written = write(&read(&bytes).expect("read"), &mut buffer);
         assert_eq!(written, Ok(bytes.len() as u16));
@@ -85,6 +86,10 @@ fn a_change_over_is_a_part_of_a_lent_sheet() {
     assert_eq!(change_over(&good, &bad), part(Which::Standing, 8, 32));
     assert_eq!(change_over(&good, &good[..41]), part(Which::Standing, 8, 32));
     assert_eq!(change_over(&good, &empty), part(Which::Proposed, 8, 0));
+    // Ask 8: a standing sheet under policy 3 is accepted no more
+    let withdrawn = sheet_of(&Table::new(3, 2, &[HALF_SPRING; 3]));
+    assert_eq!(change_over(&good, &withdrawn), part(Which::Standing, 8, 32));
+    assert_eq!(change_over(&withdrawn, &bad), part(Which::Standing, 0, 0));
     assert_eq!(change_over(&bad, &bad), part(Which::Standing, 0, 0));
     assert_eq!(change_over(&[], &[]), part(Which::Standing, 0, 0));
     assert_eq!(change_over(&bad, &good).of(&bad, &good), &good[8..40]);
