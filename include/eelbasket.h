@@ -16,6 +16,7 @@
  *    9   the settings count is not 2                                       0
  *   10   the result count is neither 0 nor the task count                  where it stands (writing: 0)
  *   11   there are bytes after the last section                            the first of them
+ *   15   policy 3, which is withdrawn: in the place of 1                   0
  *   16   a line of a text is bad                                           the first such line, from 0
  *   17   a clock's period is 0 or above 1,000,000,000                      the first such task, from 0
  *   18   checking a filled sheet: tasks stand there without results        0
@@ -35,7 +36,7 @@
 /* A task record: cost, shortest and longest period in ticks, elasticity. */
 struct eelbasket_task { uint32_t c, tmin, tmax, e; };
 
-/* The policy (1 pooled, 2 global EDF, 3 global RM, 4 first fit, 5 one-core RM) and how many processors there are. */
+/* The policy (1 pooled, 2 global EDF, 4 first fit, 5 one-core RM; 3, global RM, is withdrawn) and how many processors there are. */
 struct eelbasket_station { uint16_t policy, m; };
 
 /* ---- The finders and the margin ---- */
@@ -46,15 +47,15 @@ struct eelbasket_told { uint32_t number, step, looks; size_t place; };
 /* What the margin tells: the right side of the policy's test minus the left. */
 struct eelbasket_margin { uint32_t number; size_t place; int64_t margin; };
 
-/* The least passing step, each task's period and its processor (0: any). Refusals 1, 2, 3, 5, 6, 7; 5 where either output is short. */
+/* The least passing step, each task's period and its processor (0: any). Refusals 1 or 15, 2, 3, 5, 6, 7; 5 where either output is short. */
 struct eelbasket_told eelbasket_plain(const struct eelbasket_task *rows, size_t tasks, struct eelbasket_station station,
                                       uint32_t *periods, size_t periods_len, uint16_t *processors, size_t processors_len);
 
-/* The same for policies 1 to 3 and 5 in at most tasks + 1 looks, counted also where 7 is given. Refusals 1, 2, 3, 4, 5, 6, 7. */
+/* The same for policies 1, 2 and 5 in at most tasks + 1 looks, counted also where 7 is given. Refusals 1 or 15, 2, 3, 4, 5, 6, 7. */
 struct eelbasket_told eelbasket_quick(const struct eelbasket_task *rows, size_t tasks, struct eelbasket_station station,
                                       uint32_t *periods, size_t periods_len, uint16_t *processors, size_t processors_len);
 
-/* The margin at any step, for policies 1 to 3 and 5. Refusals 1, 2, 3, 4, 6. */
+/* The margin at any step, for policies 1, 2 and 5. Refusals 1 or 15, 2, 3, 4, 6. */
 struct eelbasket_margin eelbasket_margin(const struct eelbasket_task *rows, size_t tasks, struct eelbasket_station station, uint32_t step);
 
 /* ---- Jobs that need several cores ---- */
@@ -96,11 +97,11 @@ struct eelbasket_reading eelbasket_read(const uint8_t *sheet, size_t sheet_len);
 /* Writes a sheet. Refusals 3, 10, 5. */
 struct eelbasket_counted eelbasket_write(struct eelbasket_sheet sheet, uint8_t *out, size_t out_len);
 
-/* Reads a sheet and writes it with the plain finder's results, replacing older ones. Refusals of eelbasket_read, then 1, 2, 6, 7.
+/* Reads a sheet and writes it with the plain finder's results, replacing older ones. Refusals of eelbasket_read, then 1 or 15, 2, 6, 7.
  * Unlike the program `pace` it writes no line where it refuses. */
 struct eelbasket_counted eelbasket_fill(const uint8_t *sheet, size_t sheet_len, uint8_t out[EELBASKET_LONGEST_SHEET]);
 
-/* Whether a filled sheet has the results that the plain finder gives. Refusals of eelbasket_read, then 1, 2, 6, 7, then 18, 19.
+/* Whether a filled sheet has the results that the plain finder gives. Refusals of eelbasket_read, then 1 or 15, 2, 6, 7, then 18, 19.
  * Unlike the program `check_sheet` it writes no line. */
 struct eelbasket_verdict eelbasket_check(const uint8_t *sheet, size_t sheet_len);
 
