@@ -23,14 +23,10 @@ isWithin n b = leb ((n * scale + b) ^ n) (2 * (n * scale) ^ n)
 abbrev isLargest : ℕ → ℕ → Bool
 isLargest n b = both (isWithin n b) (not (isWithin n (b + 1)))
 
--- some of a processor, and no more than all of it
-abbrev isPart : ℕ → Bool
-isPart b = both (leb 1 b) (leb b scale)
-
--- what the bound for n tasks has to be
+-- what the bound for n tasks has to be: it is also no more than all of a processor
 abbrev isRight : ℕ → ℕ → Bool
 isRight zero b = eqb b 0
-isRight (suc n) b = both (isLargest (suc n) b) (isPart b)
+isRight (suc n) b = both (isLargest (suc n) b) (leb b scale)
 
 -- every bound is right: the first that is not stands past the most tasks
 all-right : firstBelow (λ n. not (isRight n (boundOf n))) (mostTasks + 1) ≡ mostTasks + 1
@@ -63,16 +59,12 @@ largest n b e =
     next : (b a : ℕ) → b < a → b + 1 ≤ a
     next b a l = omega arith
 
--- the same of the other test
-part : (b : ℕ) → isPart b ≡ true → (1 ≤ b) × (b ≤ scale)
-part b e = let tests = both-true (leb 1 b) (leb b scale) e in (leb-true 1 b (tests .0), leb-true b scale (tests .1))
-
 -- what the test says of the bound for one task or more
-shown : (n : ℕ) → suc n ≤ mostTasks → LargestWithin (suc n) (boundOf (suc n)) × ((1 ≤ boundOf (suc n)) × (boundOf (suc n) ≤ scale))
+shown : (n : ℕ) → suc n ≤ mostTasks → LargestWithin (suc n) (boundOf (suc n)) × (boundOf (suc n) ≤ scale)
 shown n l =
     let b = boundOf (suc n) in
-    let tests = both-true (isLargest (suc n) b) (isPart b) (right-at (suc n) l) in
-    (largest (suc n) b (tests .0), part b (tests .1))
+    let tests = both-true (isLargest (suc n) b) (leb b scale) (right-at (suc n) l) in
+    (largest (suc n) b (tests .0), leb-true b scale (tests .1))
 
 -- document 02's rule, at each number of tasks
 pub bound-is : (n : ℕ) → n ≤ mostTasks → IsBound n (boundOf n)
@@ -84,22 +76,18 @@ pub bound-unique : (n a b : ℕ) → IsBound n a → IsBound n b → a ≡ b
 bound-unique zero a b p q = p ∙ sym q
 bound-unique (suc n) a b p q = omega (arith, p .none-larger b (q .within), q .none-larger a (p .within))
 
--- a bound is some of a processor
-pub bound-low : (n : ℕ) → 1 ≤ n → n ≤ mostTasks → 1 ≤ boundOf n
-bound-low (suc n) p l = shown n l .1 .0
-
 -- there is none past the most tasks
 past-most : (n : ℕ) → mostTasks < n → boundOf n ≡ 0
 unfolding bounds boundOf
 past-most n l = List·getD-eq-default bounds 0 l
 
--- and no more than all of one, however many tasks there are
+-- a bound is no more than all of a processor, however many tasks there are
 pub bound-high : (n : ℕ) → boundOf n ≤ scale
 bound-high n = by-le n mostTasks (high n) (λ l. omega (arith, past-most n l))
   where
     high : (n : ℕ) → n ≤ mostTasks → boundOf n ≤ scale
     high zero l = omega (arith, bound-is 0 l)
-    high (suc n) l = shown n l .1 .1
+    high (suc n) l = shown n l .1
 
 -- document 02: "For n = 1 it is 1,000,000, for n = 2 it is 828,427."
 pub bound-of-one : boundOf 1 ≡ 1000000

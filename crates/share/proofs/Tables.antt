@@ -11,13 +11,10 @@ use Rattle.ground.proofs.First.{first-is, first-cong}
 use Rattle.ground.proofs.Folds.{le-max-to, max-to-le, max-cong}
 use Rattle.ground.proofs.Buffer.{list-cong}
 use Rattle.kinds.specs.declared.Task.{Task}
-use Rattle.kinds.specs.declared.Table.{Table}
-use Rattle.kinds.specs.Limits.{mostTasks}
 use Rattle.kinds.specs.Task.{at, Good, isGood}
 use Rattle.kinds.proofs.Records.{good-is}
 use Rattle.share.specs.Share.{saturationAt, periodAt}
 use Rattle.share.specs.Table.{fullCompression, firstBad, periodsAt}
-use Rattle.share.specs.Handover.{GoodTable}
 use Rattle.share.proofs.Tasks.{saturation-most}
 
 -- K is no less than any saturation step
@@ -44,10 +41,6 @@ not-bad t e = good-is t (by-bool (isGood t) (λ g. g) (λ g. true-false (rw g) e
 
 pub all-good : (rows : List Task) (n : ℕ) → n ≤ firstBad rows n → (i : ℕ) → i < n → Good (at rows i)
 all-good rows n h i l = not-bad (at rows i) (first-bad-is rows n .before i (omega arith))
-
--- a table whose records are all good
-pub good-table : (t : Table) → t .n ≤ mostTasks → t .n ≤ firstBad (t .rows) (t .n) → GoodTable t
-good-table t few none = record { few = few; good = all-good (t .rows) (t .n) none }
 
 -- the rules look at the first n records only
 module _ (xs ys : List Task) (n : ℕ) (same : (i : ℕ) → i < n → at xs i ≡ at ys i) where
