@@ -137,7 +137,7 @@ pub six-last : (serves : Bool) (s : Settings) (rows : List Task) (n room place :
 unfolding admission
 six-last serves s rows n room place = by (gateOf serves s n room) (all-unlike serves s n room 6 (lit≤ tt) (lit< tt))
   where
-    by : (a : Verdict) → Unlike 6 a → andThen a (recordsGood rows n) ≡ Refused (BadRecord place) → a ≡ Accepted
+    by : (a : Verdict) → Unlike 6 a → andThen a (recordsGood (s .swap) rows n) ≡ Refused (BadRecord place) → a ≡ Accepted
     by Accepted h e = refl
     by (Refused r) h e = absurd (h (ap (λ (v : Verdict). handedVerdict v .number) e))
 
@@ -145,8 +145,8 @@ six-last serves s rows n room place = by (gateOf serves s n room) (all-unlike se
 pub admission-unlike : (serves : Bool) (s : Settings) (rows : List Task) (n room : ℕ) → Unlike 7 (admission serves s rows n room)
 unfolding admission
 admission-unlike serves s rows n room =
-    let bad = firstBad rows n in
-    then-unlike 7 (gateOf serves s n room) (recordsGood rows n)
+    let bad = firstBad (s .swap) rows n in
+    then-unlike 7 (gateOf serves s n room) (recordsGood (s .swap) rows n)
     (all-unlike serves s n room 7 (lit≤ tt) (lit< tt))
     (check-unlike 7 (ltb bad n) (BadRecord bad) Accepted (λ e. omega arith) (λ e. omega arith))
 
@@ -163,7 +163,7 @@ passed-weighed p m n room a = passed-served false p m n room a (placed-not (isFi
 
 pub record Ready (serves : Bool) (s : Settings) (rows : List Task) (n room : ℕ) : Type 0 where
   pub passed : Passed serves (meant (s .policy)) (s .m) n room
-  pub none-bad : n ≤ firstBad rows n
+  pub none-bad : n ≤ firstBad (s .swap) rows n
 
 pub admitted : (serves : Bool) (s : Settings) (rows : List Task) (n room : ℕ) → admission serves s rows n room ≡ Accepted → Ready serves s rows n room
 unfolding admission
@@ -175,13 +175,13 @@ admitted serves s rows n room e =
 module _ (serves : Bool) (s : Settings) (xs ys : List Task) (n room : ℕ) where
   pub admission-same : ((i : ℕ) → i < n → at xs i ≡ at ys i) → admission serves s xs n room ≡ admission serves s ys n room
   unfolding admission
-  admission-same same = let e = bad-same xs ys n same in rw e
+  admission-same same = let e = bad-same (s .swap) xs ys n same in rw e
 
   pub admission-many : mostTasks < n → admission serves s xs n room ≡ admission serves s ys n room
   unfolding admission
   admission-many h = by (gateOf serves s n room) refl
     where
-      by : (a : Verdict) → gateOf serves s n room ≡ a → andThen a (recordsGood xs n) ≡ andThen a (recordsGood ys n)
+      by : (a : Verdict) → gateOf serves s n room ≡ a → andThen a (recordsGood (s .swap) xs n) ≡ andThen a (recordsGood (s .swap) ys n)
       by Accepted e = absurd (omega (arith, all-passed serves s n room e .few))
       by (Refused r) e = refl
 

@@ -9,6 +9,7 @@ use Rattle.kinds.specs.declared.Settings.{Settings}
 use Rattle.kinds.specs.declared.Verdict.{Verdict}
 use Rattle.kinds.specs.declared.Verdict.the-variants.{Accepted}
 use Rattle.kinds.specs.Task.{at, Good}
+use Rattle.share.specs.Table.{pricedRows}
 use Rattle.share.proofs.Tables.{all-good}
 use Rattle.springs.specs.Handover.{AllWithin, Sprung}
 use Rattle.springs.specs.Columns.{Columns, springsIn}
@@ -16,16 +17,16 @@ use Rattle.springs.proofs.Columns.{sprung-within}
 use Rattle.admission.specs.Handover.{AdmittedSprung}
 use Rattle.admission.proofs.Chain.{Ready, admitted}
 
--- every check has passed, the records are good, and the columns hold their springs
+-- every check has passed, the records are good once their swaps are paid for, and the columns hold the springs of those
 pub record Opened (serves : Bool) (s : Settings) (rows : List Task) (n room : ℕ) (springs : Columns) : Type 0 where
   pub ready : Ready serves s rows n room
-  pub good : (i : ℕ) → i < n → Good (at rows i)
-  pub sprung : Sprung rows n springs
+  pub good : (i : ℕ) → i < n → Good (at (pricedRows (s .swap) rows n) i)
+  pub sprung : Sprung (pricedRows (s .swap) rows n) n springs
   pub within : AllWithin (springsIn springs) n
 
 pub opened : (serves : Bool) (s : Settings) (rows : List Task) (n room : ℕ) (a : Verdict) (springs : Columns)
     → AdmittedSprung serves s rows n room a springs → a ≡ Accepted → Opened serves s rows n room springs
 opened serves s rows n room a springs x e =
     let ready = admitted serves s rows n room (sym (x .is) ∙ e) in
-    let good = all-good rows n (ready .none-bad) in
-    record { ready = ready; good = good; sprung = x .sprung e; within = sprung-within rows n springs (x .sprung e) good }
+    let good = all-good (s .swap) rows n (ready .none-bad) in
+    record { ready = ready; good = good; sprung = x .sprung e; within = sprung-within (pricedRows (s .swap) rows n) n springs (x .sprung e) good }

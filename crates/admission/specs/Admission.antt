@@ -55,9 +55,9 @@ gateOf serves s n room =
     let p = meant (s .policy) in
     andThen (knows p) (andThen (gate (missetUnder s) n) (andThen (served serves p) (roomy n room)))
 
--- 6
-abbrev pub recordsGood : List Task → ℕ → Verdict
-recordsGood rows n = check (ltb (firstBad rows n) n) (Refused (BadRecord (firstBad rows n))) Accepted
+-- 6, where a swap costs w
+abbrev pub recordsGood : ℕ → List Task → ℕ → Verdict
+recordsGood w rows n = check (ltb (firstBad w rows n) n) (Refused (BadRecord (firstBad w rows n))) Accepted
 
 unfoldable pub admission : Bool → Settings → List Task → ℕ → ℕ → Verdict
-admission serves s rows n room = andThen (gateOf serves s n room) (recordsGood rows n)
+admission serves s rows n room = andThen (gateOf serves s n room) (recordsGood (s .swap) rows n)

@@ -6,6 +6,7 @@ use mathlib.Core.List.{List}
 use mathlib.Core.Path.{_≡_}
 use Rattle.kinds.specs.declared.Task.{Task}
 use Rattle.kinds.specs.declared.Settings.{Settings}
+use Rattle.share.specs.Table.{pricedRows}
 use Rattle.springs.specs.Columns.{Columns}
 use Rattle.springs.specs.Handover.{Sprung}
 use Rattle.kinds.specs.declared.Verdict.{Verdict}
@@ -15,4 +16,4 @@ use Rattle.admission.specs.Admission.{admission}
 -- the admission, and where it admits the springs
 pub record AdmittedSprung (serves : Bool) (s : Settings) (rows : List Task) (n room : ℕ) (a : Verdict) (springs : Columns) : Type 0 where
   pub is : a ≡ admission serves s rows n room
-  pub sprung : a ≡ Accepted → Sprung rows n springs
+  pub sprung : a ≡ Accepted → Sprung (pricedRows (s .swap) rows n) n springs

@@ -141,7 +141,16 @@ pub fn admit(
     let Verdict::Accepted = gate else {
         return gate;
     };
-    let bad = springs::springs_of(table, largest, least, elasticity, saturation, cost, tmin);
+    let bad = springs::springs_of(
+        table,
+        settings.swap,
+        largest,
+        least,
+        elasticity,
+        saturation,
+        cost,
+        tmin,
+    );
     if bad < n {
         return Verdict::Refused(Refusal::BadRecord(bad));
     }

@@ -5,7 +5,7 @@ use Rattle.ground.specs.Folds.{sumTo, maxTo, countTo, anyTo, listTo}
 use Rattle.ground.specs.First.{firstFrom, firstBelow}
 use Rattle.ground.specs.Least.{leastUpTo}
 use Rattle.share.specs.Share.{shareAt, saturationAt, periodAt}
-use Rattle.share.specs.Table.{fullCompression, periodsAt}
+use Rattle.share.specs.Table.{fullCompression, periodsAt, pricedRows}
 use Rattle.policy.specs.Sides.{marginOf}
 use Rattle.policy.specs.Passing.{passes, leastStep}
 use Rattle.policy.specs.Looks.{isNew, distinct, distinctBelow, looksOf}
@@ -14,5 +14,5 @@ use Rattle.cases.specs.Bench.{workedOut, bench, BenchRight}
 
 pub bench-right : BenchRight
 unfolding bench workedOut leastStep leastUpTo firstBelow firstFrom passes sumTo maxTo countTo anyTo listTo shareAt saturationAt periodAt
-    fullCompression periodsAt processorsAt marginOf isNew distinct distinctBelow looksOf
+    fullCompression periodsAt pricedRows processorsAt marginOf isNew distinct distinctBelow looksOf
 bench-right = refl

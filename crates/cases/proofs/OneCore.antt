@@ -5,7 +5,7 @@ use Rattle.ground.specs.Folds.{sumTo, maxTo, countTo, anyTo, listTo}
 use Rattle.ground.specs.First.{firstFrom, firstBelow}
 use Rattle.ground.specs.Least.{leastUpTo}
 use Rattle.share.specs.Share.{shareAt, saturationAt, periodAt}
-use Rattle.share.specs.Table.{fullCompression, periodsAt}
+use Rattle.share.specs.Table.{fullCompression, periodsAt, pricedRows}
 use Rattle.policy.specs.Sides.{marginOf}
 use Rattle.policy.specs.Passing.{passes, leastStep}
 use Rattle.policy.specs.Looks.{isNew, distinct, distinctBelow, looksOf}
@@ -16,5 +16,5 @@ use Rattle.cases.specs.OneCore.{oneCore, OneCoreRight}
 
 pub one-core-right : OneCoreRight
 unfolding oneCore workedOut leastStep leastUpTo firstBelow firstFrom passes sumTo maxTo countTo anyTo listTo shareAt saturationAt periodAt
-    fullCompression periodsAt processorsAt marginOf bounds boundOf isNew distinct distinctBelow looksOf
+    fullCompression periodsAt pricedRows processorsAt marginOf bounds boundOf isNew distinct distinctBelow looksOf
 one-core-right = refl

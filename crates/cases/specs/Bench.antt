@@ -11,12 +11,11 @@ use Rattle.kinds.specs.declared.Policy.{Policy}
 use Rattle.kinds.specs.declared.Policy.the-variants.{Pooled, GlobalEdf, GlobalRm}
 use Rattle.kinds.specs.declared.Verdict.the-variants.{Accepted}
 use Rattle.kinds.specs.Answer.{Handed, accepted}
+use Rattle.kinds.specs.Settings.{settings}
 use Rattle.kinds.specs.Task.{task, at}
 use Rattle.share.specs.Share.{saturationAt}
 use Rattle.share.specs.Table.{shares}
-use Rattle.policy.specs.Sides.{marginOf}
-use Rattle.policy.specs.Passing.{leastStep}
-use Rattle.policy.specs.Looks.{looksOf}
+use Rattle.policy.specs.Under.{rowsUnder, leastUnder, looksUnder, marginUnder}
 use Rattle.plan.specs.Plan.{decided, periodsAfter, processorsAfter}
 
 -- a bench setting
@@ -40,21 +39,22 @@ pub record Outcome : Type 0 where
 abbrev pub lent : ℕ → List ℕ
 lent n = replicate n 7
 
--- by the definitions that the finders promise, for a call that is admitted: which policies are served is no part of the bench
+-- by the definitions that the finders promise, for a call that is admitted and where a swap costs nothing: which policies are served is no
+-- part of the bench
 unfoldable pub workedOut : Setting → Outcome
-workedOut s =
-    let n = length (s .tasks) in
-    let least = leastStep (s .policy) (s .m) (s .tasks) n in
-    let handed = decided Accepted least in
-    let there = shares (s .tasks) (handed .value) in
+workedOut c =
+    let n = length (c .tasks) in
+    let s = settings (c .policy) (c .m) 0 in
+    let paid = rowsUnder s (c .tasks) n in
+    let handed = decided Accepted (leastUnder s (c .tasks) n) in
     record {
-      saturations = listTo (λ i. saturationAt (at (s .tasks) i)) n;
+      saturations = listTo (λ i. saturationAt (at paid i)) n;
       handed = handed;
-      looks = looksOf (s .tasks) n least;
-      periods = periodsAfter handed (s .tasks) n (lent n);
-      processors = processorsAfter handed (record { policy = s .policy; m = s .m }) (s .tasks) n (lent n);
-      sharesThere = listTo there n;
-      marginThere = marginOf (s .policy) (s .m) there n;
+      looks = looksUnder s (c .tasks) n;
+      periods = periodsAfter handed s (c .tasks) n (lent n);
+      processors = processorsAfter handed s (c .tasks) n (lent n);
+      sharesThere = listTo (shares paid (handed .value)) n;
+      marginThere = marginUnder s (c .tasks) n (handed .value);
     }
 
 -- a line of the bench

@@ -2,15 +2,14 @@
 -- Assumes nothing.
 use Prim.Native.Nat.{ℕ, _≤_, _<_, min}
 use mathlib.Core.Bool.{Bool, true, false}
-use mathlib.Core.List.{List, [], _++_, append-nil}
+use mathlib.Core.List.{List, _++_}
 use mathlib.Core.Path.{_≡_, refl, sym, ap, _∙_}
 use native.Mathlib.Omega.{arith}
-use lib.ListN.{length, getD, take, drop}
+use lib.ListN.{length, take, drop}
 use lib.Seq.{take-at}
 use borrow.Author.Tests.{ne-eqb}
-use Rattle.ground.specs.Folds.{listTo}
 use Rattle.ground.proofs.Cases.{true-false}
-use Rattle.ground.proofs.Buffer.{list-long, list-at}
+use Rattle.ground.proofs.Buffer.{list-long, list-in}
 use Rattle.kinds.specs.declared.Task.{Task}
 use Rattle.kinds.specs.declared.Settings.{Settings}
 use Rattle.kinds.specs.declared.Answer.{Answer}
@@ -22,7 +21,8 @@ use Rattle.share.specs.Share.{periodAt}
 use Rattle.share.specs.Table.{periodsAt}
 use Rattle.share.proofs.Tables.{all-good}
 use Rattle.share.proofs.Tasks.{shortest}
-use Rattle.plan.specs.Plan.{found, Outcome, outcome, Meets}
+use Rattle.policy.specs.Under.{rowsUnder}
+use Rattle.plan.specs.Plan.{periodsUnder, found, Outcome, outcome, Meets}
 use Rattle.plan.proofs.Found.{accepting}
 use Rattle.plan.proofs.Outcomes.{no-second-answer}
 use Rattle.clock.specs.declared.Clock.{Clock}
@@ -39,26 +39,26 @@ periods-long rows n k = list-long (λ i. periodAt (at rows i) k) n
 period-of : (rows : List Task) (n k i : ℕ) → i < n → every (periodsAt rows n k) i ≡ periodAt (at rows i) k
 unfolding periodsAt
 period-of rows n k i l =
-    let f : ℕ → ℕ = λ j. periodAt (at rows j) k in
-    sym (ap (λ (x : List ℕ). getD x i 0) (append-nil (listTo f n))) ∙ list-at f n i [] l
+    list-in 0 (λ j. periodAt (at rows j) k) n i l
 
 module _ (serves : Bool) (s : Settings) (rows : List Task) (n room k : ℕ) (e : accepted k ≡ found serves s rows n room) where
   -- an accepted plan has at most 32 periods, and each is 1 to 1,000,000,000
-  pub accepted-whole : Whole (periodsAt rows n k)
+  pub accepted-whole : Whole (periodsUnder s rows n k)
   accepted-whole =
       let r = accepting serves s rows n room k e .ready in
-      let long = periods-long rows n k in
+      let paid = rowsUnder s rows n in
+      let long = periods-long paid n k in
       record {
         few = omega (arith, long, r .passed .few);
         fair = λ i l. let l′ : i < n = omega (arith, long) in
-            let g = all-good rows n (r .none-bad) i l′ in
-            let p = shortest (at rows i) g k in
-            rw (period-of rows n k i l′) (record { some = omega (arith, p .low, g .c-some, g .c-tmin); most = omega (arith, p .high, g .tmax-most) });
+            let g = all-good (s .swap) rows n (r .none-bad) i l′ in
+            let p = shortest (at paid i) g k in
+            rw (period-of paid n k i l′) (record { some = omega (arith, p .low, g .c-some, g .c-tmin); most = omega (arith, p .high, g .tmax-most) });
       }
 
   -- so a start with them is accepted, at any tick
-  pub accepted-starts : (tick : ℕ) → started (periodsAt rows n k) tick ≡ accepted (clockFrom (periodsAt rows n k) tick)
-  accepted-starts tick = whole-started (periodsAt rows n k) tick accepted-whole
+  pub accepted-starts : (tick : ℕ) → started (periodsUnder s rows n k) tick ≡ accepted (clockFrom (periodsUnder s rows n k) tick)
+  accepted-starts tick = whole-started (periodsUnder s rows n k) tick accepted-whole
 
 -- what the function hands over: the finder's answer, with the outputs as it left them
 module _ (s : Settings) (rows : List Task) (n : ℕ) (old old′ : List ℕ) where
@@ -75,37 +75,37 @@ module _ (s : Settings) (rows : List Task) (n : ℕ) (old old′ : List ℕ) whe
   roomy (Refused r) new new′ m a l = true-false a refl
 
   -- the periods of the plan stand in front
-  in-front : (k : ℕ) (new new′ : List ℕ) → Meets (outcome true s rows n old old′) (Accepted k) new new′ → take n new ≡ periodsAt rows n k
+  in-front : (k : ℕ) (new new′ : List ℕ) → Meets (outcome true s rows n old old′) (Accepted k) new new′ → take n new ≡ periodsUnder s rows n k
   unfolding outcome
   in-front k new new′ m =
-      let e : new ≡ periodsAt rows n k ++ drop n old = rw (← m .answers) at (m .grants) in
-      rw e (take-at (periodsAt rows n k) (drop n old) n (periods-long rows n k))
+      let e : new ≡ periodsUnder s rows n k ++ drop n old = rw (← m .answers) at (m .grants) in
+      rw e (take-at (periodsUnder s rows n k) (drop n old) n (periods-long (rowsUnder s rows n) n k))
 
   pub planned-well : (tick : ℕ) (plan : Answer) (new new′ : List ℕ) (begun : Started) → Meets (outcome true s rows n old old′) plan new new′
       → isAccepted plan ≡ true → handedStart begun ≡ started (take n new) tick
-      → PlanIs (outcome true s rows n old old′) rows n tick (record { plan = plan; clock = begun .clock }) new new′
+      → PlanIs (outcome true s rows n old old′) s rows n tick (record { plan = plan; clock = begun .clock }) new new′
   planned-well tick (Accepted k) new new′ begun m a e =
-      let g : handedStart begun ≡ accepted (clockFrom (periodsAt rows n k) tick) =
+      let g : handedStart begun ≡ accepted (clockFrom (periodsUnder s rows n k) tick) =
       e ∙ (ap (λ (x : List ℕ). started x tick) (in-front k new new′ m)
       ∙ accepted-starts true s rows n (min (length old) (length old′)) k (as-found k new new′ m) tick) in
       record {
         plans = m;
-        starts = clock-is begun ∙ (ap (λ (h : Handed Clock). h .value) g ∙ ap (λ (h : Handed ℕ). clockOf h rows n tick) (m .answers));
+        starts = clock-is begun ∙ (ap (λ (h : Handed Clock). h .value) g ∙ ap (λ (h : Handed ℕ). clockOf h s rows n tick) (m .answers));
       }
   planned-well tick (Refused r) new new′ begun m a e = true-false a refl
 
   pub planned-none : (tick : ℕ) (plan : Answer) (new new′ : List ℕ) (c : Clock) → Meets (outcome true s rows n old old′) plan new new′
       → isAccepted plan ≡ false → c ≡ noClock
-      → PlanIs (outcome true s rows n old old′) rows n tick (record { plan = plan; clock = c }) new new′
+      → PlanIs (outcome true s rows n old old′) s rows n tick (record { plan = plan; clock = c }) new new′
   planned-none tick (Accepted k) new new′ c m a e = true-false refl a
   planned-none tick (Refused r) new new′ c m a e =
-      let d : noClock ≡ clockOf (handed (Refused r)) rows n tick = rw (ne-eqb (handed (Refused r) .number) 0 (λ z. omega (arith, refusal-numbered r))) in
-      record { plans = m; starts = e ∙ (d ∙ ap (λ (h : Handed ℕ). clockOf h rows n tick) (m .answers)) }
+      let d : noClock ≡ clockOf (handed (Refused r)) s rows n tick = rw (ne-eqb (handed (Refused r) .number) 0 (λ z. omega (arith, refusal-numbered r))) in
+      record { plans = m; starts = e ∙ (d ∙ ap (λ (h : Handed ℕ). clockOf h s rows n tick) (m .answers)) }
 
 -- no second plan, nor a second clock, nor a second content of either output
-pub plan-one : (o : Outcome) (rows : List Task) (n tick : ℕ) (r q : Planned) (ps qs ps′ qs′ : List ℕ)
-    → PlanIs o rows n tick r ps qs → PlanIs o rows n tick q ps′ qs′ → (r ≡ q) × (ps ≡ ps′) × (qs ≡ qs′)
-plan-one o rows n tick r q ps qs ps′ qs′ a b =
+pub plan-one : (o : Outcome) (s : Settings) (rows : List Task) (n tick : ℕ) (r q : Planned) (ps qs ps′ qs′ : List ℕ)
+    → PlanIs o s rows n tick r ps qs → PlanIs o s rows n tick q ps′ qs′ → (r ≡ q) × (ps ≡ ps′) × (qs ≡ qs′)
+plan-one o s rows n tick r q ps qs ps′ qs′ a b =
     let m = no-second-answer o (r .plan) (q .plan) ps qs ps′ qs′ (a .plans) (b .plans) in
     let x : r .clock ≡ q .clock = a .starts ∙ sym (b .starts) in
     ((λ i. record { plan = m .0 i; clock = x i }), m .1, m .2)

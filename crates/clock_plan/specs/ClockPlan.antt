@@ -6,18 +6,18 @@ use mathlib.Core.Path.{_≡_}
 use lib.Dec.{eqb}
 use Rattle.ground.specs.Choice.{pick}
 use Rattle.kinds.specs.declared.Task.{Task}
+use Rattle.kinds.specs.declared.Settings.{Settings}
 use Rattle.kinds.specs.Answer.{Handed}
-use Rattle.share.specs.Table.{periodsAt}
-use Rattle.plan.specs.Plan.{Outcome, Meets}
+use Rattle.plan.specs.Plan.{periodsUnder, Outcome, Meets}
 use Rattle.clock.specs.declared.Clock.{Clock}
 use Rattle.clock.specs.Start.{noClock, clockFrom}
 use Rattle.clock_plan.specs.declared.Planned.{Planned}
 
 -- the clock of an accepted plan's periods, each with the starting tick as its next release; all zeros where there is no plan
-abbrev pub clockOf : Handed ℕ → List Task → ℕ → ℕ → Clock
-clockOf h rows n tick = pick (eqb (h .number) 0) (clockFrom (periodsAt rows n (h .value)) tick) noClock
+abbrev pub clockOf : Handed ℕ → Settings → List Task → ℕ → ℕ → Clock
+clockOf h s rows n tick = pick (eqb (h .number) 0) (clockFrom (periodsUnder s rows n (h .value)) tick) noClock
 
 -- the plan and both outputs are those of the outcome, and the clock is that of the plan
-pub record PlanIs (o : Outcome) (rows : List Task) (n tick : ℕ) (r : Planned) (periods processors : List ℕ) : Type 0 where
+pub record PlanIs (o : Outcome) (s : Settings) (rows : List Task) (n tick : ℕ) (r : Planned) (periods processors : List ℕ) : Type 0 where
   pub plans : Meets o (r .plan) periods processors
-  pub starts : r .clock ≡ clockOf (o .handed) rows n tick
+  pub starts : r .clock ≡ clockOf (o .handed) s rows n tick

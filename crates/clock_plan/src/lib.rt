@@ -24,7 +24,7 @@ pub fn start_plan(
     processors: &mut [u16],
 ) -> Planned
     ensures { λ r. ⌜ PlanIs (outcome true settings (table .rows) (table .n) (now (periods .entry)) (now (processors .entry)))
-        (table .rows) (table .n) tick r (now (periods .exit)) (now (processors .exit)) ⌝ }
+        settings (table .rows) (table .n) tick r (now (periods .exit)) (now (processors .exit)) ⌝ }
 {
     let n = table.n;
     let plan = plain::find(table, settings, periods, processors);

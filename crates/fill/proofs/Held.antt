@@ -2,12 +2,12 @@
 -- Assumes nothing.
 use Prim.Native.Nat.{ℕ, zero, suc, _+_, _*_, _≤_, _<_}
 use mathlib.Core.Bool.{true}
-use mathlib.Core.List.{List, [], append-nil}
+use mathlib.Core.List.{List}
 use mathlib.Core.Path.{_≡_, sym, _∙_}
 use native.Mathlib.Omega.{arith}
 use lib.ListN.{length, getD}
 use Rattle.ground.specs.Folds.{listTo}
-use Rattle.ground.proofs.Buffer.{list-at}
+use Rattle.ground.proofs.Buffer.{list-in}
 use Rattle.ground.proofs.Cases.{by-bool, by-le}
 use Rattle.kinds.specs.declared.Task.{Task}
 use Rattle.kinds.specs.declared.Granted.{Granted}
@@ -42,9 +42,6 @@ unfolding numberAt
 number-held s bytes zero place = omega arith
 number-held s bytes (suc size) place = omega (arith, bytes place, number-held s bytes size (place + 1))
 
-pub list-in : (f : ℕ → ℕ) (n i : ℕ) → i < n → getD (listTo f n) i 0 ≡ f i
-list-in f n i l = rw (append-nil (listTo f n)) at (list-at f n i [] l)
-
 -- what holds of each row that is used, and of an unused place, holds at each number
 rows-held : {A : Type 0} (P : A → Type 0) (none : A) (f : ℕ → A) (n : ℕ) → n ≤ mostTasks → P none → ((i : ℕ) → i < n → P (f i)) → (i : ℕ)
     → P (getD (paddedRows none f n) i none)
@@ -73,7 +70,7 @@ module _ (x : Sheet) (k : ℕ) (few : x .table .n ≤ mostTasks) (e : asked x �
   period-held i l =
       let f : ℕ → ℕ = λ j. periodAt (at (x .table .rows) j) k in
       let good = all-good (x .table .rows) (x .table .n) (accepts .ready .none-bad) i l in
-      rw (list-in f (x .table .n) i l) (omega (arith, good .tmax-most, shortest (at (x .table .rows) i) good k .high))
+      rw (list-in 0 f (x .table .n) i l) (omega (arith, good .tmax-most, shortest (at (x .table .rows) i) good k .high))
 
   place-held : (i : ℕ) → i < x .table .n → processorAt (meant (x .settings .policy)) (x .settings .m) (x .table .rows) k i < limit 2
   place-held i l =
@@ -90,7 +87,7 @@ module _ (x : Sheet) (k : ℕ) (few : x .table .n ≤ mostTasks) (e : asked x �
   unfolding processorsAt
   processor-held i l =
       let f = processorAt (meant (x .settings .policy)) (x .settings .m) (x .table .rows) k in
-      rw (list-in f (x .table .n) i l) (place-held i l)
+      rw (list-in 0 f (x .table .n) i l) (place-held i l)
 
   pub results-held : (i : ℕ) → GrantedHeld (grantedIn (withPlan x k) i)
   unfolding withPlan resultsOf

@@ -38,7 +38,7 @@ use Rattle.sheet.proofs.Whole.{whole}
 use Rattle.sheet.proofs.Numbered.{accepted-by-number}
 use Rattle.writer.specs.Canonical.{grantedIn}
 use Rattle.fill.specs.Results.{withPlan}
-use Rattle.fill.proofs.Held.{list-in}
+use Rattle.ground.proofs.Buffer.{list-in}
 use Rattle.filled_sheet.specs.Checked.{differ, differsAt, firstDiffering, compared, checkedSheet, checked}
 use Rattle.filled_sheet.proofs.Agrees.{grantedAt, Agrees}
 use Rattle.filled_sheet.proofs.Compared.{planned-at}
@@ -74,7 +74,7 @@ unfolding periodsAt processorsAt
 plan-at x k i few l =
     let period : ℕ → ℕ = λ j. periodAt (at (x .table .rows) j) k in
     let processor = processorAt (meant (x .settings .policy)) (x .settings .m) (x .table .rows) k in
-    planned-at x k i few l ∙ ap₂ granted (list-in period (x .table .n) i l) (list-in processor (x .table .n) i l)
+    planned-at x k i few l ∙ ap₂ granted (list-in 0 period (x .table .n) i l) (list-in 0 processor (x .table .n) i l)
 
 -- "naming the first result that differs": it does, and none before it
 pub first-differing : (x : Sheet) (k : ℕ) → IsFirst (differsAt x k) (x .table .n) (firstDiffering x k)

@@ -1,7 +1,7 @@
 -- A buffer that is written from the front: the first i entries are f's, the rest is as it was.
 -- Assumes nothing.
 use Prim.Native.Nat.{ℕ, zero, suc, _+_, _-_, _≤_, _<_}
-use mathlib.Core.List.{List, [], _∷_, _++_, append-assoc}
+use mathlib.Core.List.{List, [], _∷_, _++_, append-assoc, append-nil}
 use mathlib.Core.Path.{_≡_, refl, ap, _∙_}
 use native.Mathlib.Numerals.{add-one}
 use native.Mathlib.Omega.{arith}
@@ -28,14 +28,17 @@ list-more f i v old out h e o =
     rw (o, d, e) (rw (add-one i) (rw append-assoc s))
 
 -- what stands where
-pub list-at : (f : ℕ → ℕ) (n i : ℕ) (rest : List ℕ) → i < n → getD (listTo f n ++ rest) i 0 ≡ f i
+pub list-at : {A : Type 0} (none : A) (f : ℕ → A) (n i : ℕ) (rest : List A) → i < n → getD (listTo f n ++ rest) i none ≡ f i
 unfolding listTo
-list-at f zero i rest h = absurd (omega arith)
-list-at f (suc n) i rest h =
+list-at none f zero i rest h = absurd (omega arith)
+list-at none f (suc n) i rest h =
     rw append-assoc
     (by-le (suc i) n
-    (λ l. list-at f n i ((f n ∷ []) ++ rest) l)
-    (λ l. let e : i ≡ n = omega arith in rw e (getD-at (listTo f n) (f n) rest 0 n (list-long f n))))
+    (λ l. list-at none f n i ((f n ∷ []) ++ rest) l)
+    (λ l. let e : i ≡ n = omega arith in rw e (getD-at (listTo f n) (f n) rest none n (list-long f n))))
+
+pub list-in : {A : Type 0} (none : A) (f : ℕ → A) (n i : ℕ) → i < n → getD (listTo f n) i none ≡ f i
+list-in none f n i l = rw (append-nil (listTo f n)) at (list-at none f n i [] l)
 
 pub list-past : (f : ℕ → ℕ) (n i : ℕ) (old : List ℕ) → n ≤ i → getD (listTo f n ++ drop n old) i 0 ≡ getD old i 0
 list-past f n i old h =

@@ -1,36 +1,40 @@
--- The test of a record says what document 01's sentence says, and the table of a list has its records.
+-- A record that passes the test is good once its swaps are paid for, and the other way; and the table of a list has its records.
 -- Assumes nothing.
-use Prim.Native.Nat.{ℕ, _≤_}
+use Prim.Native.Nat.{ℕ, _+_, _*_, _≤_}
 use mathlib.Core.Bool.{true}
 use mathlib.Core.List.{List}
 use mathlib.Core.Path.{_≡_}
+use native.Mathlib.Omega.{arith}
 use borrow.Author.Tests.{leb-true, le-leb}
 use lib.ListN.{length}
 use Rattle.ground.proofs.Cases.{both-true}
 use Rattle.ground.proofs.Padding.{padded-at}
 use Rattle.kinds.specs.declared.Task.{Task}
 use Rattle.kinds.specs.Limits.{mostTasks}
-use Rattle.kinds.specs.Task.{noTask, at, tableOf, Good, isGood}
+use Rattle.kinds.specs.Task.{noTask, at, tableOf, priced, Good, isGood}
 
-pub good-is : (t : Task) → isGood t ≡ true → Good t
+some-more : (c d : ℕ) → 1 ≤ c → 1 ≤ c + d
+some-more c d h = omega arith
+
+pub good-is : (w : ℕ) (t : Task) → isGood w t ≡ true → Good (priced w t)
 unfolding isGood
-good-is t e =
+good-is w t e =
     let e₄ = both-true _ _ e in
     let e₃ = both-true _ _ (e₄ .0) in
     let e₂ = both-true _ _ (e₃ .0) in
     let e₁ = both-true _ _ (e₂ .0) in
     record {
-      c-some = leb-true _ _ (e₁ .0);
+      c-some = some-more (t .c) (2 * w) (leb-true _ _ (e₁ .0));
       c-tmin = leb-true _ _ (e₁ .1);
       tmin-tmax = leb-true _ _ (e₂ .1);
       tmax-most = leb-true _ _ (e₃ .1);
       e-most = leb-true _ _ (e₄ .1);
     }
 
-pub is-good : (t : Task) → Good t → isGood t ≡ true
+pub is-good : (w : ℕ) (t : Task) → 1 ≤ t .c → Good (priced w t) → isGood w t ≡ true
 unfolding isGood
-is-good t g =
-    rw (le-leb _ _ (g .c-some), le-leb _ _ (g .c-tmin), le-leb _ _ (g .tmin-tmax), le-leb _ _ (g .tmax-most), le-leb _ _ (g .e-most))
+is-good w t some g =
+    rw (le-leb _ _ some, le-leb _ _ (g .c-tmin), le-leb _ _ (g .tmin-tmax), le-leb _ _ (g .tmax-most), le-leb _ _ (g .e-most))
 
 -- the record number i of the table is the list's
 pub table-at : (rows : List Task) → length rows ≤ mostTasks → (i : ℕ) → at (tableOf rows .rows) i ≡ at rows i

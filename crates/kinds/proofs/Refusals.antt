@@ -7,7 +7,7 @@ use lib.Dec.{eqb}
 use Rattle.ground.specs.Choice.{pick}
 use Rattle.kinds.specs.declared.Refusal.{Refusal}
 use Rattle.kinds.specs.declared.Refusal.the-variants.{NoSuchPolicy, NoSuchProcessors, TooManyTasks, PolicyNotServed, OutputTooShort}
-use Rattle.kinds.specs.declared.Refusal.the-variants.{BadRecord, NoStepPasses, SheetEnds, NotTwoSettings, WrongResultCount}
+use Rattle.kinds.specs.declared.Refusal.the-variants.{BadRecord, NoStepPasses, SheetEnds, WrongSettingsCount, WrongResultCount}
 use Rattle.kinds.specs.declared.Refusal.the-variants.{BytesAfterLast, PolicyWithdrawn, BadLine, BadPeriod, NoResults, WrongResult}
 use Rattle.kinds.specs.Refusal.{numberOf, placeOf}
 
@@ -22,7 +22,7 @@ again number place =
     (pick (eqb number 6) (BadRecord place)
     (pick (eqb number 7) NoStepPasses
     (pick (eqb number 8) (SheetEnds place)
-    (pick (eqb number 9) NotTwoSettings
+    (pick (eqb number 9) WrongSettingsCount
     (pick (eqb number 10) (WrongResultCount place)
     (pick (eqb number 11) (BytesAfterLast place)
     (pick (eqb number 15) PolicyWithdrawn
@@ -41,7 +41,7 @@ again-is (OutputTooShort place) = refl
 again-is (BadRecord place) = refl
 again-is NoStepPasses = refl
 again-is (SheetEnds place) = refl
-again-is NotTwoSettings = refl
+again-is WrongSettingsCount = refl
 again-is (WrongResultCount place) = refl
 again-is (BytesAfterLast place) = refl
 again-is PolicyWithdrawn = refl
@@ -63,7 +63,7 @@ refusal-numbered (OutputTooShort place) = omega arith
 refusal-numbered (BadRecord place) = omega arith
 refusal-numbered NoStepPasses = omega arith
 refusal-numbered (SheetEnds place) = omega arith
-refusal-numbered NotTwoSettings = omega arith
+refusal-numbered WrongSettingsCount = omega arith
 refusal-numbered (WrongResultCount place) = omega arith
 refusal-numbered (BytesAfterLast place) = omega arith
 refusal-numbered PolicyWithdrawn = omega arith

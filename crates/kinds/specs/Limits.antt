@@ -17,3 +17,10 @@ mostTasks = 32
 
 abbrev pub mostProcessors : ℕ
 mostProcessors = 16
+
+-- Ask 2: a sheet has 2 or 3 settings
+abbrev pub fewestSettings : ℕ
+fewestSettings = 2
+
+abbrev pub mostSettings : ℕ
+mostSettings = 3

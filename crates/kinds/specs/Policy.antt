@@ -1,4 +1,4 @@
--- The five policies, their numbers, the further choice, and the settings that name one.
+-- The five policies, their numbers, and the further choice.
 -- Assumes nothing.
 use Prim.Native.Nat.{ℕ}
 use mathlib.Core.Bool.{Bool, true, false}
@@ -6,7 +6,6 @@ use mathlib.Core.Path.{_≡_}
 use lib.Dec.{eqb}
 use Rattle.ground.specs.Choice.{pick}
 use Rattle.kinds.specs.declared.Policy.{Policy}
-use Rattle.kinds.specs.declared.Settings.{Settings}
 use Rattle.kinds.specs.declared.Policy.the-variants.{Pooled, GlobalEdf, GlobalRm, FirstFit, OneCoreRm, Further}
 
 -- what a number stands for; one outside 1 to 5 is kept in the further choice
@@ -76,6 +75,3 @@ isFurther (Further q) = true
 -- a policy that is served is placed by first fit, or weighed
 abbrev pub Served : Policy → Type 0
 Served p = isFirstFit p ≡ false → isWeighed p ≡ true
-
-abbrev pub settings : Policy → ℕ → Settings
-settings policy m = record { policy = policy; m = m }

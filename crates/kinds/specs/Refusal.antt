@@ -3,7 +3,7 @@
 use Prim.Native.Nat.{ℕ}
 use Rattle.kinds.specs.declared.Refusal.{Refusal}
 use Rattle.kinds.specs.declared.Refusal.the-variants.{NoSuchPolicy, NoSuchProcessors, TooManyTasks, PolicyNotServed, OutputTooShort}
-use Rattle.kinds.specs.declared.Refusal.the-variants.{BadRecord, NoStepPasses, SheetEnds, NotTwoSettings, WrongResultCount}
+use Rattle.kinds.specs.declared.Refusal.the-variants.{BadRecord, NoStepPasses, SheetEnds, WrongSettingsCount, WrongResultCount}
 use Rattle.kinds.specs.declared.Refusal.the-variants.{BytesAfterLast, PolicyWithdrawn, BadLine, BadPeriod, NoResults, WrongResult}
 
 abbrev pub numberOf : Refusal → ℕ
@@ -15,7 +15,7 @@ numberOf (OutputTooShort place) = 5
 numberOf (BadRecord place) = 6
 numberOf NoStepPasses = 7
 numberOf (SheetEnds place) = 8
-numberOf NotTwoSettings = 9
+numberOf WrongSettingsCount = 9
 numberOf (WrongResultCount place) = 10
 numberOf (BytesAfterLast place) = 11
 numberOf PolicyWithdrawn = 15
@@ -33,7 +33,7 @@ placeOf (OutputTooShort place) = place
 placeOf (BadRecord place) = place
 placeOf NoStepPasses = 0
 placeOf (SheetEnds place) = place
-placeOf NotTwoSettings = 0
+placeOf WrongSettingsCount = 0
 placeOf (WrongResultCount place) = place
 placeOf (BytesAfterLast place) = place
 placeOf PolicyWithdrawn = 0

@@ -1,6 +1,6 @@
 -- A task record, a list of them, and a table.
 -- Assumes nothing.
-use Prim.Native.Nat.{ℕ, _≤_}
+use Prim.Native.Nat.{ℕ, _+_, _*_, _≤_}
 use mathlib.Core.Bool.{Bool}
 use mathlib.Core.List.{List}
 use lib.Dec.{leb}
@@ -33,7 +33,11 @@ tableWith rows n = table (padded noTask mostTasks rows) n
 abbrev pub tableOf : List Task → Table
 tableOf rows = tableWith rows (length rows)
 
--- document 01: "1 ≤ C ≤ Tmin ≤ Tmax ≤ 1,000,000,000 and 0 ≤ E ≤ 1,000,000"
+-- Ask 2: "every C in shares, periods and the test C ≤ Tmin is to be read as C + 2w"
+abbrev pub priced : ℕ → Task → Task
+priced w t = task (t .c + 2 * w) (t .tmin) (t .tmax) (t .e)
+
+-- document 01: "1 ≤ C ≤ Tmin ≤ Tmax ≤ 1,000,000,000 and 0 ≤ E ≤ 1,000,000", of a record whose C is the whole cost
 pub record Good (t : Task) : Type 0 where
   pub c-some : 1 ≤ t .c
   pub c-tmin : t .c ≤ t .tmin
@@ -41,12 +45,12 @@ pub record Good (t : Task) : Type 0 where
   pub tmax-most : t .tmax ≤ longestPeriod
   pub e-most : t .e ≤ greatestElasticity
 
--- the same as a test
-unfoldable pub isGood : Task → Bool
-isGood t =
+-- a record is good where a swap costs w: 1 ≤ C, C + 2w ≤ Tmin ≤ Tmax, and the limits
+unfoldable pub isGood : ℕ → Task → Bool
+isGood w t =
     both (both (both (both
     (leb 1 (t .c))
-    (leb (t .c) (t .tmin)))
+    (leb (t .c + 2 * w) (t .tmin)))
     (leb (t .tmin) (t .tmax)))
     (leb (t .tmax) longestPeriod))
     (leb (t .e) greatestElasticity)

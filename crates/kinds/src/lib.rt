@@ -1,9 +1,11 @@
 // The kinds that document 01 speaks of, each with its limits, and the numbers that stand for them. Contracts cite `specs/`, one file for
 // each kind.
 ghost use mathlib.Core.Path.{_≡_};
-ghost use Rattle.kinds.specs.Limits.{scale, longestPeriod, greatestElasticity, mostTasks, mostProcessors};
-ghost use Rattle.kinds.specs.Task.{isGood, task, table};
-ghost use Rattle.kinds.specs.Policy.{policyOf, policyNumber, meant, isFirstFit, isOneCore, settings};
+ghost use Prim.Native.Nat.{_+_, _*_, _≤_};
+ghost use Rattle.kinds.specs.Limits.{scale, longestPeriod, greatestElasticity, mostTasks, mostProcessors, fewestSettings, mostSettings};
+ghost use Rattle.kinds.specs.Task.{isGood, priced, task, table};
+ghost use Rattle.kinds.specs.Policy.{policyOf, policyNumber, meant, isFirstFit, isOneCore};
+ghost use Rattle.kinds.specs.Settings.{settings, settingsOf, numbersOf};
 ghost use Rattle.kinds.specs.Refusal.{numberOf, placeOf};
 ghost use Rattle.kinds.specs.Answer.{isAccepted, stepOf};
 
@@ -51,15 +53,36 @@ impl Task {
         Task { c, tmin, tmax, e }
     }
 
-    // Document 01: "A record is good when 1 ≤ C ≤ Tmin ≤ Tmax ≤ 1,000,000,000 and 0 ≤ E ≤ 1,000,000."
-    pub fn good(self) -> bool
-        ensures { λ r. ⌜ r ≡ isGood self ⌝ }
+    // Ask 2: "each job pays for being swapped in and out". 32 bits do not hold it for every C.
+    pub fn cost(self, swap: u16) -> u64
+        ensures { λ r. ⌜ r ≡ self .c + 2 * swap ⌝ }
     {
+        self.c as u64 + 2 * swap as u64
+    }
+
+    // Document 01: "A record is good when 1 ≤ C ≤ Tmin ≤ Tmax ≤ 1,000,000,000 and 0 ≤ E ≤ 1,000,000", where C ≤ Tmin is read with swaps.
+    pub fn good(self, swap: u16) -> bool
+        ensures { λ r. ⌜ r ≡ isGood swap self ⌝ }
+    {
+        let cost = self.cost(swap);
         1 <= self.c
-            && self.c <= self.tmin
+            && cost <= self.tmin as u64
             && self.tmin <= self.tmax
             && self.tmax <= Task::LONGEST_PERIOD
             && self.e <= Task::GREATEST_ELASTICITY
+    }
+
+    // The record with its swaps paid for: its C is the whole cost of a job.
+    pub fn priced(self, swap: u16) -> Task
+        requires { ⌜ self .c + 2 * swap ≤ 4294967295 ⌝ }
+        ensures { λ r. ⌜ r ≡ priced swap self ⌝ }
+    {
+        Task {
+            c: self.cost(swap) as u32,
+            tmin: self.tmin,
+            tmax: self.tmax,
+            e: self.e,
+        }
     }
 }
 
@@ -155,19 +178,46 @@ impl Policy {
     }
 }
 
-// The station settings: the policy, and how many processors there are.
+// The station settings: the policy, how many processors there are, and what a swap costs.
 pub struct Settings {
     pub policy: Policy,
     pub m: u16,
+    pub swap: u16,
 }
 
 impl Settings {
     pub const MOST_PROCESSORS: u16 = 16;
 
-    pub fn new(policy: Policy, m: u16) -> Settings
-        ensures { λ r. ⌜ r ≡ settings policy m ⌝ }
+    // How few numbers the settings section of a sheet may have, and how many.
+    pub const FEWEST: usize = 2;
+
+    pub const MOST: usize = 3;
+
+    // What is filled in for each number that a sheet leaves out.
+    pub const FILL_INS: [u16; Settings::MOST] = [0, 0, 0];
+
+    pub fn new(policy: Policy, m: u16, swap: u16) -> Settings
+        ensures { λ r. ⌜ r ≡ settings policy m swap ⌝ }
     {
-        Settings { policy, m }
+        Settings { policy, m, swap }
+    }
+
+    // The settings that the numbers on a sheet stand for.
+    pub fn of(numbers: [u16; Settings::MOST]) -> Settings
+        ensures { λ r. ⌜ r ≡ settingsOf numbers ⌝ }
+    {
+        let policy = Policy::of(numbers[0]);
+        let m = numbers[1];
+        let swap = numbers[2];
+        Settings { policy, m, swap }
+    }
+
+    // The numbers that settings are written as.
+    pub fn numbers(self) -> [u16; Settings::MOST]
+        ensures { λ r. ⌜ r ≡ numbersOf self ⌝ }
+    {
+        let policy = self.policy;
+        [policy.number(), self.m, self.swap]
     }
 }
 
@@ -193,8 +243,9 @@ pub struct Results {
     pub n: usize,
 }
 
-// A station sheet, section by section.
+// A station sheet: how many numbers its settings section has, and its sections.
 pub struct Sheet {
+    pub count: usize,
     pub settings: Settings,
     pub table: Table,
     pub results: Results,
@@ -210,7 +261,7 @@ pub enum Refusal {
     BadRecord(usize),
     NoStepPasses,
     SheetEnds(usize),
-    NotTwoSettings,
+    WrongSettingsCount,
     WrongResultCount(usize),
     BytesAfterLast(usize),
     PolicyWithdrawn,
@@ -233,7 +284,7 @@ impl Refusal {
             Refusal::BadRecord(_) => 6,
             Refusal::NoStepPasses => 7,
             Refusal::SheetEnds(_) => 8,
-            Refusal::NotTwoSettings => 9,
+            Refusal::WrongSettingsCount => 9,
             Refusal::WrongResultCount(_) => 10,
             Refusal::BytesAfterLast(_) => 11,
             Refusal::PolicyWithdrawn => 15,
@@ -256,7 +307,7 @@ impl Refusal {
             Refusal::BadRecord(place) => place,
             Refusal::NoStepPasses => 0,
             Refusal::SheetEnds(place) => place,
-            Refusal::NotTwoSettings => 0,
+            Refusal::WrongSettingsCount => 0,
             Refusal::WrongResultCount(place) => place,
             Refusal::BytesAfterLast(place) => place,
             Refusal::PolicyWithdrawn => 0,
@@ -320,4 +371,6 @@ pub fn limits()
     ensures { λ _. do ⌜ (← ⟦Task::GREATEST_ELASTICITY⟧ .entry) ≡ greatestElasticity ⌝ }
     ensures { λ _. do ⌜ (← ⟦Table::MOST_TASKS⟧ .entry) ≡ mostTasks ⌝ }
     ensures { λ _. do ⌜ (← ⟦Settings::MOST_PROCESSORS⟧ .entry) ≡ mostProcessors ⌝ }
+    ensures { λ _. do ⌜ (← ⟦Settings::FEWEST⟧ .entry) ≡ fewestSettings ⌝ }
+    ensures { λ _. do ⌜ (← ⟦Settings::MOST⟧ .entry) ≡ mostSettings ⌝ }
 {}

@@ -15,10 +15,10 @@ use Rattle.kinds.specs.Limits.{mostTasks}
 use Rattle.kinds.specs.Policy.{meant}
 use Rattle.kinds.specs.Task.{at}
 use Rattle.kinds.proofs.Answers.{margin-one}
-use Rattle.share.specs.Share.{shareAt}
 use Rattle.share.specs.Table.{shares}
 use Rattle.policy.specs.Sides.{marginOf}
-use Rattle.policy.proofs.Tests.{margin-same}
+use Rattle.policy.specs.Under.{marginUnder}
+use Rattle.share.proofs.Tables.{priced-same}
 use Rattle.kinds.specs.declared.Verdict.{Verdict}
 use Rattle.kinds.specs.declared.Verdict.the-variants.{Accepted, Refused}
 use Rattle.admission.specs.Admission.{admission}
@@ -40,7 +40,7 @@ unfolding marginHanded
 margin-handed-same s xs ys n k same =
     by-le n mostTasks
     (λ few. ap₂ reported (admission-same false s xs ys n n (same few))
-    (margin-same (meant (s .policy)) (s .m) (shares xs k) (shares ys k) n (λ i l. ap (λ (t : Task). shareAt t k) (same few i l))))
+    (ap (λ (paid : List Task). marginOf (meant (s .policy)) (s .m) (shares paid k) n) (priced-same (s .swap) xs ys n (same few))))
     (λ many.
-    ap (λ (a : Verdict). reported a (marginOf (meant (s .policy)) (s .m) (shares xs k) n)) (admission-many false s xs ys n n many)
+    ap (λ (a : Verdict). reported a (marginUnder s xs n k)) (admission-many false s xs ys n n many)
     ∙ reported-apart (admission false s ys n n) _ _ (λ e. omega (arith, admitted false s ys n n e .passed .few)))

@@ -7,9 +7,7 @@ use lib.IntN.{ℤ, pos}
 use Rattle.kinds.specs.declared.Task.{Task}
 use Rattle.kinds.specs.declared.Settings.{Settings}
 use Rattle.kinds.specs.Answer.{Handed, accepted, refused}
-use Rattle.kinds.specs.Policy.{meant}
-use Rattle.share.specs.Table.{shares}
-use Rattle.policy.specs.Sides.{marginOf}
+use Rattle.policy.specs.Under.{marginUnder}
 use Rattle.kinds.specs.declared.Verdict.{Verdict}
 use Rattle.kinds.specs.declared.Verdict.the-variants.{Accepted, Refused}
 use Rattle.admission.specs.Admission.{admission}
@@ -21,4 +19,4 @@ reported Accepted x = accepted x
 
 -- at step k, of the first n of some records. Nothing is lent, so refusal 5 is never given; policy 4 is not served
 unfoldable pub marginHanded : Settings → List Task → ℕ → ℕ → Handed ℤ
-marginHanded s rows n k = reported (admission false s rows n n) (marginOf (meant (s .policy)) (s .m) (shares rows k) n)
+marginHanded s rows n k = reported (admission false s rows n n) (marginUnder s rows n k)

@@ -27,6 +27,7 @@ use Rattle.share.proofs.Tables.{all-good}
 use Rattle.fit.specs.Fit.{loadsAfter, placeAt, fits}
 use Rattle.fit.proofs.Placing.{lowest, fits-placed}
 use Rattle.policy.specs.Passing.{passesAt, leastStep}
+use Rattle.policy.specs.Under.{rowsUnder}
 use Rattle.policy.proofs.Demand.{step-at, step-nothing}
 use Rattle.policy.proofs.Tests.{first-fit-passes}
 use Rattle.admission.specs.Admission.{admission}
@@ -45,12 +46,13 @@ pub record Assigned (p : Policy) (m : ℕ) (load : ℕ → ℕ) (i processor : �
   pub placed : isFirstFit p ≡ true → Lowest m load i processor
   pub any : isFirstFit p ≡ false → processor ≡ 0
 
--- entry i of the outputs is that of task i, and what stands past the tasks is as it was
+-- entry i of the outputs is that of task i, with its swaps paid for, and what stands past the tasks is as it was
 pub record Granted (s : Settings) (rows : List Task) (n k : ℕ) (oldPeriods oldProcessors periods processors : List ℕ) : Type 0 where
-  pub good : (i : ℕ) → i < n → Good (at rows i)
-  pub step : LeastAt (passesAt (meant (s .policy)) (s .m) rows n) (fullCompression rows n) k
-  pub each-period : (i : ℕ) → i < n → let task = at rows i in Shortest (costOf task) (task .tmin) (task .tmax) (shareAt task k) (getD periods i 0)
-  pub each-processor : (i : ℕ) → i < n → Assigned (meant (s .policy)) (s .m) (shares rows k) i (getD processors i 0)
+  pub good : (i : ℕ) → i < n → Good (at (rowsUnder s rows n) i)
+  pub step : LeastAt (passesAt (meant (s .policy)) (s .m) (rowsUnder s rows n) n) (fullCompression (rowsUnder s rows n) n) k
+  pub each-period : (i : ℕ) → i < n → let task = at (rowsUnder s rows n) i in
+      Shortest (costOf task) (task .tmin) (task .tmax) (shareAt task k) (getD periods i 0)
+  pub each-processor : (i : ℕ) → i < n → Assigned (meant (s .policy)) (s .m) (shares (rowsUnder s rows n) k) i (getD processors i 0)
   pub periods-past : (i : ℕ) → n ≤ i → getD periods i 0 ≡ getD oldPeriods i 0
   pub processors-past : (i : ℕ) → n ≤ i → getD processors i 0 ≡ getD oldProcessors i 0
 
@@ -81,33 +83,34 @@ unfolding outcome periodsAt processorsAt
 accepted-granted serves s rows n k oldPeriods oldProcessors periods processors x =
     let room = min (length oldPeriods) (length oldProcessors) in
     let p = meant (s .policy) in
+    let paid = rowsUnder s rows n in
     let g = accepting serves s rows n room k (x .answers) in
-    let good = all-good rows n (g .ready .none-bad) in
-    let step = step-at p (s .m) rows n k (g .step) in
+    let good = all-good (s .swap) rows n (g .ready .none-bad) in
+    let step = step-at p (s .m) paid n k (g .step) in
     let ps = rw (← x .answers) at (x .grants) in
     let qs = rw (← x .answers) at (x .places) in
     record {
       good = good;
       step = step;
-      each-period = λ i l. rw (ps, list-at (λ j. periodAt (at rows j) k) n i _ l) (shortest (at rows i) (good i l) k);
-      each-processor = λ i l. rw (qs, list-at (processorAt p (s .m) rows k) n i _ l) (assigned p (s .m) rows n k i (step .passes) l);
-      periods-past = λ i l. rw ps (list-past (λ j. periodAt (at rows j) k) n i oldPeriods l);
-      processors-past = λ i l. rw qs (list-past (processorAt p (s .m) rows k) n i oldProcessors l);
+      each-period = λ i l. rw (ps, list-at 0 (λ j. periodAt (at paid j) k) n i _ l) (shortest (at paid i) (good i l) k);
+      each-processor = λ i l. rw (qs, list-at 0 (processorAt p (s .m) paid k) n i _ l) (assigned p (s .m) paid n k i (step .passes) l);
+      periods-past = λ i l. rw ps (list-past (λ j. periodAt (at paid j) k) n i oldPeriods l);
+      processors-past = λ i l. rw qs (list-past (processorAt p (s .m) paid k) n i oldProcessors l);
     }
 
 -- refusal 7 is given exactly when the call is admitted and no step from 0 to K passes
 module _ (serves : Bool) (s : Settings) (rows : List Task) (n room : ℕ) where
   pub seven-none : found serves s rows n room .number ≡ 7
       → (admission serves s rows n room ≡ verdict.Accepted)
-      × ((k : ℕ) → k ≤ fullCompression rows n → passesAt (meant (s .policy)) (s .m) rows n k ≡ false)
-  seven-none e = let x = refused-seven serves s rows n room e in (x .0, step-nothing (meant (s .policy)) (s .m) rows n (x .1))
+      × ((k : ℕ) → k ≤ fullCompression (rowsUnder s rows n) n → passesAt (meant (s .policy)) (s .m) (rowsUnder s rows n) n k ≡ false)
+  seven-none e = let x = refused-seven serves s rows n room e in (x .0, step-nothing (meant (s .policy)) (s .m) (rowsUnder s rows n) n (x .1))
 
   pub none-seven : admission serves s rows n room ≡ verdict.Accepted
-      → ((k : ℕ) → k ≤ fullCompression rows n → passesAt (meant (s .policy)) (s .m) rows n k ≡ false)
+      → ((k : ℕ) → k ≤ fullCompression (rowsUnder s rows n) n → passesAt (meant (s .policy)) (s .m) (rowsUnder s rows n) n k ≡ false)
       → found serves s rows n room .number ≡ 7
   unfolding found leastStep
   none-seven a h =
-      let test = passesAt (meant (s .policy)) (s .m) rows n in
-      let K = fullCompression rows n in
+      let test = passesAt (meant (s .policy)) (s .m) (rowsUnder s rows n) n in
+      let K = fullCompression (rowsUnder s rows n) n in
       let e = least-none test K (K + 1) (λ j l. h j (omega arith)) (omega arith) in
       rw (a, ← e)

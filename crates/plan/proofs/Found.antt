@@ -19,17 +19,16 @@ use Rattle.kinds.specs.declared.Refusal.the-variants.{NoStepPasses}
 use Rattle.kinds.specs.Answer.{Handed, accepted, handed, isAccepted, stepOf, after}
 use Rattle.kinds.specs.Policy.{meant}
 use Rattle.kinds.proofs.Answers.{not-refused}
-use Rattle.share.specs.Table.{periodsAt}
 use Rattle.share.proofs.Tables.{all-good}
 use Rattle.springs.specs.Columns.{periodIn}
 use Rattle.springs.proofs.Columns.{held-allowed, held-periods}
 use Rattle.fit.specs.Fit.{loadIn}
-use Rattle.policy.specs.Passing.{leastStep}
+use Rattle.policy.specs.Under.{rowsUnder, leastUnder}
 use Rattle.policy.proofs.Demand.{step-at}
 use Rattle.kinds.specs.declared.Verdict as verdict
 use Rattle.admission.specs.Admission.{admission}
 use Rattle.admission.proofs.Chain.{Ready, admitted, not-admitted, Unlike, admission-unlike}
-use Rattle.plan.specs.Plan.{processorOn, processorsAt, decided, periodsAfter, processorsAfter, found, outcome, Meets}
+use Rattle.plan.specs.Plan.{processorOn, periodsUnder, processorsUnder, decided, periodsAfter, processorsAfter, found, outcome, Meets}
 use Rattle.plan.specs.Handover.{FoundHeld, Leaves, MayGrant}
 use Rattle.plan.proofs.Processors.{held-processors, placeable}
 use Rattle.plan.proofs.Writing.{written-same, step-handed}
@@ -60,13 +59,13 @@ decided-seven verdict.the-variants.Accepted (At j) h e = absurd (omega arith)
 decided-seven verdict.the-variants.Accepted Nothing h e = (refl, refl)
 
 pub refused-seven : (serves : Bool) (s : Settings) (rows : List Task) (n room : ℕ) → found serves s rows n room .number ≡ 7
-    → (admission serves s rows n room ≡ verdict.the-variants.Accepted) × (leastStep (meant (s .policy)) (s .m) rows n ≡ Nothing)
+    → (admission serves s rows n room ≡ verdict.the-variants.Accepted) × (leastUnder s rows n ≡ Nothing)
 unfolding found
 refused-seven serves s rows n room e = decided-seven _ _ (admission-unlike serves s rows n room) e
 
 pub record Accepting (serves : Bool) (s : Settings) (rows : List Task) (n room k : ℕ) : Type 0 where
   pub ready : Ready serves s rows n room
-  pub step : leastStep (meant (s .policy)) (s .m) rows n ≡ At k
+  pub step : leastUnder s rows n ≡ At k
 
 pub accepting : (serves : Bool) (s : Settings) (rows : List Task) (n room k : ℕ) → accepted k ≡ found serves s rows n room → Accepting serves s rows n room k
 unfolding found
@@ -81,13 +80,14 @@ may-grant serves (Refused r) s rows n a b cost tmin shares f t = true-false t re
 may-grant serves (Accepted k) s rows n a b cost tmin shares f t =
     let g = accepting serves s rows n (min a b) k (f .answers) in
     let p = g .ready .passed in
-    let good = all-good rows n (g .ready .none-bad) in
-    let passing = step-at (meant (s .policy)) (s .m) rows n k (g .step) .passes in
+    let paid = rowsUnder s rows n in
+    let good = all-good (s .swap) rows n (g .ready .none-bad) in
+    let passing = step-at (meant (s .policy)) (s .m) paid n k (g .step) .passes in
     record {
-      allowed = held-allowed rows n k cost tmin shares (f .held t) good;
+      allowed = held-allowed paid n k cost tmin shares (f .held t) good;
       roomy = omega (arith, p .roomy);
       placeable =
-          placeable (meant (s .policy)) (s .m) rows n k shares (f .held t .shares-are) b good (p .few) (p .m-most) (omega (arith, p .roomy)) passing;
+          placeable (meant (s .policy)) (s .m) paid n k shares (f .held t .shares-are) b good (p .few) (p .m-most) (omega (arith, p .roomy)) passing;
     }
 
 -- as a finder works it out: without a step where the admission refuses, else with the least one
@@ -96,24 +96,24 @@ module _ (serves : Bool) (s : Settings) (rows : List Task) (n room : ℕ) (a : v
   unfolding found
   refused-found r step e = rw (← is, e)
 
-  pub admitted-found : (step : Step) → step ≡ leastStep (meant (s .policy)) (s .m) rows n → decided a step ≡ found serves s rows n room
+  pub admitted-found : (step : Step) → step ≡ leastUnder s rows n → decided a step ≡ found serves s rows n room
   unfolding found
   admitted-found step e = rw (is, e)
 
 -- an answer that is found, with what it leaves in the outputs, meets the outcome
 module _ (serves : Bool) (answer : Answer) (s : Settings) (rows : List Task) (n : ℕ) (cost tmin shares periods processors : List ℕ)
     (f : FoundHeld serves s rows n (min (length periods) (length processors)) answer cost tmin shares) where
-  periods-left : after (handed answer) (listTo (periodIn cost tmin shares) n) n periods ≡ periodsAfter (handed answer) rows n periods
+  periods-left : after (handed answer) (listTo (periodIn cost tmin shares) n) n periods ≡ periodsAfter (handed answer) s rows n periods
   periods-left =
       written-same answer _ _ n periods
-      (λ t. held-periods rows n (stepOf answer) cost tmin shares (f .held t) ∙ ap (periodsAt rows n) (step-handed answer))
+      (λ t. held-periods (rowsUnder s rows n) n (stepOf answer) cost tmin shares (f .held t) ∙ ap (periodsUnder s rows n) (step-handed answer))
 
   processors-left : after (handed answer) (listTo (processorOn (meant (s .policy)) (s .m) (loadIn shares)) n) n processors
       ≡ processorsAfter (handed answer) s rows n processors
   processors-left =
       written-same answer _ _ n processors
-      (λ t. held-processors (meant (s .policy)) (s .m) rows n (stepOf answer) shares (f .held t .shares-are)
-      ∙ ap (processorsAt (meant (s .policy)) (s .m) rows n) (step-handed answer))
+      (λ t. held-processors (meant (s .policy)) (s .m) (rowsUnder s rows n) n (stepOf answer) shares (f .held t .shares-are)
+      ∙ ap (processorsUnder s rows n) (step-handed answer))
 
   pub meets : (new-periods new-processors : List ℕ)
       → Leaves (handed answer) s cost tmin shares n periods processors new-periods new-processors

@@ -1,7 +1,7 @@
 -- One outcome for every call: no second answer meets it, it depends on the first n records only, and where policy 4 is not asked it is
 -- the same whether that policy is served or not.
 -- Assumes nothing.
-use Prim.Native.Nat.{ℕ, _+_, _≤_, _<_, min}
+use Prim.Native.Nat.{ℕ, _≤_, _<_, min}
 use mathlib.Core.Bool.{Bool, true, false}
 use mathlib.Core.List.{List}
 use mathlib.Core.Path.{_≡_, refl, sym, ap, ap₂, _∙_}
@@ -9,11 +9,8 @@ use native.Mathlib.Omega.{arith}
 use lib.ListN.{length}
 use borrow.Author.Tests.{ne-eqb}
 use Rattle.ground.specs.declared.Step.{Step}
-use Rattle.ground.specs.Choice.{pick}
 use Rattle.ground.proofs.Cases.{by-le}
-use Rattle.ground.proofs.Buffer.{list-cong}
 use Rattle.kinds.specs.declared.Task.{Task}
-use Rattle.kinds.specs.declared.Policy.{Policy}
 use Rattle.kinds.specs.declared.Settings.{Settings}
 use Rattle.kinds.specs.declared.Answer.{Answer}
 use Rattle.kinds.specs.Answer.{Handed, after}
@@ -22,16 +19,13 @@ use Rattle.kinds.specs.Policy.{meant, isFirstFit}
 use Rattle.kinds.specs.Task.{at}
 use Rattle.kinds.proofs.Answers.{handed-one}
 use Rattle.kinds.proofs.Refusals.{refusal-numbered}
-use Rattle.share.specs.Share.{shareAt}
-use Rattle.share.specs.Table.{shares, periodsAt}
-use Rattle.share.proofs.Tables.{periods-same}
-use Rattle.fit.proofs.Placing.{place-same}
+use Rattle.share.proofs.Tables.{priced-same}
 use Rattle.policy.specs.Passing.{leastStep}
-use Rattle.policy.proofs.Demand.{step-same}
+use Rattle.policy.specs.Under.{leastUnder}
 use Rattle.kinds.specs.declared.Verdict as verdict
 use Rattle.admission.specs.Admission.{admission}
 use Rattle.admission.proofs.Chain.{admitted, admission-same, admission-many, admission-serves}
-use Rattle.plan.specs.Plan.{processorAt, processorsAt, decided, Outcome, found, outcome, Meets}
+use Rattle.plan.specs.Plan.{periodsUnder, processorsUnder, decided, Outcome, found, outcome, Meets}
 
 -- two answers, with their outputs, that meet one outcome are equal
 pub no-second-answer : (o : Outcome) (a b : Answer) (ps qs ps′ qs′ : List ℕ) → Meets o a ps qs → Meets o b ps′ qs′ → (a ≡ b) × (ps ≡ ps′) × (qs ≡ qs′)
@@ -59,7 +53,7 @@ module _ (serves : Bool) (s : Settings) (xs ys : List Task) (n : ℕ) where
   found-many : (room : ℕ) → mostTasks < n → found serves s xs n room ≡ found serves s ys n room
   unfolding found
   found-many room h =
-      ap (λ (a : verdict.Verdict). decided a (leastStep (meant (s .policy)) (s .m) xs n)) (admission-many serves s xs ys n room h)
+      ap (λ (a : verdict.Verdict). decided a (leastUnder s xs n)) (admission-many serves s xs ys n room h)
       ∙ decided-apart (admission serves s ys n room) _ _ (not-admitted ys room h)
 
   refused-many : (room : ℕ) → mostTasks < n → found serves s ys n room .number ≡ 0 → ⊥
@@ -70,34 +64,27 @@ module _ (serves : Bool) (s : Settings) (xs ys : List Task) (n : ℕ) where
   unfolding outcome
   outcome-many periods processors h =
       let room = min (length periods) (length processors) in
-      let p = meant (s .policy) in
       let f = found serves s ys n room in
       let e = found-many room h in
       let d = refused-many room h in
       rw (
         e,
-        keeps f (periodsAt xs n (f .value)) (periodsAt ys n (f .value)) n periods d,
-        keeps f (processorsAt p (s .m) xs n (f .value)) (processorsAt p (s .m) ys n (f .value)) n processors d,
+        keeps f (periodsUnder s xs n (f .value)) (periodsUnder s ys n (f .value)) n periods d,
+        keeps f (processorsUnder s xs n (f .value)) (processorsUnder s ys n (f .value)) n processors d,
       )
 
   module _ (same : (i : ℕ) → i < n → at xs i ≡ at ys i) where
-    processors-same : (p : Policy) (m k : ℕ) → processorsAt p m xs n k ≡ processorsAt p m ys n k
-    unfolding processorsAt
-    processors-same p m k =
-        list-cong (processorAt p m xs k) (processorAt p m ys k) n
-        (λ i l. ap (λ (x : ℕ). pick (isFirstFit p) (x + 1) 0)
-        (place-same m (shares xs k) (shares ys k) n (λ x g. ap (λ (t : Task). shareAt t k) (same x g)) i l))
-
     found-same : (room : ℕ) → found serves s xs n room ≡ found serves s ys n room
     unfolding found
-    found-same room = ap₂ decided (admission-same serves s xs ys n room same) (step-same (meant (s .policy)) (s .m) xs ys n same)
+    found-same room =
+        ap₂ decided (admission-same serves s xs ys n room same)
+        (ap (λ (paid : List Task). leastStep (meant (s .policy)) (s .m) paid n) (priced-same (s .swap) xs ys n same))
 
     outcome-agrees : (periods processors : List ℕ) → outcome serves s xs n periods processors ≡ outcome serves s ys n periods processors
     unfolding outcome
     outcome-agrees periods processors =
         let room = min (length periods) (length processors) in
-        let k = found serves s ys n room .value in
-        rw (found-same room, periods-same xs ys n same k, processors-same (meant (s .policy)) (s .m) k)
+        rw (found-same room, priced-same (s .swap) xs ys n same)
 
 -- two tables that agree on the first n records are answered alike; where n is too large, any two are
 pub outcome-same : (serves : Bool) (s : Settings) (xs ys : List Task) (n : ℕ) (periods processors : List ℕ)

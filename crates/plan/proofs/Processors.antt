@@ -35,7 +35,7 @@ module _ (p : Policy) (m : ℕ) (load : ℕ → ℕ) (n : ℕ) where
       let all : stuckAt m load n ≡ n = eqb-true _ _ (sym (first-fit-passes p m load n first) ∙ passing) in
       let e : trial .processors ≡ listTo (λ i. placeAt m load i + 1) n ++ drop n (replicate mostTasks 0) = rw all at (f .places) in
       list-cong (λ i. getD (trial .processors) i 0) (processorOn p m load) n
-      (λ i l. rw (first, e) (list-at (λ i. placeAt m load i + 1) n i (drop n (replicate mostTasks 0)) l))
+      (λ i l. rw (first, e) (list-at 0 (λ i. placeAt m load i + 1) n i (drop n (replicate mostTasks 0)) l))
 
   pub any-processors : n ≤ mostTasks → isFirstFit p ≡ false → listTo (λ i. getD (replicate mostTasks 0) i 0) n ≡ listTo (processorOn p m load) n
   any-processors few other =

@@ -17,12 +17,13 @@ use Rattle.springs.specs.Handover.{Held, Allowed}
 use Rattle.fit.specs.Fit.{loadIn}
 use Rattle.fit.specs.Handover.{Loads}
 use Rattle.policy.specs.Passing.{passes}
+use Rattle.policy.specs.Under.{rowsUnder}
 use Rattle.plan.specs.Plan.{processorOn, found}
 
 -- an answer, and of an acceptance the columns that its periods come from
 pub record FoundHeld (serves : Bool) (s : Settings) (rows : List Task) (n room : ℕ) (answer : Answer) (cost tmin shares : List ℕ) : Type 0 where
   pub answers : handed answer ≡ found serves s rows n room
-  pub held : isAccepted answer ≡ true → Held rows n (stepOf answer) cost tmin shares
+  pub held : isAccepted answer ≡ true → Held (rowsUnder s rows n) n (stepOf answer) cost tmin shares
 
 -- what the writing of processors relies on
 pub record Placeable (p : Policy) (m : ℕ) (loads : List ℕ) (n room : ℕ) : Type 0 where

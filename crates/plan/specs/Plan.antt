@@ -18,7 +18,7 @@ use Rattle.kinds.specs.Answer.{Handed, accepted, refused, after, handed}
 use Rattle.kinds.specs.Policy.{meant, isFirstFit}
 use Rattle.share.specs.Table.{shares, periodsAt}
 use Rattle.fit.specs.Fit.{placeAt}
-use Rattle.policy.specs.Passing.{leastStep}
+use Rattle.policy.specs.Under.{rowsUnder, leastUnder}
 use Rattle.kinds.specs.declared.Verdict.{Verdict}
 use Rattle.kinds.specs.declared.Verdict.the-variants.{Accepted, Refused}
 use Rattle.admission.specs.Admission.{admission}
@@ -40,12 +40,19 @@ decided (Refused r) step = refused 0 r
 decided Accepted (At k) = accepted k
 decided Accepted Nothing = refused 0 NoStepPasses
 
--- what stands in the two outputs after a call on the first n of some records
-abbrev pub periodsAfter : Handed ℕ → List Task → ℕ → List ℕ → List ℕ
-periodsAfter h rows n old = after h (periodsAt rows n (h .value)) n old
+-- the periods and the processors at step k, of the first n of some records
+abbrev pub periodsUnder : Settings → List Task → ℕ → ℕ → List ℕ
+periodsUnder s rows n k = periodsAt (rowsUnder s rows n) n k
+
+abbrev pub processorsUnder : Settings → List Task → ℕ → ℕ → List ℕ
+processorsUnder s rows n k = processorsAt (meant (s .policy)) (s .m) (rowsUnder s rows n) n k
+
+-- what stands in the two outputs after a call
+abbrev pub periodsAfter : Handed ℕ → Settings → List Task → ℕ → List ℕ → List ℕ
+periodsAfter h s rows n old = after h (periodsUnder s rows n (h .value)) n old
 
 abbrev pub processorsAfter : Handed ℕ → Settings → List Task → ℕ → List ℕ → List ℕ
-processorsAfter h s rows n old = after h (processorsAt (meant (s .policy)) (s .m) rows n (h .value)) n old
+processorsAfter h s rows n old = after h (processorsUnder s rows n (h .value)) n old
 
 -- number, place and step, and the two outputs as the call leaves them
 pub record Outcome : Type 0 where
@@ -55,13 +62,13 @@ pub record Outcome : Type 0 where
 
 -- the admission, and the least passing step where it admits; a finder serves policy 4, or does not
 unfoldable pub found : Bool → Settings → List Task → ℕ → ℕ → Handed ℕ
-found serves s rows n room = decided (admission serves s rows n room) (leastStep (meant (s .policy)) (s .m) rows n)
+found serves s rows n room = decided (admission serves s rows n room) (leastUnder s rows n)
 
 -- a finder's call, with the two outputs as they are lent
 unfoldable pub outcome : Bool → Settings → List Task → ℕ → List ℕ → List ℕ → Outcome
 outcome serves s rows n periods processors =
     let h = found serves s rows n (min (length periods) (length processors)) in
-    record { handed = h; periods = periodsAfter h rows n periods; processors = processorsAfter h s rows n processors }
+    record { handed = h; periods = periodsAfter h s rows n periods; processors = processorsAfter h s rows n processors }
 
 -- an answer and the two outputs at exit are those of the outcome
 pub record Meets (o : Outcome) (answer : Answer) (periods processors : List ℕ) : Type 0 where

@@ -61,8 +61,3 @@ module _ (f g : ℕ → ℕ) where
     for-same (At (suc k)) =
         ap (λ (x : ℕ). 2 + x) (count-cong _ _ n (λ i l. ap₂ both (counts-same i l) (ap (λ (x : ℕ). ltb x (suc k)) (h i l))))
     for-same Nothing = ap (λ (x : ℕ). 1 + x) (count-cong _ _ n counts-same)
-
-pub looks-same : (xs ys : List Task) (n : ℕ) → ((i : ℕ) → i < n → at xs i ≡ at ys i) → (step : Step) → looksOf xs n step ≡ looksOf ys n step
-unfolding looksOf
-looks-same xs ys n same step =
-    for-same (λ i. saturationAt (at xs i)) (λ i. saturationAt (at ys i)) n (λ i l. ap saturationAt (same i l)) step

@@ -2,3 +2,4 @@ pub mod Sides
 pub mod Passing
 pub mod Looks
 pub mod Handover
+pub mod Under

@@ -21,6 +21,7 @@ use Rattle.share.specs.Share.{saturationAt}
 use Rattle.share.specs.Table.{shares, fullCompression}
 use Rattle.policy.specs.Sides.{weightsOf}
 use Rattle.policy.specs.Looks.{looksFor, looksOf}
+use Rattle.policy.specs.Under.{rowsUnder, looksUnder}
 use Rattle.policy.specs.Passing.{passesAt, leastStep}
 use Rattle.policy.proofs.LookCount.{for-same, looks-bound}
 use Rattle.policy.proofs.Tests.{passes-weighed, passes-same}
@@ -69,7 +70,7 @@ module _ (s : Settings) (rows : List Task) (n room : ℕ) (a : verdict.Verdict) 
   unfolding looks
   no-looks e = rw (← is, e)
 
-  pub some-looks : (k : ℕ) → a ≡ verdict.the-variants.Accepted → k ≡ looksOf rows n (leastStep (meant (s .policy)) (s .m) rows n) → k ≡ looks s rows n room
+  pub some-looks : (k : ℕ) → a ≡ verdict.the-variants.Accepted → k ≡ looksUnder s rows n → k ≡ looks s rows n room
   unfolding looks
   some-looks k e q = rw (← is, e) q
 
@@ -80,4 +81,4 @@ after-few (verdict.the-variants.Refused r) k n h = omega arith
 
 pub looks-few : (s : Settings) (rows : List Task) (n room : ℕ) → looks s rows n room ≤ n + 1
 unfolding looks
-looks-few s rows n room = after-few (admission false s rows n room) _ n (looks-bound (meant (s .policy)) (s .m) rows n)
+looks-few s rows n room = after-few (admission false s rows n room) _ n (looks-bound (meant (s .policy)) (s .m) (rowsUnder s rows n) n)

@@ -8,9 +8,7 @@ use lib.ListN.{length}
 use Rattle.kinds.specs.declared.Task.{Task}
 use Rattle.kinds.specs.declared.Settings.{Settings}
 use Rattle.kinds.specs.Answer.{handed}
-use Rattle.kinds.specs.Policy.{meant}
-use Rattle.policy.specs.Looks.{looksOf}
-use Rattle.policy.specs.Passing.{leastStep}
+use Rattle.policy.specs.Under.{looksUnder}
 use Rattle.kinds.specs.declared.Verdict.{Verdict}
 use Rattle.kinds.specs.declared.Verdict.the-variants.{Accepted, Refused}
 use Rattle.admission.specs.Admission.{admission}
@@ -24,7 +22,7 @@ looksAfter Accepted looks = looks
 
 -- the looks of a call on the first n of some records
 unfoldable pub looks : Settings → List Task → ℕ → ℕ → ℕ
-looks s rows n room = looksAfter (admission false s rows n room) (looksOf rows n (leastStep (meant (s .policy)) (s .m) rows n))
+looks s rows n room = looksAfter (admission false s rows n room) (looksUnder s rows n)
 
 pub record FoundLooked (s : Settings) (rows : List Task) (n room : ℕ) (r : Looked) : Type 0 where
   pub answers : handed (r .answer) ≡ found false s rows n room

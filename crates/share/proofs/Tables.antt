@@ -1,20 +1,20 @@
 -- What document 01 says of full compression and of the first bad record, and the walk over a table that finds it.
 -- Assumes nothing.
-use Prim.Native.Nat.{ℕ, _+_, _≤_, _<_}
+use Prim.Native.Nat.{ℕ, _+_, _*_, _≤_, _<_}
 use mathlib.Core.Bool.{Bool, true, false, not}
 use mathlib.Core.List.{List}
-use mathlib.Core.Path.{_≡_, sym, ap, _∙_}
+use mathlib.Core.Path.{_≡_, ap}
 use native.Mathlib.Omega.{arith}
 use Rattle.ground.specs.First.{IsFirst}
 use Rattle.ground.proofs.Cases.{by-bool, true-false}
 use Rattle.ground.proofs.First.{first-is, first-cong}
-use Rattle.ground.proofs.Folds.{le-max-to, max-to-le, max-cong}
-use Rattle.ground.proofs.Buffer.{list-cong}
+use Rattle.ground.proofs.Folds.{le-max-to, max-to-le}
+use Rattle.ground.proofs.Buffer.{list-in, list-cong}
 use Rattle.kinds.specs.declared.Task.{Task}
-use Rattle.kinds.specs.Task.{at, Good, isGood}
+use Rattle.kinds.specs.Task.{noTask, at, priced, Good, isGood}
 use Rattle.kinds.proofs.Records.{good-is}
-use Rattle.share.specs.Share.{saturationAt, periodAt}
-use Rattle.share.specs.Table.{fullCompression, firstBad, periodsAt}
+use Rattle.share.specs.Share.{saturationAt}
+use Rattle.share.specs.Table.{fullCompression, firstBad, pricedRows}
 use Rattle.share.proofs.Tasks.{saturation-most}
 
 -- K is no less than any saturation step
@@ -31,29 +31,34 @@ full-within rows n b h = max-to-le (λ i. saturationAt (at rows i)) n b h
 pub full-most : (rows : List Task) (n : ℕ) → ((i : ℕ) → i < n → Good (at rows i)) → fullCompression rows n ≤ 999999
 full-most rows n g = full-within rows n 999999 (λ i l. omega (arith, saturation-most (at rows i) (g i l)))
 
+-- the records with their swaps paid for
+pub priced-at : (w : ℕ) (rows : List Task) (n i : ℕ) → i < n → at (pricedRows w rows n) i ≡ priced w (at rows i)
+unfolding pricedRows
+priced-at w rows n i l = list-in noTask (λ j. priced w (at rows j)) n i l
+
+-- they depend on the first n records only
+pub priced-same : (w : ℕ) (xs ys : List Task) (n : ℕ) → ((i : ℕ) → i < n → at xs i ≡ at ys i) → pricedRows w xs n ≡ pricedRows w ys n
+unfolding pricedRows
+priced-same w xs ys n same =
+    list-cong (λ i. priced w (at xs i)) (λ i. priced w (at ys i)) n (λ i l. ap (priced w) (same i l))
+
+-- where a swap costs nothing, they are as they stand
+pub priced-free : (rows : List Task) (n i : ℕ) → i < n → at (pricedRows 0 rows n) i ≡ at rows i
+priced-free rows n i l = let e : at rows i .c + 2 * 0 ≡ at rows i .c = omega arith in rw (priced-at 0 rows n i l, e)
+
 -- the first bad record in words: those before it are good, and it is not
-pub first-bad-is : (rows : List Task) (n : ℕ) → IsFirst (λ i. not (isGood (at rows i))) n (firstBad rows n)
+pub first-bad-is : (w : ℕ) (rows : List Task) (n : ℕ) → IsFirst (λ i. not (isGood w (at rows i))) n (firstBad w rows n)
 unfolding firstBad
-first-bad-is rows n = first-is (λ i. not (isGood (at rows i))) n
+first-bad-is w rows n = first-is (λ i. not (isGood w (at rows i))) n
 
-not-bad : (t : Task) → not (isGood t) ≡ false → Good t
-not-bad t e = good-is t (by-bool (isGood t) (λ g. g) (λ g. true-false (rw g) e))
+not-bad : (w : ℕ) (t : Task) → not (isGood w t) ≡ false → Good (priced w t)
+not-bad w t e = good-is w t (by-bool (isGood w t) (λ g. g) (λ g. true-false (rw g) e))
 
-pub all-good : (rows : List Task) (n : ℕ) → n ≤ firstBad rows n → (i : ℕ) → i < n → Good (at rows i)
-all-good rows n h i l = not-bad (at rows i) (first-bad-is rows n .before i (omega arith))
+pub all-good : (w : ℕ) (rows : List Task) (n : ℕ) → n ≤ firstBad w rows n → (i : ℕ) → i < n → Good (at (pricedRows w rows n) i)
+all-good w rows n h i l = rw (priced-at w rows n i l) (not-bad w (at rows i) (first-bad-is w rows n .before i (omega arith)))
 
--- the rules look at the first n records only
-module _ (xs ys : List Task) (n : ℕ) (same : (i : ℕ) → i < n → at xs i ≡ at ys i) where
-  pub full-same : fullCompression xs n ≡ fullCompression ys n
-  unfolding fullCompression
-  full-same = max-cong (λ i. saturationAt (at xs i)) (λ i. saturationAt (at ys i)) n (λ i l. ap saturationAt (same i l))
-
-  pub bad-same : firstBad xs n ≡ firstBad ys n
-  unfolding firstBad
-  bad-same =
-      first-cong (λ i. not (isGood (at xs i))) (λ i. not (isGood (at ys i))) n (λ i l. ap (λ (t : Task). not (isGood t)) (same i l))
-
-  pub periods-same : (k : ℕ) → periodsAt xs n k ≡ periodsAt ys n k
-  unfolding periodsAt
-  periods-same k =
-      list-cong (λ i. periodAt (at xs i) k) (λ i. periodAt (at ys i) k) n (λ i l. ap (λ (t : Task). periodAt t k) (same i l))
+-- it depends on the first n records only
+pub bad-same : (w : ℕ) (xs ys : List Task) (n : ℕ) → ((i : ℕ) → i < n → at xs i ≡ at ys i) → firstBad w xs n ≡ firstBad w ys n
+unfolding firstBad
+bad-same w xs ys n same =
+    first-cong (λ i. not (isGood w (at xs i))) (λ i. not (isGood w (at ys i))) n (λ i l. ap (λ (t : Task). not (isGood w t)) (same i l))

@@ -4,7 +4,7 @@ use Prim.Native.Nat.{ℕ}
 use Rattle.kinds.specs.declared.Task.{Task}
 use Rattle.rule.specs.Rule.{partOf, shareOf, saturationOf, periodOf}
 
--- the whole cost of a job
+-- the whole cost of a job, of a record whose swaps are paid for
 abbrev pub costOf : Task → ℕ
 costOf t = t .c
 

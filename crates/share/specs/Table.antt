@@ -6,7 +6,7 @@ use mathlib.Core.List.{List}
 use Rattle.ground.specs.First.{firstBelow}
 use Rattle.ground.specs.Folds.{maxTo, listTo}
 use Rattle.kinds.specs.declared.Task.{Task}
-use Rattle.kinds.specs.Task.{at, isGood}
+use Rattle.kinds.specs.Task.{at, priced, isGood}
 use Rattle.share.specs.Share.{shareAt, saturationAt, periodAt}
 
 -- the share of each task at step k, by number
@@ -17,10 +17,14 @@ shares rows k i = shareAt (at rows i) k
 unfoldable pub fullCompression : List Task → ℕ → ℕ
 fullCompression rows n = maxTo (λ i. saturationAt (at rows i)) n
 
--- the first record that is not good; n where each is
-unfoldable pub firstBad : List Task → ℕ → ℕ
-firstBad rows n = firstBelow (λ i. not (isGood (at rows i))) n
+-- the first record that is not good where a swap costs w; n where each is
+unfoldable pub firstBad : ℕ → List Task → ℕ → ℕ
+firstBad w rows n = firstBelow (λ i. not (isGood w (at rows i))) n
 
 -- the periods at step k
 unfoldable pub periodsAt : List Task → ℕ → ℕ → List ℕ
 periodsAt rows n k = listTo (λ i. periodAt (at rows i) k) n
+
+-- the first n records with their swaps paid for: the rules of document 01 are asked of these
+unfoldable pub pricedRows : ℕ → List Task → ℕ → List Task
+pricedRows w rows n = listTo (λ i. priced w (at rows i)) n

@@ -7,7 +7,7 @@ ghost use Rattle.kinds.specs.Task.{Good};
 ghost use Rattle.share.specs.Share.{costOf, largestOf, leastOf};
 ghost use Rattle.share.specs.Handover.{ShareIs};
 
-// Document 01: "C is the whole cost of a job. Nothing else is charged."
+// The whole cost of a job: the C of a record whose swaps are paid for.
 pub fn cost(task: Task) -> u64
     ensures { λ r. ⌜ r ≡ costOf task ⌝ }
 {

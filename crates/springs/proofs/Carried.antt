@@ -53,7 +53,7 @@ module _ (largest least elasticity out : List ℕ) (k i : ℕ) (w : Front (λ j.
   shares-written n e long =
       record {
         long = w .long ∙ long;
-        are = λ j l. ap (λ (x : List ℕ). getD x j 0) (w .is) ∙ list-at (λ j. shareOn (springIn largest least elasticity j) k) i j _ (omega arith);
+        are = λ j l. ap (λ (x : List ℕ). getD x j 0) (w .is) ∙ list-at 0 (λ j. shareOn (springIn largest least elasticity j) k) i j _ (omega arith);
       }
 
 -- a walk that adds the shares up

@@ -12,7 +12,7 @@ use Rattle.ground.proofs.Buffer.{list-cong}
 use Rattle.ground.proofs.Cases.{by-eq, by-bool, true-false}
 use Rattle.kinds.specs.declared.Task.{Task}
 use Rattle.kinds.specs.Limits.{scale, longestPeriod, mostTasks}
-use Rattle.kinds.specs.Task.{at, Good, isGood}
+use Rattle.kinds.specs.Task.{at, priced, Good, isGood}
 use Rattle.kinds.proofs.Records.{good-is}
 use Rattle.rule.specs.Rule.{periodOf}
 use Rattle.rule.proofs.Periods.{period-shortest}
@@ -46,9 +46,9 @@ sprung-front rows r n s h w =
       tmins = λ i l. w .tmins i (omega arith);
     }
 
--- a record whose test was not failed is good
-pub found-good : (t : Task) (b : Bool) → b ≡ isGood t → not b ≡ false → Good t
-found-good t b e f = good-is t (by-bool (isGood t) (λ g. g) (λ g. true-false (rw (e, g)) f))
+-- a record whose test was not failed is good once its swaps are paid for
+pub found-good : (w : ℕ) (t : Task) (b : Bool) → b ≡ isGood w t → not b ≡ false → Good (priced w t)
+found-good w t b e f = good-is w t (by-bool (isGood w t) (λ g. g) (λ g. true-false (rw (e, g)) f))
 
 -- a task's share and saturation step are its spring's
 pub share-on : (t : Task) (k : ℕ) → shareOn (springOf t) k ≡ shareAt t k

@@ -9,7 +9,7 @@ use Rattle.kinds.specs.declared.Task.{Task}
 use Rattle.kinds.specs.Limits.{scale, greatestElasticity, longestPeriod, mostTasks}
 use Rattle.kinds.specs.Task.{at}
 use Rattle.share.specs.Share.{costOf, shareAt, saturationAt}
-use Rattle.share.specs.Table.{firstBad}
+use Rattle.share.specs.Table.{firstBad, pricedRows}
 use Rattle.springs.specs.declared.Spring.{Spring}
 use Rattle.springs.specs.Spring.{springOf, shareOn, saturationOn, sharesOn}
 use Rattle.springs.specs.Columns.{Columns, springsIn, periodIn}
@@ -70,6 +70,6 @@ pub record Sprung (rows : List Task) (n : ℕ) (s : Columns) : Type 0 where
   pub tmins : (i : ℕ) → i < n → getD (s .tmin) i 0 ≡ at rows i .tmin
 
 -- those before the first record that is not good, which is number r; it is n where all are
-pub record SprungUntil (rows : List Task) (n r : ℕ) (s : Columns) : Type 0 where
-  pub first : r ≡ firstBad rows n
-  pub sprung : Sprung rows r s
+pub record SprungUntil (w : ℕ) (rows : List Task) (n r : ℕ) (s : Columns) : Type 0 where
+  pub first : r ≡ firstBad w rows n
+  pub sprung : Sprung (pricedRows w rows n) r s

@@ -46,9 +46,10 @@ pub fn saturation_on(spring: Spring) -> u32
 }
 
 // The springs of a table, their saturation steps, the costs and the shortest periods, worked out once for a call into six lent columns, up
-// to the first record that is not good. Returns the number of that record, or how many there are.
+// to the first record that is not good where a swap costs so much. Returns the number of that record, or how many there are.
 pub fn springs_of(
     table: Table,
+    swap: u16,
     largest: &mut [u32; Table::MOST_TASKS],
     least: &mut [u32; Table::MOST_TASKS],
     elasticity: &mut [u32; Table::MOST_TASKS],
@@ -58,24 +59,25 @@ pub fn springs_of(
 ) -> usize
     requires { ⌜ (table .n ≤ mostTasks)
         × Roomy (columns (now largest) (now least) (now elasticity) (now saturation) (now cost) (now tmin)) ⌝ }
-    ensures { λ r. ⌜ SprungUntil (table .rows) (table .n) r
+    ensures { λ r. ⌜ SprungUntil swap (table .rows) (table .n) r
         (columns (now (largest .exit)) (now (least .exit)) (now (elasticity .exit)) (now (saturation .exit))
         (now (cost .exit)) (now (tmin .exit))) ⌝ }
 {
     let n = table.n;
     for i in 0..n {
         let task = table.rows[i];
-        if !task.good() {
+        if !task.good(swap) {
             return i;
         }
-        let spring = spring_of(task);
+        let priced = task.priced(swap);
+        let spring = spring_of(priced);
         largest[i] = spring.largest;
         least[i] = spring.least;
         elasticity[i] = spring.elasticity;
         saturation[i] = saturation_on(spring);
-        let whole = share::cost(task) as u32;
+        let whole = priced.c;
         cost[i] = whole;
-        tmin[i] = task.tmin;
+        tmin[i] = priced.tmin;
     }
     n
 }

@@ -10,6 +10,7 @@ use Rattle.kinds.specs.declared.Task.{Task}
 use Rattle.kinds.specs.declared.Settings.{Settings}
 use Rattle.kinds.specs.Answer.{Handed}
 use Rattle.kinds.specs.Policy.{policyOf}
+use Rattle.kinds.specs.Settings.{settings}
 use Rattle.plan.specs.Plan.{Outcome, outcome}
 use Rattle.quick.specs.Looked.{looks}
 use Rattle.told.specs.declared.Station.{Station}
@@ -17,7 +18,7 @@ use Rattle.told.specs.declared.Told.{Told}
 use Rattle.told.specs.declared.ToldMargin.{ToldMargin}
 
 abbrev pub settingsOf : Station → Settings
-settingsOf s = record { policy = policyOf (s .policy); m = s .m }
+settingsOf s = settings (policyOf (s .policy)) (s .m) (s .w)
 
 abbrev pub toldHanded : Told → Handed ℕ
 toldHanded r = record { number = r .number; place = r .place; value = r .step }

@@ -16,11 +16,12 @@ ghost use Rattle.margin.specs.Margin.{marginHanded};
 ghost use Rattle.wide.specs.Wide as wide;
 ghost use Rattle.told.specs.Told.{settingsOf, toldHanded, toldMargin, ToldMeets, ToldLooked};
 
-// The settings as two numbers.
+// The settings as numbers.
 #[repr(C)]
 pub struct Station {
     pub policy: u16,
     pub m: u16,
+    pub w: u16,
 }
 
 // Number, step, looks and place. A refusal's step is 0; the plain finder makes no looks.
@@ -40,11 +41,11 @@ pub struct ToldMargin {
     pub margin: i64,
 }
 
-// The settings that two numbers stand for.
+// The settings that a station's numbers stand for.
 pub fn settings_of(station: Station) -> Settings
     ensures { λ r. ⌜ r ≡ settingsOf station ⌝ }
 {
-    Settings::new(Policy::of(station.policy), station.m)
+    Settings::new(Policy::of(station.policy), station.m, station.w)
 }
 
 // An answer in numbers, with its looks.

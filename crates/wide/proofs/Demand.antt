@@ -45,8 +45,8 @@ accepted-granted m t k oldPeriods oldCores periods cores x =
     record {
       table = good;
       step = step-at m (t .rows) (t .n) k (g .step);
-      each-period = λ i l. rw (ps, list-at (λ j. periodAt (at (t .rows) j) k) (t .n) i _ l) (shortest (at (t .rows) i) (good .good i l) k);
-      each-core-count = λ i l. rw (cs, list-at (λ j. coresAt (at (t .rows) j) k) (t .n) i _ l) (fewest (at (t .rows) i) (good .good i l) k);
+      each-period = λ i l. rw (ps, list-at 0 (λ j. periodAt (at (t .rows) j) k) (t .n) i _ l) (shortest (at (t .rows) i) (good .good i l) k);
+      each-core-count = λ i l. rw (cs, list-at 0 (λ j. coresAt (at (t .rows) j) k) (t .n) i _ l) (fewest (at (t .rows) i) (good .good i l) k);
       periods-past = λ i l. rw ps (list-past (λ j. periodAt (at (t .rows) j) k) (t .n) i oldPeriods l);
       cores-past = λ i l. rw cs (list-past (λ j. coresAt (at (t .rows) j) k) (t .n) i oldCores l);
     }

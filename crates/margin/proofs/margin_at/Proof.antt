@@ -7,6 +7,7 @@ use Rattle.springs.specs.Columns.{Columns, columns}
 use Rattle.springs.specs.Handover.{SharesOf}
 use Rattle.springs.proofs.Columns.{shares-of, held-most}
 use Rattle.fit.specs.Fit.{loadIn}
+use Rattle.policy.specs.Under.{rowsUnder}
 use Rattle.policy.proofs.Tests.{margin-same}
 use Rattle.admission.proofs.Chain.{passed-weighed}
 use Rattle.admission.proofs.Opened.{Opened, opened}
@@ -36,7 +37,7 @@ abbrev let-down : tie.After-shares-at → tie.After-enum-told
 let-down c = c .before .before .before .before
 
 held : (c : tie.After-shares-at) → let a = start (let-down c .before .before) .args in
-    SharesOf (a .table .rows) (a .table .n) (a .step) (c .shares-at .last .0)
+    SharesOf (rowsUnder (a .settings) (a .table .rows) (a .table .n)) (a .table .n) (a .step) (c .shares-at .last .0)
 held c = shares-of _ _ (springs (let-down c .before .before)) (begun (let-down c) .sprung) _ _ (c .shares-at .ensures)
 
 admit-requires : tie.Need-admit-requires
@@ -62,7 +63,7 @@ margin-of-requires c κs =
     let b = begun (let-down h) in
     let p = b .ready .passed in
     let a = start (let-down h .before .before) .args in
-    let most = held-most (a .table .rows) _ (a .step) (h .shares-at .last .0) (b .good) (held h) in
+    let most = held-most (rowsUnder (a .settings) (a .table .rows) (a .table .n)) _ (a .step) (h .shares-at .last .0) (b .good) (held h) in
     (record { few = p .few; most = most }, p .m-some, p .m-most, rw (c .before .meant .ensures) (passed-weighed _ _ _ _ p))
 
 returns : tie.Need-returns
@@ -72,7 +73,7 @@ returns c =
     let h = m .before in
     let t = let-down h in
     let a = start (t .before .before) .args in
-    let same = margin-same _ _ (loadIn (h .shares-at .last .0)) (shares (a .table .rows) (a .step)) _ (held h) in
+    let same = margin-same _ _ (loadIn (h .shares-at .last .0)) (shares (rowsUnder (a .settings) (a .table .rows) (a .table .n)) (a .step)) _ (held h) in
     rw (← t .before .before .admit .ensures .is, t .enum-told .given .1, ← m .meant .ensures)
     (ap accepted (search needs ∙ (c .margin-of .ensures ∙ same)))
 

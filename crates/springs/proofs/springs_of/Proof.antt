@@ -1,11 +1,14 @@
 -- `springs::springs_of` meets its contract. Assumes nothing.
 use Prim.Native.Nat.{ℕ, _-_, _≤_, _<_}
 use mathlib.Core.Bool.{false, not}
-use mathlib.Core.Path.{_≡_, refl}
+use mathlib.Core.Path.{_≡_, sym, ap, _∙_}
 use native.Mathlib.Omega.{arith}
 use Rattle.ground.proofs.First.{bad-here, bad-more, bad-none}
-use Rattle.kinds.specs.Task.{at, isGood}
-use Rattle.share.specs.Table.{firstBad}
+use Rattle.kinds.specs.declared.Task.{Task}
+use Rattle.kinds.specs.Task.{at, priced, Good, isGood}
+use Rattle.share.specs.Table.{firstBad, pricedRows}
+use Rattle.share.proofs.Tables.{priced-at}
+use Rattle.springs.specs.Spring.{springOf}
 use Rattle.springs.specs.Columns.{columns}
 use Rattle.springs.specs.Handover.{Sprung}
 use Rattle.springs.proofs.Columns.{sprung-none, sprung-more, found-good, good-within}
@@ -13,12 +16,12 @@ use Rattle.springs.proofs.springs_of.Statement.{statement}
 use Rattle.springs.proofs.springs_of.Tie as tie
 
 abbrev Inv-loop : tie.InvT-loop
-Inv-loop largest₀ least₀ elasticity₀ saturation₀ cost₀ tmin₀ table n i₀ largest least elasticity saturation cost tmin i =
-    (i ≤ n) × ((j : ℕ) → j < i → not (isGood (at (table .rows) j)) ≡ false)
-    × Sprung (table .rows) i (columns largest least elasticity saturation cost tmin)
+Inv-loop swap largest₀ least₀ elasticity₀ saturation₀ cost₀ tmin₀ table n i₀ largest least elasticity saturation cost tmin i =
+    (i ≤ n) × ((j : ℕ) → j < i → not (isGood swap (at (table .rows) j)) ≡ false)
+    × Sprung (pricedRows swap (table .rows) (table .n)) i (columns largest least elasticity saturation cost tmin)
 
 abbrev μ-loop : tie.MeasureT-loop
-μ-loop largest₀ least₀ elasticity₀ saturation₀ cost₀ tmin₀ table n i₀ largest least elasticity saturation cost tmin i = n - i
+μ-loop swap largest₀ least₀ elasticity₀ saturation₀ cost₀ tmin₀ table n i₀ largest least elasticity saturation cost tmin i = n - i
 
 loop-holds : tie.Need-loop-holds Inv-loop μ-loop
 loop-holds c = (omega arith, λ j l. absurd (omega arith), sprung-none _ _ (c .pre .1))
@@ -37,14 +40,23 @@ unfolding firstBad
 returns c =
     let t = c .before .before .before in
     let l = t .before in
-    let rows = l .before .args .t1 .rows in
+    let a = l .before .args in
+    let rows = a .t1 .rows in
     record {
-      first = bad-here (λ j. isGood (at rows j)) _ _ (l .loop .inv .1) (t .loop-test .taken) _ (c .before .good2 .ensures) (c .if1 .taken);
+      first = bad-here (λ j. isGood (a .swap) (at rows j)) _ _ (l .loop .inv .1) (t .loop-test .taken) _ (c .before .good2 .ensures) (c .if1 .taken);
       sprung = l .loop .inv .2;
     }
 
+-- a record that was not found bad is good once its swaps are paid for
+good-priced : (c : tie.Else1 Inv-loop μ-loop) → let g = c .before in let l = g .before .before .before in let a = l .before .args in
+    Good (priced (a .swap) (at (a .t1 .rows) (l .loop .i)))
+good-priced c = found-good _ _ _ (c .before .good2 .ensures) (c .if1 .left)
+
+priced-requires : tie.Need-priced-requires Inv-loop μ-loop
+priced-requires c κs = let g = good-priced c in omega (arith, g .c-tmin, g .tmin-tmax, g .tmax-most)
+
 spring-of-requires : tie.Need-spring-of-requires Inv-loop μ-loop
-spring-of-requires c κs = found-good _ _ (c .before .good2 .ensures) (c .if1 .left)
+spring-of-requires c κs = rw (c .priced .ensures) (good-priced (c .before))
 
 mul-largest : tie.Need-mul-largest Inv-loop μ-loop
 mul-largest c = omega arith
@@ -65,23 +77,15 @@ element-write-elasticity : tie.Need-element-write-elasticity Inv-loop μ-loop
 element-write-elasticity c = omega arith
 
 saturation-on-requires : tie.Need-saturation-on-requires Inv-loop μ-loop
-saturation-on-requires c κs = rw (c .spring-of .ensures) (good-within _ (found-good _ _ (c .before .before .good2 .ensures) (c .before .if1 .left)))
+saturation-on-requires c κs =
+    let p = c .before in
+    rw (c .spring-of .ensures, p .priced .ensures) (good-within _ (good-priced (p .before)))
 
 mul-saturation : tie.Need-mul-saturation Inv-loop μ-loop
 mul-saturation c = omega arith
 
 element-write-saturation : tie.Need-element-write-saturation Inv-loop μ-loop
 element-write-saturation c = omega arith
-
-cost-requires : tie.Need-cost-requires Inv-loop μ-loop
-cost-requires c κs = tt
-
--- a good record's cost
-cast-whole : tie.Need-cast-whole Inv-loop μ-loop
-cast-whole c =
-    let i = c .before .before .before in
-    let g = found-good _ _ (i .before .good2 .ensures) (i .if1 .left) in
-    omega (arith, c .cost .ensures, g .c-tmin, g .tmin-tmax, g .tmax-most)
 
 mul-cost : tie.Need-mul-cost Inv-loop μ-loop
 mul-cost c = omega arith
@@ -103,23 +107,28 @@ loop-less c = omega arith
 
 loop-again : tie.Need-loop-again Inv-loop μ-loop
 loop-again c =
-    let s = c .before in
-    let f = s .before in
-    let i = f .before in
+    let f = c .before in
+    let p = f .before in
+    let i = p .before in
     let g = i .before in
     let l = g .before .before .before in
-    let t = l .before .args .t1 in (
+    let a = l .before .args in
+    let t = a .t1 in
+    let e : p .priced .result ≡ at (pricedRows (a .swap) (t .rows) (t .n)) (l .loop .i) =
+    p .priced .ensures ∙ sym (priced-at (a .swap) (t .rows) (t .n) (l .loop .i) (omega arith)) in (
       omega arith,
-      bad-more (λ j. isGood (at (t .rows) j)) (t .n) _ (l .loop .inv .1) _ (g .good2 .ensures) (i .if1 .left),
-      sprung-more _ _ _ _ _ _ _ (l .loop .inv .2) (omega arith) (f .spring-of .ensures) (s .saturation-on .ensures) (c .cost .ensures) refl,
+      bad-more (λ j. isGood (a .swap) (at (t .rows) j)) (t .n) _ (l .loop .inv .1) _ (g .good2 .ensures) (i .if1 .left),
+      sprung-more _ _ _ _ _ _ _ (l .loop .inv .2) (omega arith) (f .spring-of .ensures ∙ ap springOf e) (c .saturation-on .ensures)
+          (ap (λ (x : Task). x .c) e) (ap (λ (x : Task). x .tmin) e),
     )
 
 returns-2 : tie.Need-returns-2 Inv-loop μ-loop
 unfolding firstBad
 returns-2 c =
-    let t = c .before .before .args .t1 in
+    let a = c .before .before .args in
+    let t = a .t1 in
     let e : c .before .loop .i ≡ t .n = omega arith in
-    record { first = bad-none (λ j. isGood (at (t .rows) j)) _ _ (c .before .loop .inv .1) e; sprung = rw e at (c .before .loop .inv .2) }
+    record { first = bad-none (λ j. isGood (a .swap) (at (t .rows) j)) _ _ (c .before .loop .inv .1) e; sprung = rw e at (c .before .loop .inv .2) }
 
 pub springs-of-spec : {M : Type 1} → statement M
 springs-of-spec =
@@ -132,6 +141,7 @@ springs-of-spec =
     element-copy-out-task
     good-requires
     returns
+    priced-requires
     spring-of-requires
     mul-largest
     element-write-largest
@@ -142,8 +152,6 @@ springs-of-spec =
     saturation-on-requires
     mul-saturation
     element-write-saturation
-    cost-requires
-    cast-whole
     mul-cost
     element-write-cost
     mul-tmin

@@ -1,0 +1,27 @@
+-- The station settings, and the numbers that they are on a sheet, in its order.
+-- Assumes nothing.
+use Prim.Native.Nat.{ℕ}
+use mathlib.Core.List.{List, [], _∷_}
+use lib.ListN.{getD}
+use Rattle.kinds.specs.declared.Policy.{Policy}
+use Rattle.kinds.specs.declared.Settings.{Settings}
+use Rattle.kinds.specs.Policy.{policyOf, policyNumber}
+
+abbrev pub settings : Policy → ℕ → ℕ → Settings
+settings policy m swap = record { policy = policy; m = m; swap = swap }
+
+-- what is filled in for each number that a sheet leaves out; Ask 2: "with w = 0"
+abbrev pub fillIns : List ℕ
+fillIns = 0 ∷ 0 ∷ 0 ∷ []
+
+-- number i of a list of settings
+abbrev pub setting : List ℕ → ℕ → ℕ
+setting numbers i = getD numbers i 0
+
+-- the settings that numbers stand for: policy, m, w
+abbrev pub settingsOf : List ℕ → Settings
+settingsOf numbers = settings (policyOf (setting numbers 0)) (setting numbers 1) (setting numbers 2)
+
+-- the numbers that settings are written as
+abbrev pub numbersOf : Settings → List ℕ
+numbersOf s = policyNumber (s .policy) ∷ s .m ∷ s .swap ∷ []
