@@ -1,75 +1,77 @@
 -- The longest sheet's bytes and one more settle the reading of an input: `front-reads`. Beyond them nothing changes the reader's answer.
 -- Assumes nothing.
 use Prim.Native.Nat.{ℕ, _+_, _≤_, _<_}
+use mathlib.Core.Bool.{true}
 use mathlib.Core.List.{List, _++_}
 use mathlib.Core.Path.{_≡_, sym, ap, _∙_}
 use native.Mathlib.Omega.{arith}
-use lib.Dec.{eqb}
 use lib.ListN.{length, take, drop, length-append, take-append-drop}
 use lib.Seq.{length-take-le, take-all}
-use borrow.Author.Tests.{eqb-true, eqb-false}
 use Rattle.ground.proofs.Cases.{by-bool, by-le}
-use Rattle.kinds.specs.declared.Refusal.the-variants.{WrongResultCount, BytesAfterLast}
-use Rattle.kinds.specs.Limits.{mostTasks}
+use Rattle.kinds.specs.declared.Refusal.the-variants.{TooManyTasks, WrongResultCount, BytesAfterLast}
+use Rattle.kinds.specs.Limits.{mostSettings, mostTasks}
 use Rattle.kinds.specs.Answer.{refused}
-use Rattle.field.specs.Number.{u16At}
-use Rattle.field.proofs.Numbers.{number-front}
-use Rattle.sheet.specs.Sections.{settingsCount, settingsPlace, tasksPlace, resultsPlace, endPlace, longestSheet, resultsFit}
-use Rattle.sheet.specs.Reading.{noSheet, taskCount, resultCount, readRows, readSheet}
-use Rattle.sheet.proofs.Stages.{fits-few, settings-wrong, too-many, head-whole, count-wrong, bytes-after}
+use Rattle.sheet.specs.Sections.{tasksPlace, resultsPlace, longestSheet, settingsFit, resultsFit}
+use Rattle.sheet.specs.Reading.{noSheet, settingsCount, taskCount, resultCount, endOf, readRows, readSheet}
+use Rattle.sheet.proofs.Stages.{settings-few, fits-few, settings-wrong, too-many, head-whole, count-wrong, bytes-after}
+use Rattle.sheet.proofs.Counts as counts
 
 module _ (s t : List ℕ) (long : longestSheet < length s) where
   more : length (s ++ t) ≡ length s + length t
   more = length-append s t
 
-  same16 : (place : ℕ) → place + 2 ≤ length s → u16At (s ++ t) place ≡ u16At s place
-  same16 place h = number-front s t 2 place h
+  same-settings : settingsCount (s ++ t) ≡ settingsCount s
+  same-settings = counts.same-settings s t (omega arith)
 
-  same-tasks : taskCount (s ++ t) ≡ taskCount s
-  same-tasks = same16 tasksPlace (omega arith)
+  same-taken : settingsFit (settingsCount (s ++ t)) ≡ settingsFit (settingsCount s)
+  same-taken = ap settingsFit same-settings
 
-  module _ (few : taskCount s ≤ mostTasks) where
-    same-results : resultCount (s ++ t) ≡ resultCount s
-    same-results = ap (λ (n : ℕ). u16At (s ++ t) (resultsPlace n)) same-tasks ∙ same16 (resultsPlace (taskCount s)) (omega arith)
+  module _ (taken : settingsFit (settingsCount s) ≡ true) where
+    few-settings : settingsCount s ≤ mostSettings
+    few-settings = settings-few (settingsCount s) taken
 
-    same-fit : resultsFit (resultCount (s ++ t)) (taskCount (s ++ t)) ≡ resultsFit (resultCount s) (taskCount s)
-    same-fit = rw (same-results, same-tasks)
+    same-tasks : taskCount (s ++ t) ≡ taskCount s
+    same-tasks = let few = few-settings in counts.same-tasks s t (omega arith)
 
-    same-rows : readRows (s ++ t) ≡ readRows s
-    same-rows =
+    same-rows : taskCount s ≤ mostTasks → readRows (s ++ t) ≡ readRows s
+    same-rows few =
         let m = more in
+        let c = same-settings in
+        let h = few-settings in
         let n = same-tasks in
-        let r = same-results in
+        let r = counts.same-results s t (omega arith) in
+        let fit : resultsFit (resultCount (s ++ t)) (taskCount (s ++ t)) ≡ resultsFit (resultCount s) (taskCount s) = rw (r, n) in
         by-bool (resultsFit (resultCount s) (taskCount s))
         (λ f.
         let less = fits-few (resultCount s) (taskCount s) f in
-        sym (bytes-after (s ++ t) (omega arith) (same-fit ∙ f) (omega arith))
-        ∙ (ap (λ (k : ℕ). refused noSheet (BytesAfterLast (endPlace k (resultCount (s ++ t))))) n
-        ∙ (ap (λ (k : ℕ). refused noSheet (BytesAfterLast (endPlace (taskCount s) k))) r
-        ∙ bytes-after s (omega arith) f (omega arith))))
+        let end : endOf (s ++ t) ≡ endOf s = omega arith in
+        sym (bytes-after (s ++ t) (omega arith) (fit ∙ f) (omega arith))
+        ∙ (ap (λ (k : ℕ). refused noSheet (BytesAfterLast k)) end ∙ bytes-after s (omega arith) f (omega arith)))
         (λ f.
-        sym (count-wrong (s ++ t) (omega arith) (same-fit ∙ f))
-        ∙ (ap (λ (k : ℕ). refused noSheet (WrongResultCount (resultsPlace k))) n ∙ count-wrong s (omega arith) f))
+        let place : resultsPlace (settingsCount (s ++ t)) (taskCount (s ++ t)) ≡ resultsPlace (settingsCount s) (taskCount s) = omega arith in
+        sym (count-wrong (s ++ t) (omega arith) (fit ∙ f))
+        ∙ (ap (λ (k : ℕ). refused noSheet (WrongResultCount k)) place ∙ count-wrong s (omega arith) f))
+
+    same-sheet : readSheet (s ++ t) ≡ readSheet s
+    same-sheet =
+        let m = more in
+        let c = same-settings in
+        let h = few-settings in
+        let n = same-tasks in
+        by-le (taskCount s) mostTasks
+        (λ few.
+        head-whole (s ++ t) (omega arith) (same-taken ∙ taken) (omega arith) (omega arith)
+        ∙ (same-rows few ∙ sym (head-whole s (omega arith) taken (omega arith) few)))
+        (λ many.
+        sym (too-many (s ++ t) (omega arith) (same-taken ∙ taken) (omega arith) (omega arith))
+        ∙ (ap (λ (k : ℕ). refused noSheet (TooManyTasks (tasksPlace k))) c ∙ too-many s (omega arith) taken (omega arith) many))
 
   -- what stands after more bytes than the longest sheet has changes nothing
   pub same-reading : readSheet (s ++ t) ≡ readSheet s
   same-reading =
       let m = more in
-      let n = same-tasks in
-      let settings = same16 settingsPlace (omega arith) in
-      by-bool (eqb (u16At s settingsPlace) settingsCount)
-      (λ e.
-      let two = eqb-true (u16At s settingsPlace) settingsCount e in
-      by-le (taskCount s) mostTasks
-      (λ few.
-      head-whole (s ++ t) (omega arith) (settings ∙ two) (omega arith) (omega arith)
-      ∙ (same-rows few ∙ sym (head-whole s (omega arith) two (omega arith) few)))
-      (λ many.
-      sym (too-many (s ++ t) (omega arith) (settings ∙ two) (omega arith) (omega arith))
-      ∙ too-many s (omega arith) two (omega arith) many))
-      (λ e.
-      let other = eqb-false (u16At s settingsPlace) settingsCount e in
-      sym (settings-wrong (s ++ t) (omega arith) (λ k. other (sym settings ∙ k))) ∙ settings-wrong s (omega arith) other)
+      by-bool (settingsFit (settingsCount s)) same-sheet
+      (λ e. sym (settings-wrong (s ++ t) (omega arith) (same-taken ∙ e)) ∙ settings-wrong s (omega arith) e)
 
 -- a front of more bytes than the longest sheet has reads as the whole does
 pub front-reading : (s : List ℕ) (k : ℕ) → longestSheet < k → k ≤ length s → readSheet (take k s) ≡ readSheet s

@@ -1,71 +1,122 @@
--- The head of a sheet, read field by field: what each way through `read_head` shows of the definition.
+-- The head of a sheet, read section by section: what each way through `read_head` shows of the definition.
 -- Assumes nothing.
 use Prim.Native.Nat.{ℕ, _≤_, _<_}
+use mathlib.Core.Bool.{true, false}
 use mathlib.Core.List.{List}
 use mathlib.Core.Path.{_≡_, sym, ap, subst, _∙_}
 use native.Mathlib.Omega.{arith}
 use lib.ListN.{length}
-use Rattle.kinds.specs.declared.Policy.{Policy}
 use Rattle.kinds.specs.declared.Settings.{Settings}
 use Rattle.kinds.specs.declared.Refusal.{Refusal}
-use Rattle.kinds.specs.declared.Refusal.the-variants.{TooManyTasks, SheetEnds, NotTwoSettings}
-use Rattle.kinds.specs.Limits.{mostTasks}
-use Rattle.kinds.specs.Policy.{policyOf}
+use Rattle.kinds.specs.declared.Refusal.the-variants.{TooManyTasks, SheetEnds, WrongSettingsCount}
+use Rattle.kinds.specs.Limits.{mostSettings, mostTasks}
+use Rattle.kinds.specs.Settings.{settingsOf}
 use Rattle.kinds.specs.Answer.{refused}
+use Rattle.field.specs.declared.Field16.{Field16}
+use Rattle.field.specs.declared.Field16.the-variants as two
 use Rattle.field.specs.Number.{u16At}
-use Rattle.field.proofs.Fields.{Got}
-use Rattle.sheet.specs.Sections.{settingsCount, settingsPlace, policyPlace, mPlace, tasksPlace, recordsPlace}
-use Rattle.sheet.specs.Reading.{noSheet, taskCount, settingsIn, readSheet}
+use Rattle.field.specs.Field.{field16}
+use Rattle.field.proofs.Fields.{got16, missed16}
+use Rattle.sheet.specs.declared.SettingRows.{SettingRows}
+use Rattle.sheet.specs.Sections.{settingsPlace, numbersPlace, tasksPlace, recordsPlace, settingsFit}
+use Rattle.sheet.specs.Rows.{settingRows}
+use Rattle.sheet.specs.Reading.{noSheet, settingsCount, taskCount, numbersIn, readSheet}
 use Rattle.sheet.specs.declared.Head.{Head}
 use Rattle.sheet.specs.declared.Head.the-variants as head
 use Rattle.sheet.specs.Handover.{Begins, RestDue}
-use Rattle.sheet.proofs.Stages.{settings-wrong, tasks-missing, too-many, head-whole}
+use Rattle.sheet.proofs.RowFields.{settings-got, settings-missed}
+use Rattle.sheet.proofs.Stages as stages
 
-module _ (s : List ℕ) (settings at-policy : ℕ) (g₁ : Got s settingsPlace 2 u16At settings at-policy) where
-  pub not-two : (settings ≡ settingsCount → ⊥) → refused noSheet NotTwoSettings ≡ readSheet s
-  not-two h = settings-wrong s (omega arith) (λ e. h (g₁ .is ∙ e))
+-- the settings count was read
+pub record SettingsCounted (s : List ℕ) (c first : ℕ) : Type 0 where
+  pub c-is : c ≡ settingsCount s
+  pub first-is : first ≡ numbersPlace
+  pub within : numbersPlace ≤ length s
 
-  module _ (two : settings ≡ settingsCount) where
-    stands : u16At s settingsPlace ≡ settingsCount
-    stands = sym (g₁ .is) ∙ two
+-- and the settings after it
+pub record SettingsRead (s : List ℕ) (c first : ℕ) (t : SettingRows) : Type 0 where
+  pub counted : SettingsCounted s c first
+  pub taken : settingsFit (settingsCount s) ≡ true
+  pub rows-is : t .rows ≡ numbersIn s
+  pub next-is : t .next ≡ tasksPlace (settingsCount s)
 
-    -- the sheet ends in the policy, in m, or in the task count
-    pub ends-in-head : length s < recordsPlace → refused noSheet (SheetEnds (length s)) ≡ readSheet s
-    ends-in-head h = tasks-missing s (omega arith) stands h
+-- and the task count
+pub record HeadRead (s : List ℕ) (c first : ℕ) (t : SettingRows) (n from : ℕ) : Type 0 where
+  pub settings : SettingsRead s c first t
+  pub n-is : n ≡ taskCount s
+  pub from-is : from ≡ recordsPlace (settingsCount s)
+  pub within : recordsPlace (settingsCount s) ≤ length s
 
-    module _ (number at-m m at-tasks n from : ℕ) (g₂ : Got s at-policy 2 u16At number at-m) (g₃ : Got s at-m 2 u16At m at-tasks)
-        (g₄ : Got s at-tasks 2 u16At n from) where
-      at-m-is : at-m ≡ mPlace
-      at-m-is = omega arith
+module _ (s : List ℕ) {field : Field16} (e : field ≡ field16 s settingsPlace) where
+  pub no-settings : field ≡ two.Missing → refused noSheet (SheetEnds (length s)) ≡ readSheet s
+  no-settings k = let m = missed16 s settingsPlace field e k in stages.settings-missing s (omega arith)
 
-      at-tasks-is : at-tasks ≡ tasksPlace
-      at-tasks-is = omega arith
+  pub settings-counted : {c first : ℕ} → field ≡ two.Value c first → SettingsCounted s c first
+  unfolding settingsCount
+  settings-counted {c} {first} k =
+      let g = got16 s settingsPlace field c first e k in
+      record { c-is = g .is; first-is = g .next-is; within = g .within }
 
-      n-stands : n ≡ taskCount s
-      n-stands = g₄ .is ∙ ap (u16At s) at-tasks-is
+module _ {s : List ℕ} {c first : ℕ} (p : SettingsCounted s c first) where
+  pub settings-wrong : settingsFit c ≡ false → refused noSheet WrongSettingsCount ≡ readSheet s
+  settings-wrong f = stages.settings-wrong s (p .within) (ap settingsFit (sym (p .c-is)) ∙ f)
 
-      pub many : mostTasks < n → refused noSheet (TooManyTasks at-tasks) ≡ readSheet s
-      many h = let e = n-stands in rw at-tasks-is (too-many s (omega arith) stands (omega arith) (omega arith))
+  pub settings-due : settingsFit c ≡ true → (c ≤ mostSettings) × (first ≤ length s)
+  settings-due f = let h = p .first-is in let w = p .within in (stages.settings-few c f, omega arith)
 
-      pub begun : (policy : Policy) → policy ≡ policyOf number → n ≤ mostTasks → Begins s (record { policy = policy; m = m }) n from
-      unfolding settingsIn
-      begun policy p h =
-          let e = n-stands in
-          let at-policy-is : at-policy ≡ policyPlace = omega arith in
-          let q : policy ≡ policyOf (u16At s policyPlace) = p ∙ ap policyOf (g₂ .is ∙ ap (u16At s) at-policy-is) in
-          let r : m ≡ u16At s mPlace = g₃ .is ∙ ap (u16At s) at-m-is in
-          record {
-            settings-is = cc;
-            n-is = e;
-            few = h;
-            from-is = omega arith;
-            within = omega arith;
-            on = head-whole s (omega arith) stands (omega arith) (omega arith);
-          }
+  module _ {t : SettingRows} (f : settingsFit c ≡ true) (e : t ≡ settingRows s first c) where
+    taken-is : settingsFit (settingsCount s) ≡ true
+    taken-is = ap settingsFit (sym (p .c-is)) ∙ f
+
+    same : t ≡ settingRows s numbersPlace (settingsCount s)
+    same = e ∙ (ap (λ (k : ℕ). settingRows s k c) (p .first-is) ∙ ap (settingRows s numbersPlace) (p .c-is))
+
+    pub settings-end : t .whole ≡ false → refused noSheet (SheetEnds (length s)) ≡ readSheet s
+    settings-end w =
+        let m = settings-missed s numbersPlace (settingsCount s) t same w in
+        stages.tasks-missing s (p .within) taken-is (omega arith)
+
+    pub settings-read : t .whole ≡ true → SettingsRead s c first t
+    settings-read w =
+        let g = settings-got s numbersPlace (settingsCount s) t same w .1 in
+        record { counted = p; taken = taken-is; rows-is = ap (λ (x : SettingRows). x .rows) g; next-is = ap (λ (x : SettingRows). x .next) g }
+
+module _ {s : List ℕ} {c first : ℕ} {t : SettingRows} (p : SettingsRead s c first t) {field : Field16} (e : field ≡ field16 s (t .next)) where
+  pub count-end : field ≡ two.Missing → refused noSheet (SheetEnds (length s)) ≡ readSheet s
+  count-end k =
+      let m = missed16 s (t .next) field e k in
+      let h = p .next-is in
+      stages.tasks-missing s (p .counted .within) (p .taken) (omega arith)
+
+  pub head-read : {n from : ℕ} → field ≡ two.Value n from → HeadRead s c first t n from
+  unfolding taskCount
+  head-read {n} {from} k =
+      let g = got16 s (t .next) field n from e k in
+      let h = p .next-is in
+      record { settings = p; n-is = g .is ∙ ap (u16At s) h; from-is = omega arith; within = omega arith }
+
+module _ {s : List ℕ} {c first : ℕ} {t : SettingRows} {n from : ℕ} (p : HeadRead s c first t n from) where
+  pub many : mostTasks < n → refused noSheet (TooManyTasks (t .next)) ≡ readSheet s
+  many h =
+      let e = p .n-is in
+      rw (p .settings .next-is) (stages.too-many s (p .settings .counted .within) (p .settings .taken) (p .within) (omega arith))
+
+  pub begun : {settings : Settings} → settings ≡ settingsOf (t .rows) → n ≤ mostTasks → Begins s c settings n from
+  begun e h =
+      let k = p .n-is in
+      record {
+        count-is = p .settings .counted .c-is;
+        settings-is = e ∙ ap settingsOf (p .settings .rows-is);
+        n-is = k;
+        few = h;
+        from-is = p .from-is;
+        within = p .within;
+        on = stages.head-whole s (p .settings .counted .within) (p .settings .taken) (p .within) (omega arith);
+      }
 
 -- what is due after a head, by what the head says
 module _ (s : List ℕ) (at : ℕ) (h : Head) (due : RestDue s at h) where
-  pub due-rows : {settings : Settings} {n next : ℕ} → h ≡ head.Value settings n next → Begins s settings n at
+  pub due-rows : {count : ℕ} {settings : Settings} {n next : ℕ} → h ≡ head.Value count settings n next → Begins s count settings n at
   due-rows e = let d = subst (RestDue s at) e due in rw (d .1) (d .0)
 
   pub due-refused : {refusal : Refusal} → h ≡ head.Refused refusal → refused noSheet refusal ≡ readSheet s

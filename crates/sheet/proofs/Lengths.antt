@@ -1,15 +1,20 @@
 -- How long a sheet is.
 -- Assumes nothing.
 use Prim.Native.Nat.{ℕ, _+_, _*_, _≤_}
-use mathlib.Core.Path.{_≡_}
+use mathlib.Core.Path.{_≡_, refl}
 use native.Mathlib.Omega.{arith}
-use Rattle.kinds.specs.Limits.{mostTasks}
-use Rattle.sheet.specs.Sections.{endPlace, longestSheet}
+use Rattle.kinds.specs.Limits.{mostSettings, mostTasks}
+use Rattle.sheet.specs.Sections.{tasksPlace, endPlace, longestSheet}
 
--- document 01: "A sheet with n tasks and r results is 10 + 16n + 6r bytes"
-pub end-is : (n r : ℕ) → endPlace n r ≡ 10 + 16 * n + 6 * r
-end-is n r = omega arith
+-- Ask 2: "A sheet is then 6 + 2s + 16n + 6r bytes for s settings, the reader's place for 3 is 2 + 2s, and the greatest length follows"
+pub end-is : (s n r : ℕ) → endPlace s n r ≡ 6 + 2 * s + 16 * n + 6 * r
+end-is s n r = omega arith
 
--- "at most 714", the longest
-pub end-most : (n r : ℕ) → n ≤ mostTasks → r ≤ mostTasks → endPlace n r ≤ longestSheet
-end-most n r a b = omega arith
+pub tasks-at : (s : ℕ) → tasksPlace s ≡ 2 + 2 * s
+tasks-at s = refl
+
+pub end-most : (s n r : ℕ) → s ≤ mostSettings → n ≤ mostTasks → r ≤ mostTasks → endPlace s n r ≤ longestSheet
+end-most s n r a b d = omega arith
+
+pub longest-is : longestSheet ≡ 716
+longest-is = refl

@@ -7,6 +7,7 @@ pub mod Lengths
 pub mod Whole
 pub mod Handed
 pub mod Numbered
+pub mod Counts
 pub mod Beyond
 pub mod Truncated
 pub mod After

@@ -5,17 +5,16 @@ use mathlib.Core.Bool.{Bool, true, false}
 use mathlib.Core.List.{List}
 use mathlib.Core.Path.{_≡_, refl}
 use native.Mathlib.Omega.{arith}
-use lib.Dec.{leb, eqb}
+use lib.Dec.{leb}
 use lib.ListN.{length}
 use Rattle.kinds.specs.declared.Sheet.{Sheet}
 use Rattle.kinds.specs.declared.Refusal.{Refusal}
-use Rattle.kinds.specs.declared.Refusal.the-variants.{TooManyTasks, SheetEnds, NotTwoSettings, WrongResultCount, BytesAfterLast}
+use Rattle.kinds.specs.declared.Refusal.the-variants.{TooManyTasks, SheetEnds, WrongSettingsCount, WrongResultCount, BytesAfterLast}
 use Rattle.kinds.specs.Limits.{mostTasks}
 use Rattle.kinds.specs.Answer.{Handed, accepted, judged}
 use Rattle.kinds.proofs.Refusals.{refusal-numbered}
-use Rattle.field.specs.Number.{u16At}
-use Rattle.sheet.specs.Sections.{settingsCount, settingsPlace, policyPlace, tasksPlace, recordsPlace, resultsPlace, grantedPlace, resultsFit}
-use Rattle.sheet.specs.Reading.{noSheet, taskCount, resultCount, endOf, sheetIn, readRows, readSheet}
+use Rattle.sheet.specs.Sections.{numbersPlace, tasksPlace, recordsPlace, resultsPlace, grantedPlace, settingsFit, resultsFit}
+use Rattle.sheet.specs.Reading.{noSheet, settingsCount, taskCount, resultCount, endOf, sheetIn, readRows, readSheet}
 
 -- what is handed back with number 0 is an acceptance
 abbrev Numbered : Handed Sheet → Type 0
@@ -28,15 +27,15 @@ judged-numbered false refusal rest n e = absurd (omega (arith, refusal-numbered 
 rows-numbered : (s : List ℕ) → Numbered (readRows s)
 unfolding readRows
 rows-numbered s =
-    judged-numbered (leb (grantedPlace (taskCount s)) (length s)) (SheetEnds (length s)) _
-    (judged-numbered (resultsFit (resultCount s) (taskCount s)) (WrongResultCount (resultsPlace (taskCount s))) _
+    judged-numbered (leb (grantedPlace (settingsCount s) (taskCount s)) (length s)) (SheetEnds (length s)) _
+    (judged-numbered (resultsFit (resultCount s) (taskCount s)) (WrongResultCount (resultsPlace (settingsCount s) (taskCount s))) _
     (judged-numbered (leb (endOf s) (length s)) (SheetEnds (length s)) _
     (judged-numbered (leb (length s) (endOf s)) (BytesAfterLast (endOf s)) (accepted (sheetIn s)) (λ e. refl))))
 
 pub accepted-by-number : (s : List ℕ) → readSheet s .number ≡ 0 → readSheet s ≡ accepted (readSheet s .value)
 unfolding readSheet
 accepted-by-number s =
-    judged-numbered (leb policyPlace (length s)) (SheetEnds (length s)) _
-    (judged-numbered (eqb (u16At s settingsPlace) settingsCount) NotTwoSettings _
-    (judged-numbered (leb recordsPlace (length s)) (SheetEnds (length s)) _
-    (judged-numbered (leb (taskCount s) mostTasks) (TooManyTasks tasksPlace) (readRows s) (rows-numbered s))))
+    judged-numbered (leb numbersPlace (length s)) (SheetEnds (length s)) _
+    (judged-numbered (settingsFit (settingsCount s)) WrongSettingsCount _
+    (judged-numbered (leb (recordsPlace (settingsCount s)) (length s)) (SheetEnds (length s)) _
+    (judged-numbered (leb (taskCount s) mostTasks) (TooManyTasks (tasksPlace (settingsCount s))) (readRows s) (rows-numbered s))))

@@ -5,24 +5,25 @@ use mathlib.Core.Bool.{Bool, true, false}
 use mathlib.Core.List.{List}
 use mathlib.Core.Path.{_≡_, refl, sym, ap, _∙_}
 use native.Mathlib.Omega.{arith}
-use lib.ListN.{length, set, replicate}
+use lib.ListN.{length, set}
 use borrow.Author.Tests.{le-leb, lt-leb}
 use Rattle.ground.proofs.Cases.{by-le, true-false}
 use Rattle.kinds.specs.declared.Task.{Task}
 use Rattle.kinds.specs.declared.Granted.{Granted}
-use Rattle.kinds.specs.Limits.{mostTasks}
-use Rattle.kinds.specs.Task.{task, noTask}
+use Rattle.kinds.specs.Settings.{fillIns}
+use Rattle.kinds.specs.Task.{task}
 use Rattle.field.specs.Number.{u16At, u32At}
 use Rattle.field.proofs.Fields.{Got, there, missing, got-by, missed-by}
 use Rattle.sheet.specs.declared.TaskField.{TaskField}
 use Rattle.sheet.specs.declared.TaskField.the-variants as task-field
 use Rattle.sheet.specs.declared.GrantedField.{GrantedField}
 use Rattle.sheet.specs.declared.GrantedField.the-variants as granted-field
+use Rattle.sheet.specs.declared.SettingRows.{SettingRows}
 use Rattle.sheet.specs.declared.TaskRows.{TaskRows}
 use Rattle.sheet.specs.declared.GrantedRows.{GrantedRows}
-use Rattle.sheet.specs.Sections.{taskSize, grantedSize}
-use Rattle.sheet.specs.Rows.{granted, taskAt, grantedAt, noGranted, taskField, grantedField, rowsAt, rowsBy, madeTasks, madeGranted, taskRows, grantedRows}
-use Rattle.sheet.proofs.Padding.{padded-more}
+use Rattle.sheet.specs.Sections.{settingSize, taskSize, grantedSize}
+use Rattle.sheet.specs.Rows.{granted, taskAt, grantedAt, noTasks, noResults, taskField, grantedField, rowsAt, rowsBy, madeSettings, madeTasks, madeGranted, settingRows, taskRows, grantedRows}
+use Rattle.sheet.proofs.Padding.{over-more}
 
 module _ (s : List ℕ) (at : ℕ) where
   pub task-there : at + taskSize ≤ length s → taskField s at ≡ task-field.Value (taskAt s at) (at + taskSize)
@@ -86,22 +87,22 @@ module _ (s : List ℕ) (at : ℕ) where
       cc (granted-there s at (omega arith))
 
 -- one row more
-pub rows-more : {A : Type 0} (none : A) (size : ℕ) (rowAt : List ℕ → ℕ → A) (s : List ℕ) (from i at : ℕ) (rows : List A) (row : A)
-    → rows ≡ rowsAt none size rowAt s from i → at ≡ from + size * i → row ≡ rowAt s at → set rows i row ≡ rowsAt none size rowAt s from (i + 1)
-rows-more none size rowAt s from i at rows row e a r =
-    rw (e, r, a) (sym (padded-more none (λ k. rowAt s (from + size * k)) i))
+pub rows-more : {A : Type 0} (rest : List A) (size : ℕ) (rowAt : List ℕ → ℕ → A) (s : List ℕ) (from i at : ℕ) (rows : List A) (row : A)
+    → rows ≡ rowsAt rest size rowAt s from i → at ≡ from + size * i → row ≡ rowAt s at → set rows i row ≡ rowsAt rest size rowAt s from (i + 1)
+rows-more rest size rowAt s from i at rows row e a r =
+    rw (e, r, a) (sym (over-more rest (λ k. rowAt s (from + size * k)) i))
 
 -- the two cases of the rows of a section, and how an answer tells them
-module _ {A R : Type 0} (made : Bool → List A → ℕ → R) (none : A) (size : ℕ) (rowAt : List ℕ → ℕ → A) (s : List ℕ) (from n : ℕ) where
-  rows-there : from + size * n ≤ length s → rowsBy made none size rowAt s from n ≡ made true (rowsAt none size rowAt s from n) (from + size * n)
+module _ {A R : Type 0} (made : Bool → List A → ℕ → R) (rest : List A) (size : ℕ) (rowAt : List ℕ → ℕ → A) (s : List ℕ) (from n : ℕ) where
+  rows-there : from + size * n ≤ length s → rowsBy made rest size rowAt s from n ≡ made true (rowsAt rest size rowAt s from n) (from + size * n)
   rows-there h = rw (le-leb (from + size * n) (length s) h)
 
-  rows-missing : length s < from + size * n → rowsBy made none size rowAt s from n ≡ made false (replicate mostTasks none) from
+  rows-missing : length s < from + size * n → rowsBy made rest size rowAt s from n ≡ made false rest from
   rows-missing h = rw (lt-leb (from + size * n) (length s) h)
 
   module _ (whole : R → Bool) (tells : (b : Bool) (rows : List A) (next : ℕ) → whole (made b rows next) ≡ b) (r : R)
-      (e : r ≡ rowsBy made none size rowAt s from n) where
-    rows-got : whole r ≡ true → (from + size * n ≤ length s) × (r ≡ made true (rowsAt none size rowAt s from n) (from + size * n))
+      (e : r ≡ rowsBy made rest size rowAt s from n) where
+    rows-got : whole r ≡ true → (from + size * n ≤ length s) × (r ≡ made true (rowsAt rest size rowAt s from n) (from + size * n))
     rows-got w =
         by-le (from + size * n) (length s)
         (λ h. (h, e ∙ rows-there h))
@@ -112,37 +113,55 @@ module _ {A R : Type 0} (made : Bool → List A → ℕ → R) (none : A) (size 
         by-le (from + size * n) (length s) (λ h. true-false (ap whole (e ∙ rows-there h) ∙ tells true _ _) w) (λ h. h)
 
 module _ (s : List ℕ) (from n : ℕ) where
-  pub tasks-there : from + taskSize * n ≤ length s → taskRows s from n ≡ madeTasks true (rowsAt noTask taskSize taskAt s from n) (from + taskSize * n)
-  unfolding taskRows
-  tasks-there = rows-there madeTasks noTask taskSize taskAt s from n
+  pub settings-there : from + settingSize * n ≤ length s
+      → settingRows s from n ≡ madeSettings true (rowsAt fillIns settingSize u16At s from n) (from + settingSize * n)
+  unfolding settingRows
+  settings-there = rows-there madeSettings fillIns settingSize u16At s from n
 
-  pub tasks-missing : length s < from + taskSize * n → taskRows s from n ≡ madeTasks false (replicate mostTasks noTask) from
+  pub settings-missing : length s < from + settingSize * n → settingRows s from n ≡ madeSettings false fillIns from
+  unfolding settingRows
+  settings-missing = rows-missing madeSettings fillIns settingSize u16At s from n
+
+  pub settings-got : (r : SettingRows) → r ≡ settingRows s from n → r .whole ≡ true
+      → (from + settingSize * n ≤ length s) × (r ≡ madeSettings true (rowsAt fillIns settingSize u16At s from n) (from + settingSize * n))
+  unfolding settingRows
+  settings-got = rows-got madeSettings fillIns settingSize u16At s from n (λ (r : SettingRows). r .whole) (λ b rows next. refl)
+
+  pub settings-missed : (r : SettingRows) → r ≡ settingRows s from n → r .whole ≡ false → length s < from + settingSize * n
+  unfolding settingRows
+  settings-missed = rows-missed madeSettings fillIns settingSize u16At s from n (λ (r : SettingRows). r .whole) (λ b rows next. refl)
+
+  pub tasks-there : from + taskSize * n ≤ length s → taskRows s from n ≡ madeTasks true (rowsAt noTasks taskSize taskAt s from n) (from + taskSize * n)
   unfolding taskRows
-  tasks-missing = rows-missing madeTasks noTask taskSize taskAt s from n
+  tasks-there = rows-there madeTasks noTasks taskSize taskAt s from n
+
+  pub tasks-missing : length s < from + taskSize * n → taskRows s from n ≡ madeTasks false noTasks from
+  unfolding taskRows
+  tasks-missing = rows-missing madeTasks noTasks taskSize taskAt s from n
 
   pub tasks-got : (r : TaskRows) → r ≡ taskRows s from n → r .whole ≡ true
-      → (from + taskSize * n ≤ length s) × (r ≡ madeTasks true (rowsAt noTask taskSize taskAt s from n) (from + taskSize * n))
+      → (from + taskSize * n ≤ length s) × (r ≡ madeTasks true (rowsAt noTasks taskSize taskAt s from n) (from + taskSize * n))
   unfolding taskRows
-  tasks-got = rows-got madeTasks noTask taskSize taskAt s from n (λ (r : TaskRows). r .whole) (λ b rows next. refl)
+  tasks-got = rows-got madeTasks noTasks taskSize taskAt s from n (λ (r : TaskRows). r .whole) (λ b rows next. refl)
 
   pub tasks-missed : (r : TaskRows) → r ≡ taskRows s from n → r .whole ≡ false → length s < from + taskSize * n
   unfolding taskRows
-  tasks-missed = rows-missed madeTasks noTask taskSize taskAt s from n (λ (r : TaskRows). r .whole) (λ b rows next. refl)
+  tasks-missed = rows-missed madeTasks noTasks taskSize taskAt s from n (λ (r : TaskRows). r .whole) (λ b rows next. refl)
 
   pub results-there : from + grantedSize * n ≤ length s
-      → grantedRows s from n ≡ madeGranted true (rowsAt noGranted grantedSize grantedAt s from n) (from + grantedSize * n)
+      → grantedRows s from n ≡ madeGranted true (rowsAt noResults grantedSize grantedAt s from n) (from + grantedSize * n)
   unfolding grantedRows
-  results-there = rows-there madeGranted noGranted grantedSize grantedAt s from n
+  results-there = rows-there madeGranted noResults grantedSize grantedAt s from n
 
-  pub results-missing : length s < from + grantedSize * n → grantedRows s from n ≡ madeGranted false (replicate mostTasks noGranted) from
+  pub results-missing : length s < from + grantedSize * n → grantedRows s from n ≡ madeGranted false noResults from
   unfolding grantedRows
-  results-missing = rows-missing madeGranted noGranted grantedSize grantedAt s from n
+  results-missing = rows-missing madeGranted noResults grantedSize grantedAt s from n
 
   pub results-got : (r : GrantedRows) → r ≡ grantedRows s from n → r .whole ≡ true
-      → (from + grantedSize * n ≤ length s) × (r ≡ madeGranted true (rowsAt noGranted grantedSize grantedAt s from n) (from + grantedSize * n))
+      → (from + grantedSize * n ≤ length s) × (r ≡ madeGranted true (rowsAt noResults grantedSize grantedAt s from n) (from + grantedSize * n))
   unfolding grantedRows
-  results-got = rows-got madeGranted noGranted grantedSize grantedAt s from n (λ (r : GrantedRows). r .whole) (λ b rows next. refl)
+  results-got = rows-got madeGranted noResults grantedSize grantedAt s from n (λ (r : GrantedRows). r .whole) (λ b rows next. refl)
 
   pub results-missed : (r : GrantedRows) → r ≡ grantedRows s from n → r .whole ≡ false → length s < from + grantedSize * n
   unfolding grantedRows
-  results-missed = rows-missed madeGranted noGranted grantedSize grantedAt s from n (λ (r : GrantedRows). r .whole) (λ b rows next. refl)
+  results-missed = rows-missed madeGranted noResults grantedSize grantedAt s from n (λ (r : GrantedRows). r .whole) (λ b rows next. refl)

@@ -9,7 +9,6 @@ use lib.ListN.{length}
 use Rattle.kinds.specs.declared.Settings.{Settings}
 use Rattle.kinds.specs.declared.Refusal.the-variants.{SheetEnds, WrongResultCount, BytesAfterLast}
 use Rattle.kinds.specs.Limits.{mostTasks}
-use Rattle.kinds.specs.Task.{noTask}
 use Rattle.kinds.specs.Answer.{accepted, refused}
 use Rattle.field.specs.declared.Field16.{Field16}
 use Rattle.field.specs.declared.Field16.the-variants as two
@@ -18,47 +17,47 @@ use Rattle.field.specs.Field.{field16}
 use Rattle.field.proofs.Fields.{got16, missed16}
 use Rattle.sheet.specs.declared.TaskRows.{TaskRows}
 use Rattle.sheet.specs.declared.GrantedRows.{GrantedRows}
-use Rattle.sheet.specs.Sections.{taskSize, grantedSize, recordsPlace, resultsPlace, grantedPlace, resultsFit}
-use Rattle.sheet.specs.Rows.{taskAt, grantedAt, noGranted, rowsAt, taskRows, grantedRows}
-use Rattle.sheet.specs.Reading.{noSheet, taskCount, resultCount, endOf, sheetIn, readRows}
+use Rattle.sheet.specs.Sections.{recordsPlace, resultsPlace, grantedPlace, resultsFit}
+use Rattle.sheet.specs.Rows.{taskRows, grantedRows}
+use Rattle.sheet.specs.Reading.{noSheet, settingsCount, taskCount, resultCount, endOf, tasksIn, resultsIn, sheetIn, readRows}
 use Rattle.sheet.specs.Handover.{Begins}
 use Rattle.sheet.proofs.RowFields.{tasks-got, tasks-missed, results-got, results-missed}
 use Rattle.sheet.proofs.Stages as stages
 
 -- the task records were read
-pub record TasksRead (s : List ℕ) (settings : Settings) (n from : ℕ) (t : TaskRows) : Type 0 where
-  pub begins : Begins s settings n from
-  pub rows-is : t .rows ≡ rowsAt noTask taskSize taskAt s recordsPlace (taskCount s)
-  pub next-is : t .next ≡ resultsPlace (taskCount s)
+pub record TasksRead (s : List ℕ) (count : ℕ) (settings : Settings) (n from : ℕ) (t : TaskRows) : Type 0 where
+  pub begins : Begins s count settings n from
+  pub rows-is : t .rows ≡ tasksIn s
+  pub next-is : t .next ≡ resultsPlace (settingsCount s) (taskCount s)
 
 -- and the result count after them
-pub record CountRead (s : List ℕ) (settings : Settings) (n from : ℕ) (t : TaskRows) (r first : ℕ) : Type 0 where
-  pub tasks : TasksRead s settings n from t
+pub record CountRead (s : List ℕ) (count : ℕ) (settings : Settings) (n from : ℕ) (t : TaskRows) (r first : ℕ) : Type 0 where
+  pub tasks : TasksRead s count settings n from t
   pub r-is : r ≡ resultCount s
-  pub first-is : first ≡ grantedPlace (taskCount s)
-  pub within : grantedPlace (taskCount s) ≤ length s
+  pub first-is : first ≡ grantedPlace (settingsCount s) (taskCount s)
+  pub within : grantedPlace (settingsCount s) (taskCount s) ≤ length s
 
 -- and the results
-pub record ResultsRead (s : List ℕ) (settings : Settings) (n from : ℕ) (t : TaskRows) (r first : ℕ) (g : GrantedRows) : Type 0 where
-  pub count : CountRead s settings n from t r first
+pub record ResultsRead (s : List ℕ) (count : ℕ) (settings : Settings) (n from : ℕ) (t : TaskRows) (r first : ℕ) (g : GrantedRows) : Type 0 where
+  pub counted : CountRead s count settings n from t r first
   pub fit : resultsFit (resultCount s) (taskCount s) ≡ true
-  pub rows-is : g .rows ≡ rowsAt noGranted grantedSize grantedAt s (grantedPlace (taskCount s)) (resultCount s)
+  pub rows-is : g .rows ≡ resultsIn s
   pub next-is : g .next ≡ endOf s
   pub within : endOf s ≤ length s
 
-module _ {s : List ℕ} {settings : Settings} {n from : ℕ} {t : TaskRows} (b : Begins s settings n from) (e : t ≡ taskRows s from n) where
-  same : t ≡ taskRows s recordsPlace (taskCount s)
-  same = e ∙ (ap (λ (k : ℕ). taskRows s k n) (b .from-is) ∙ ap (taskRows s recordsPlace) (b .n-is))
+module _ {s : List ℕ} {count : ℕ} {settings : Settings} {n from : ℕ} {t : TaskRows} (b : Begins s count settings n from) (e : t ≡ taskRows s from n) where
+  same : t ≡ taskRows s (recordsPlace (settingsCount s)) (taskCount s)
+  same = e ∙ (ap (λ (k : ℕ). taskRows s k n) (b .from-is) ∙ ap (taskRows s (recordsPlace (settingsCount s))) (b .n-is))
 
   pub tasks-end : t .whole ≡ false → refused noSheet (SheetEnds (length s)) ≡ readRows s
-  tasks-end w = let m = tasks-missed s recordsPlace (taskCount s) t same w in stages.count-missing s (omega arith)
+  tasks-end w = let m = tasks-missed s (recordsPlace (settingsCount s)) (taskCount s) t same w in stages.count-missing s (omega arith)
 
-  pub tasks-read : t .whole ≡ true → TasksRead s settings n from t
+  pub tasks-read : t .whole ≡ true → TasksRead s count settings n from t
   tasks-read w =
-      let g = tasks-got s recordsPlace (taskCount s) t same w .1 in
+      let g = tasks-got s (recordsPlace (settingsCount s)) (taskCount s) t same w .1 in
       record { begins = b; rows-is = ap (λ (x : TaskRows). x .rows) g; next-is = ap (λ (x : TaskRows). x .next) g }
 
-module _ {s : List ℕ} {settings : Settings} {n from : ℕ} {t : TaskRows} {field : Field16} (p : TasksRead s settings n from t)
+module _ {s : List ℕ} {count : ℕ} {settings : Settings} {n from : ℕ} {t : TaskRows} {field : Field16} (p : TasksRead s count settings n from t)
     (e : field ≡ field16 s (t .next)) where
   pub count-end : field ≡ two.Missing → refused noSheet (SheetEnds (length s)) ≡ readRows s
   count-end k =
@@ -66,13 +65,14 @@ module _ {s : List ℕ} {settings : Settings} {n from : ℕ} {t : TaskRows} {fie
       let h = p .next-is in
       stages.count-missing s (omega arith)
 
-  pub count-read : {r first : ℕ} → field ≡ two.Value r first → CountRead s settings n from t r first
+  pub count-read : {r first : ℕ} → field ≡ two.Value r first → CountRead s count settings n from t r first
+  unfolding resultCount
   count-read {r} {first} k =
       let g = got16 s (t .next) field r first e k in
       let h = p .next-is in
       record { tasks = p; r-is = g .is ∙ ap (u16At s) h; first-is = omega arith; within = omega arith }
 
-module _ {s : List ℕ} {settings : Settings} {n from : ℕ} {t : TaskRows} {r first : ℕ} (p : CountRead s settings n from t r first) where
+module _ {s : List ℕ} {count : ℕ} {settings : Settings} {n from : ℕ} {t : TaskRows} {r first : ℕ} (p : CountRead s count settings n from t r first) where
   fit-is : resultsFit r n ≡ resultsFit (resultCount s) (taskCount s)
   fit-is = rw (p .r-is, p .tasks .begins .n-is)
 
@@ -88,37 +88,41 @@ module _ {s : List ℕ} {settings : Settings} {n from : ℕ} {t : TaskRows} {r f
       (omega arith, omega arith)
 
   module _ {g : GrantedRows} (f : resultsFit r n ≡ true) (e : g ≡ grantedRows s first r) where
-    same-results : g ≡ grantedRows s (grantedPlace (taskCount s)) (resultCount s)
+    same-results : g ≡ grantedRows s (grantedPlace (settingsCount s) (taskCount s)) (resultCount s)
     same-results =
-        e ∙ (ap (λ (k : ℕ). grantedRows s k r) (p .first-is) ∙ ap (grantedRows s (grantedPlace (taskCount s))) (p .r-is))
+        e ∙ (ap (λ (k : ℕ). grantedRows s k r) (p .first-is) ∙ ap (grantedRows s (grantedPlace (settingsCount s) (taskCount s))) (p .r-is))
 
     pub results-end : g .whole ≡ false → refused noSheet (SheetEnds (length s)) ≡ readRows s
     results-end w =
-        let m = results-missed s (grantedPlace (taskCount s)) (resultCount s) g same-results w in
+        let m = results-missed s (grantedPlace (settingsCount s) (taskCount s)) (resultCount s) g same-results w in
         stages.results-missing s (p .within) (sym fit-is ∙ f) (omega arith)
 
-    pub results-read : g .whole ≡ true → ResultsRead s settings n from t r first g
+    pub results-read : g .whole ≡ true → ResultsRead s count settings n from t r first g
     results-read w =
-        let k = results-got s (grantedPlace (taskCount s)) (resultCount s) g same-results w in
+        let k = results-got s (grantedPlace (settingsCount s) (taskCount s)) (resultCount s) g same-results w in
         record {
-          count = p;
+          counted = p;
           fit = sym fit-is ∙ f;
           rows-is = ap (λ (x : GrantedRows). x .rows) (k .1);
           next-is = ap (λ (x : GrantedRows). x .next) (k .1);
           within = k .0;
         }
 
-module _ {s : List ℕ} {settings : Settings} {n from : ℕ} {t : TaskRows} {r first : ℕ} {g : GrantedRows} (p : ResultsRead s settings n from t r first g) where
+module _ {s : List ℕ} {count : ℕ} {settings : Settings} {n from : ℕ} {t : TaskRows} {r first : ℕ} {g : GrantedRows}
+    (p : ResultsRead s count settings n from t r first g) where
   pub bytes-after : g .next < length s → refused noSheet (BytesAfterLast (g .next)) ≡ readRows s
   bytes-after h =
       let k = p .next-is in
-      rw k (stages.bytes-after s (p .count .within) (p .fit) (omega arith))
+      rw k (stages.bytes-after s (p .counted .within) (p .fit) (omega arith))
 
   pub all-read : length s ≤ g .next
-      → accepted (record { settings = settings; table = record { rows = t .rows; n = n }; results = record { rows = g .rows; n = r } }) ≡ readRows s
+      → accepted
+      (record { count = count; settings = settings; table = record { rows = t .rows; n = n }; results = record { rows = g .rows; n = r } })
+      ≡ readRows s
   unfolding sheetIn
   all-read h =
       let k = p .next-is in
       let w = p .within in
-      rw (p .count .tasks .begins .settings-is, p .count .tasks .begins .n-is, p .count .tasks .rows-is, p .count .r-is, p .rows-is)
-      (stages.rows-whole s (p .count .within) (p .fit) (omega arith))
+      let begins = p .counted .tasks .begins in
+      rw (begins .count-is, begins .settings-is, begins .n-is, p .counted .tasks .rows-is, p .counted .r-is, p .rows-is)
+      (stages.rows-whole s (p .counted .within) (p .fit) (omega arith))

@@ -1,71 +1,57 @@
 -- A sheet that is cut short anywhere is refused by 8 at the length that is left.
 -- Assumes nothing.
-use Prim.Native.Nat.{ℕ, _+_, _≤_, _<_}
+use Prim.Native.Nat.{ℕ, _<_}
 use mathlib.Core.Bool.{true}
-use mathlib.Core.List.{List}
+use mathlib.Core.List.{List, _++_}
 use mathlib.Core.Path.{_≡_, sym, ap, _∙_}
 use native.Mathlib.Omega.{arith}
-use lib.ListN.{length, take, drop, take-append-drop}
+use lib.ListN.{length, take, drop, length-append, length-drop, take-append-drop}
 use lib.Seq.{length-take-le}
 use Rattle.ground.proofs.Cases.{by-le}
 use Rattle.kinds.specs.declared.Sheet.{Sheet}
 use Rattle.kinds.specs.declared.Refusal.the-variants.{SheetEnds}
 use Rattle.kinds.specs.Answer.{accepted, refused}
-use Rattle.field.specs.Number.{u16At}
-use Rattle.field.proofs.Numbers.{number-front}
-use Rattle.sheet.specs.Sections.{settingsCount, settingsPlace, policyPlace, tasksPlace, recordsPlace, resultsPlace, grantedPlace, resultsFit}
-use Rattle.sheet.specs.Reading.{noSheet, taskCount, resultCount, readRows, readSheet}
+use Rattle.sheet.specs.Sections.{numbersPlace, recordsPlace, grantedPlace, settingsFit, resultsFit}
+use Rattle.sheet.specs.Reading.{noSheet, settingsCount, taskCount, resultCount, readRows, readSheet}
 use Rattle.sheet.proofs.Stages.{settings-missing, tasks-missing, head-whole, count-missing, results-missing}
 use Rattle.sheet.proofs.Whole.{Whole, whole}
+use Rattle.sheet.proofs.Counts.{same-settings, same-tasks, same-results}
 
-module _ (s : List ℕ) (w : Whole s) (k : ℕ) (less : k < length s) where
-  long : length (take k s) ≡ k
-  long = length-take-le k s (omega arith)
+-- the front of a sheet that has more
+module _ (s t : List ℕ) (w : Whole (s ++ t)) (some : 0 < length t) where
+  more : length s < length (s ++ t)
+  more = let l = length-append s t in omega arith
 
-  same16 : (place : ℕ) → place + 2 ≤ k → u16At (take k s) place ≡ u16At s place
-  same16 place h =
-      let l = long in
-      sym (number-front (take k s) (drop k s) 2 place (omega arith)) ∙ ap (λ (t : List ℕ). u16At t place) (take-append-drop k s)
-
-  ends : refused noSheet (SheetEnds (length (take k s))) ≡ refused noSheet (SheetEnds k)
-  ends = ap (λ (n : ℕ). refused noSheet (SheetEnds n)) long
-
-  -- cut in the rows
-  module _ (a : recordsPlace ≤ k) where
-    same-tasks : taskCount (take k s) ≡ taskCount s
-    same-tasks = same16 tasksPlace (omega arith)
-
-    in-results : grantedPlace (taskCount s) ≤ k → readRows (take k s) ≡ refused noSheet (SheetEnds k)
-    in-results b =
-        let l = long in
-        let e = w .end in
-        let n = same-tasks in
-        let r : resultCount (take k s) ≡ resultCount s =
-        ap (λ (m : ℕ). u16At (take k s) (resultsPlace m)) same-tasks ∙ same16 (resultsPlace (taskCount s)) (omega arith) in
-        let fit : resultsFit (resultCount (take k s)) (taskCount (take k s)) ≡ true = rw (r, n) (w .fit) in
-        sym (results-missing (take k s) (omega arith) fit (omega arith)) ∙ ends
-
-    in-rows : readRows (take k s) ≡ refused noSheet (SheetEnds k)
-    in-rows =
-        let l = long in
-        let n = same-tasks in
-        by-le (grantedPlace (taskCount s)) k in-results (λ b. sym (count-missing (take k s) (omega arith)) ∙ ends)
+  in-rows : settingsCount (s ++ t) ≡ settingsCount s → taskCount (s ++ t) ≡ taskCount s → readRows s ≡ refused noSheet (SheetEnds (length s))
+  in-rows c n =
+      let m = more in
+      let e = w .end in
+      by-le (grantedPlace (settingsCount s) (taskCount s)) (length s)
+      (λ a.
+      let r = same-results s t a in
+      let fit : resultsFit (resultCount s) (taskCount s) ≡ true = rw (r, n) at (w .fit) in
+      sym (results-missing s a fit (omega arith)))
+      (λ a. sym (count-missing s a))
 
   -- cut anywhere
-  pub cut-short : readSheet (take k s) ≡ refused noSheet (SheetEnds k)
+  pub cut-short : readSheet s ≡ refused noSheet (SheetEnds (length s))
   cut-short =
-      let l = long in
-      by-le policyPlace k
+      by-le numbersPlace (length s)
       (λ a.
-      let two : u16At (take k s) settingsPlace ≡ settingsCount = same16 settingsPlace (omega arith) ∙ w .two in
-      by-le recordsPlace k
+      let c = same-settings s t a in
+      let settings : settingsFit (settingsCount s) ≡ true = rw c at (w .settings) in
+      by-le (recordsPlace (settingsCount s)) (length s)
       (λ b.
-      let n = same-tasks b in
+      let n = same-tasks s t b in
       let few = w .few in
-      head-whole (take k s) (omega arith) two (omega arith) (omega arith) ∙ in-rows b)
-      (λ b. sym (tasks-missing (take k s) (omega arith) two (omega arith)) ∙ ends))
-      (λ a. sym (settings-missing (take k s) (omega arith)) ∙ ends)
+      head-whole s a settings b (omega arith) ∙ in-rows c n)
+      (λ b. sym (tasks-missing s a settings b)))
+      (λ a. sym (settings-missing s a))
 
 -- of any sheet that is accepted
 pub truncated : (s : List ℕ) (x : Sheet) → readSheet s ≡ accepted x → (k : ℕ) → k < length s → readSheet (take k s) ≡ refused noSheet (SheetEnds k)
-truncated s x e k less = cut-short s (whole s x e .0) k less
+truncated s x e k less =
+    let long : length (take k s) ≡ k = length-take-le k s (omega arith) in
+    let some : 0 < length (drop k s) = simp length-drop (omega arith) in
+    let w : Whole (take k s ++ drop k s) = rw (take-append-drop k s) (whole s x e .0) in
+    cut-short (take k s) (drop k s) w some ∙ ap (λ (n : ℕ). refused noSheet (SheetEnds n)) long

@@ -6,27 +6,29 @@ use mathlib.Core.Bool.{true}
 use mathlib.Core.List.{List}
 use mathlib.Core.Path.{_≡_, sym, ap, _∙_}
 use native.Mathlib.Omega.{arith}
-use lib.Dec.{leb, eqb}
+use lib.Dec.{leb}
 use lib.ListN.{length}
-use borrow.Author.Tests.{leb-true, eqb-true}
+use borrow.Author.Tests.{leb-true}
 use Rattle.kinds.specs.declared.Sheet.{Sheet}
-use Rattle.kinds.specs.declared.Refusal.the-variants.{TooManyTasks, SheetEnds, NotTwoSettings, WrongResultCount, BytesAfterLast}
-use Rattle.kinds.specs.Limits.{mostTasks}
+use Rattle.kinds.specs.declared.Refusal.the-variants.{TooManyTasks, SheetEnds, WrongSettingsCount, WrongResultCount, BytesAfterLast}
+use Rattle.kinds.specs.Limits.{mostSettings, mostTasks}
 use Rattle.kinds.specs.Answer.{Handed, accepted}
-use Rattle.field.specs.Number.{u16At}
 use Rattle.kinds.specs.declared.Verdict.the-variants as verdict
 use Rattle.kinds.proofs.Chain.{judged-passed}
 use Rattle.sheet.specs.declared.Reading.{Reading}
-use Rattle.sheet.specs.Sections.{settingsCount, settingsPlace, policyPlace, tasksPlace, recordsPlace, resultsPlace, grantedPlace, resultsFit}
-use Rattle.sheet.specs.Reading.{noSheet, taskCount, resultCount, endOf, sheetIn, readRows, readSheet, handedReading}
-use Rattle.sheet.proofs.Stages.{fits-few, head-whole, rows-whole}
+use Rattle.sheet.specs.Sections.{numbersPlace, tasksPlace, recordsPlace, resultsPlace, grantedPlace, settingsFit, resultsFit}
+use Rattle.sheet.specs.Reading.{noSheet, settingsCount, taskCount, resultCount, endOf, sheetIn, readRows, readSheet, handedReading}
+use Rattle.sheet.proofs.Stages.{settings-few, fits-few, head-whole, rows-whole}
 
 -- bytes that are a sheet
 pub record Whole (s : List ℕ) : Type 0 where
-  pub two : u16At s settingsPlace ≡ settingsCount
+  pub settings : settingsFit (settingsCount s) ≡ true
   pub few : taskCount s ≤ mostTasks
   pub fit : resultsFit (resultCount s) (taskCount s) ≡ true
   pub end : endOf s ≡ length s
+
+pub few-settings : {s : List ℕ} → Whole s → settingsCount s ≤ mostSettings
+few-settings {s} w = settings-few (settingsCount s) (w .settings)
 
 pub few-results : {s : List ℕ} → Whole s → resultCount s ≤ mostTasks
 few-results {s} w = omega (arith, fits-few (resultCount s) (taskCount s) (w .fit), w .few)
@@ -35,8 +37,8 @@ module _ (s : List ℕ) where
   rows-accepted : (x : Sheet) → readRows s ≡ accepted x → (resultsFit (resultCount s) (taskCount s) ≡ true) × ((endOf s ≡ length s) × (x ≡ sheetIn s))
   unfolding readRows
   rows-accepted x e =
-      let p₁ = judged-passed noSheet (leb (grantedPlace (taskCount s)) (length s)) (SheetEnds (length s)) _ e in
-      let p₂ = judged-passed noSheet (resultsFit (resultCount s) (taskCount s)) (WrongResultCount (resultsPlace (taskCount s))) _ (p₁ .1) in
+      let p₁ = judged-passed noSheet (leb (grantedPlace (settingsCount s) (taskCount s)) (length s)) (SheetEnds (length s)) _ e in
+      let p₂ = judged-passed noSheet (resultsFit (resultCount s) (taskCount s)) (WrongResultCount (resultsPlace (settingsCount s) (taskCount s))) _ (p₁ .1) in
       let p₃ = judged-passed noSheet (leb (endOf s) (length s)) (SheetEnds (length s)) _ (p₂ .1) in
       let p₄ = judged-passed noSheet (leb (length s) (endOf s)) (BytesAfterLast (endOf s)) _ (p₃ .1) in
       let a = leb-true (endOf s) (length s) (p₃ .0) in
@@ -47,13 +49,13 @@ module _ (s : List ℕ) where
   pub whole : (x : Sheet) → readSheet s ≡ accepted x → Whole s × (x ≡ sheetIn s)
   unfolding readSheet
   whole x e =
-      let p₁ = judged-passed noSheet (leb policyPlace (length s)) (SheetEnds (length s)) _ e in
-      let p₂ = judged-passed noSheet (eqb (u16At s settingsPlace) settingsCount) NotTwoSettings _ (p₁ .1) in
-      let p₃ = judged-passed noSheet (leb recordsPlace (length s)) (SheetEnds (length s)) _ (p₂ .1) in
-      let p₄ = judged-passed noSheet (leb (taskCount s) mostTasks) (TooManyTasks tasksPlace) _ (p₃ .1) in
+      let p₁ = judged-passed noSheet (leb numbersPlace (length s)) (SheetEnds (length s)) _ e in
+      let p₂ = judged-passed noSheet (settingsFit (settingsCount s)) WrongSettingsCount _ (p₁ .1) in
+      let p₃ = judged-passed noSheet (leb (recordsPlace (settingsCount s)) (length s)) (SheetEnds (length s)) _ (p₂ .1) in
+      let p₄ = judged-passed noSheet (leb (taskCount s) mostTasks) (TooManyTasks (tasksPlace (settingsCount s))) _ (p₃ .1) in
       let r = rows-accepted x (p₄ .1) in (
         record {
-          two = eqb-true (u16At s settingsPlace) settingsCount (p₂ .0);
+          settings = p₂ .0;
           few = leb-true (taskCount s) mostTasks (p₄ .0);
           fit = r .0;
           end = r .1 .0;
@@ -65,7 +67,7 @@ module _ (s : List ℕ) where
   pub whole-accepted : Whole s → readSheet s ≡ accepted (sheetIn s)
   whole-accepted w =
       let e = w .end in
-      head-whole s (omega arith) (w .two) (omega arith) (w .few) ∙ sym (rows-whole s (omega arith) (w .fit) e)
+      head-whole s (omega arith) (w .settings) (omega arith) (w .few) ∙ sym (rows-whole s (omega arith) (w .fit) e)
 
   -- the same of what the reader hands back
   pub accepted-whole : (r : Reading) → handedReading r ≡ readSheet s → r .verdict ≡ verdict.Accepted → Whole s × (r .sheet ≡ sheetIn s)

@@ -6,29 +6,31 @@ use mathlib.Core.Path.{_≡_}
 use lib.ListN.{length}
 use Rattle.kinds.specs.declared.Settings.{Settings}
 use Rattle.kinds.specs.Limits.{mostTasks}
+use Rattle.kinds.specs.Settings.{settingsOf}
 use Rattle.kinds.specs.Answer.{refused}
 use Rattle.sheet.specs.declared.Head.{Head}
 use Rattle.sheet.specs.declared.Head.the-variants as head
 use Rattle.sheet.specs.Sections.{recordsPlace}
-use Rattle.sheet.specs.Reading.{noSheet, settingsIn, taskCount, readRows, readSheet}
+use Rattle.sheet.specs.Reading.{noSheet, settingsCount, numbersIn, taskCount, readRows, readSheet}
 
--- the front of a sheet was read: its settings, its task count, and where its records start
-pub record Begins (s : List ℕ) (settings : Settings) (n from : ℕ) : Type 0 where
-  pub settings-is : settings ≡ settingsIn s
+-- the front of a sheet was read: its settings count, its settings, its task count, and where its records start
+pub record Begins (s : List ℕ) (count : ℕ) (settings : Settings) (n from : ℕ) : Type 0 where
+  pub count-is : count ≡ settingsCount s
+  pub settings-is : settings ≡ settingsOf (numbersIn s)
   pub n-is : n ≡ taskCount s
   pub few : n ≤ mostTasks
-  pub from-is : from ≡ recordsPlace
-  pub within : recordsPlace ≤ length s
+  pub from-is : from ≡ recordsPlace (settingsCount s)
+  pub within : recordsPlace (settingsCount s) ≤ length s
   pub on : readSheet s ≡ readRows s
 
 -- what the head says of the whole reading
 abbrev pub HeadTells : List ℕ → Head → Type 0
-HeadTells s (head.Value settings n from) = Begins s settings n from
+HeadTells s (head.Value count settings n from) = Begins s count settings n from
 HeadTells s (head.Refused refusal) = refused noSheet refusal ≡ readSheet s
 
 -- the place after a head that was read
 abbrev pub placeAfter : Head → ℕ
-placeAfter (head.Value settings n next) = next
+placeAfter (head.Value count settings n next) = next
 placeAfter (head.Refused refusal) = 0
 
 -- a head was read, and what follows it is due at the place after it

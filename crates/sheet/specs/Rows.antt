@@ -1,16 +1,15 @@
--- The rows of a section: a task record, a result, and so many of them from a place on.
+-- The rows of a section: a setting, a task record, a result, and so many of them from a place on.
 -- Assumes nothing.
-use Prim.Native.Nat.{ℕ, _+_, _*_}
+use Prim.Native.Nat.{ℕ, zero, suc, _+_, _*_}
 use mathlib.Core.Bool.{Bool, true, false}
 use mathlib.Core.List.{List}
 use lib.Dec.{leb}
-use lib.ListN.{length, replicate}
+use lib.ListN.{length, set, replicate}
 use Rattle.ground.specs.Choice.{pick}
-use Rattle.ground.specs.Folds.{listTo}
-use Rattle.ground.specs.Padded.{padded}
 use Rattle.kinds.specs.declared.Task.{Task}
 use Rattle.kinds.specs.declared.Granted.{Granted}
 use Rattle.kinds.specs.Limits.{mostTasks}
+use Rattle.kinds.specs.Settings.{fillIns}
 use Rattle.kinds.specs.Task.{task, noTask}
 use Rattle.field.specs.Number.{u16At, u32At}
 use Rattle.field.specs.Field.{fieldBy}
@@ -18,9 +17,10 @@ use Rattle.sheet.specs.declared.TaskField.{TaskField}
 use Rattle.sheet.specs.declared.TaskField.the-variants as task-field
 use Rattle.sheet.specs.declared.GrantedField.{GrantedField}
 use Rattle.sheet.specs.declared.GrantedField.the-variants as granted-field
+use Rattle.sheet.specs.declared.SettingRows.{SettingRows}
 use Rattle.sheet.specs.declared.TaskRows.{TaskRows}
 use Rattle.sheet.specs.declared.GrantedRows.{GrantedRows}
-use Rattle.sheet.specs.Sections.{taskSize, grantedSize}
+use Rattle.sheet.specs.Sections.{settingSize, taskSize, grantedSize}
 
 abbrev pub granted : ℕ → ℕ → Granted
 granted period processor = record { period = period; processor = processor }
@@ -43,20 +43,35 @@ taskField s at = fieldBy task-field.Value task-field.Missing taskSize taskAt s a
 unfoldable pub grantedField : List ℕ → ℕ → GrantedField
 grantedField s at = fieldBy granted-field.Value granted-field.Missing grantedSize grantedAt s at
 
--- n rows, f 0, f 1, .., and then unused places up to the most tasks
-unfoldable pub paddedRows : {A : Type 0} → A → (ℕ → A) → ℕ → List A
-paddedRows none f n = padded none mostTasks (listTo f n)
+-- a list whose first n entries are f 0, f 1, .., laid over those that stood there
+unfoldable pub over : {A : Type 0} → List A → (ℕ → A) → ℕ → List A
+over rest f zero = rest
+over rest f (suc n) = set (over rest f n) n (f n)
 
--- the n rows of a size that stand from a place on
-abbrev pub rowsAt : {A : Type 0} → A → ℕ → (List ℕ → ℕ → A) → List ℕ → ℕ → ℕ → List A
-rowsAt none size rowAt s from n = paddedRows none (λ i. rowAt s (from + size * i)) n
+-- n rows, f 0, f 1, .., and then unused places up to the most tasks
+abbrev pub paddedRows : {A : Type 0} → A → (ℕ → A) → ℕ → List A
+paddedRows none f n = over (replicate mostTasks none) f n
+
+-- unused places only
+abbrev pub noTasks : List Task
+noTasks = replicate mostTasks noTask
+
+abbrev pub noResults : List Granted
+noResults = replicate mostTasks noGranted
+
+-- the n rows of a size that stand from a place on, over what stands for those that are left out
+abbrev pub rowsAt : {A : Type 0} → List A → ℕ → (List ℕ → ℕ → A) → List ℕ → ℕ → ℕ → List A
+rowsAt rest size rowAt s from n = over rest (λ i. rowAt s (from + size * i)) n
 
 -- the same with the place after them, where all are there; else no row
-abbrev pub rowsBy : {A R : Type 0} → (Bool → List A → ℕ → R) → A → ℕ → (List ℕ → ℕ → A) → List ℕ → ℕ → ℕ → R
-rowsBy made none size rowAt s from n =
+abbrev pub rowsBy : {A R : Type 0} → (Bool → List A → ℕ → R) → List A → ℕ → (List ℕ → ℕ → A) → List ℕ → ℕ → ℕ → R
+rowsBy made rest size rowAt s from n =
     pick (leb (from + size * n) (length s))
-    (made true (rowsAt none size rowAt s from n) (from + size * n))
-    (made false (replicate mostTasks none) from)
+    (made true (rowsAt rest size rowAt s from n) (from + size * n))
+    (made false rest from)
+
+abbrev pub madeSettings : Bool → List ℕ → ℕ → SettingRows
+madeSettings whole rows next = record { whole = whole; rows = rows; next = next }
 
 abbrev pub madeTasks : Bool → List Task → ℕ → TaskRows
 madeTasks whole rows next = record { whole = whole; rows = rows; next = next }
@@ -64,8 +79,12 @@ madeTasks whole rows next = record { whole = whole; rows = rows; next = next }
 abbrev pub madeGranted : Bool → List Granted → ℕ → GrantedRows
 madeGranted whole rows next = record { whole = whole; rows = rows; next = next }
 
+-- Ask 2: "Sheets with settings count 2 are still read, with w = 0": what is left out is filled in
+unfoldable pub settingRows : List ℕ → ℕ → ℕ → SettingRows
+settingRows s from n = rowsBy madeSettings fillIns settingSize u16At s from n
+
 unfoldable pub taskRows : List ℕ → ℕ → ℕ → TaskRows
-taskRows s from n = rowsBy madeTasks noTask taskSize taskAt s from n
+taskRows s from n = rowsBy madeTasks noTasks taskSize taskAt s from n
 
 unfoldable pub grantedRows : List ℕ → ℕ → ℕ → GrantedRows
-grantedRows s from n = rowsBy madeGranted noGranted grantedSize grantedAt s from n
+grantedRows s from n = rowsBy madeGranted noResults grantedSize grantedAt s from n

@@ -2,18 +2,15 @@
 -- Assumes nothing.
 use Prim.Native.Nat.{ℕ, _+_, _*_}
 use mathlib.Core.Bool.{Bool}
-use lib.Dec.{eqb}
-use Rattle.ground.specs.Choice.{either}
-use Rattle.kinds.specs.Limits.{mostTasks}
+use lib.Dec.{leb, eqb}
+use Rattle.ground.specs.Choice.{both, either}
+use Rattle.kinds.specs.Limits.{fewestSettings, mostSettings, mostTasks}
 
 -- the bytes of a count
 abbrev pub countSize : ℕ
 countSize = 2
 
--- "settings (count 2: policy, m, 2 bytes each)"
-abbrev pub settingsCount : ℕ
-settingsCount = 2
-
+-- "settings (.. policy, m, 2 bytes each)"
 abbrev pub settingSize : ℕ
 settingSize = 2
 
@@ -25,37 +22,38 @@ taskSize = 16
 abbrev pub grantedSize : ℕ
 grantedSize = 6
 
--- where the settings count stands, and each setting
+-- where the settings count stands, and where the settings start
 abbrev pub settingsPlace : ℕ
 settingsPlace = 0
 
-abbrev pub policyPlace : ℕ
-policyPlace = settingsPlace + countSize
+abbrev pub numbersPlace : ℕ
+numbersPlace = settingsPlace + countSize
 
-abbrev pub mPlace : ℕ
-mPlace = policyPlace + settingSize
+-- where the task count of a sheet with c settings stands, and where its records start
+abbrev pub tasksPlace : ℕ → ℕ
+tasksPlace c = numbersPlace + settingSize * c
 
--- where the task count stands, and where the records start
-abbrev pub tasksPlace : ℕ
-tasksPlace = policyPlace + settingSize * settingsCount
+abbrev pub recordsPlace : ℕ → ℕ
+recordsPlace c = tasksPlace c + countSize
 
-abbrev pub recordsPlace : ℕ
-recordsPlace = tasksPlace + countSize
+-- where the result count of a sheet with c settings and n tasks stands, and where its results start
+abbrev pub resultsPlace : ℕ → ℕ → ℕ
+resultsPlace c n = recordsPlace c + taskSize * n
 
--- where the result count of a sheet with n tasks stands, and where the results start
-abbrev pub resultsPlace : ℕ → ℕ
-resultsPlace n = recordsPlace + taskSize * n
+abbrev pub grantedPlace : ℕ → ℕ → ℕ
+grantedPlace c n = resultsPlace c n + countSize
 
-abbrev pub grantedPlace : ℕ → ℕ
-grantedPlace n = resultsPlace n + countSize
+-- where a sheet with c settings, n tasks and r results ends
+abbrev pub endPlace : ℕ → ℕ → ℕ → ℕ
+endPlace c n r = grantedPlace c n + grantedSize * r
 
--- where a sheet with n tasks and r results ends
-abbrev pub endPlace : ℕ → ℕ → ℕ
-endPlace n r = grantedPlace n + grantedSize * r
-
--- "at most 714": the most tasks, and a result for each; `sheet::limits` shows that the code has the same
+-- Ask 2: "the greatest length follows": the most settings and tasks, and a result for each; `sheet::limits` shows that the code has the same
 abbrev pub longestSheet : ℕ
-longestSheet = endPlace mostTasks mostTasks
+longestSheet = endPlace mostSettings mostTasks mostTasks
+
+-- Ask 2: refusal 9 means "neither 2 nor 3"
+unfoldable pub settingsFit : ℕ → Bool
+settingsFit c = both (leb fewestSettings c) (leb c mostSettings)
 
 -- "results (count 0 or the task count ..)"
 unfoldable pub resultsFit : ℕ → ℕ → Bool

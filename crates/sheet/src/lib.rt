@@ -3,7 +3,6 @@
 use field::Field16;
 use field::Field32;
 use kinds::Granted;
-use kinds::Policy;
 use kinds::Refusal;
 use kinds::Results;
 use kinds::Settings;
@@ -14,10 +13,10 @@ use kinds::Verdict;
 ghost use mathlib.Core.Path.{_≡_};
 ghost use Prim.Native.Nat.{_≤_};
 ghost use lib.ListN.{length};
-ghost use Rattle.kinds.specs.Limits.{mostTasks};
+ghost use Rattle.kinds.specs.Limits.{mostSettings, mostTasks};
 ghost use Rattle.kinds.specs.Answer.{refused};
-ghost use Rattle.sheet.specs.Sections.{recordsPlace, resultsPlace, endPlace, longestSheet, resultsFit};
-ghost use Rattle.sheet.specs.Rows.{taskField, grantedField, taskRows, grantedRows};
+ghost use Rattle.sheet.specs.Sections.{recordsPlace, resultsPlace, endPlace, longestSheet, settingsFit, resultsFit};
+ghost use Rattle.sheet.specs.Rows.{taskField, grantedField, settingRows, taskRows, grantedRows};
 ghost use Rattle.sheet.specs.Reading.{noSheet, readRows, readSheet, handedReading};
 ghost use Rattle.sheet.specs.Handover.{Begins, HeadTells, placeAfter, RestDue};
 
@@ -27,7 +26,7 @@ pub struct Reading {
     pub sheet: Sheet,
 }
 
-// How many bytes a count, a setting, a task record and a result take, and how many settings there are.
+// How many bytes a count, a setting, a task record and a result take.
 const COUNT: usize = 2;
 
 const SETTING: usize = 2;
@@ -36,37 +35,43 @@ const TASK: usize = 16;
 
 const GRANTED: usize = 6;
 
-pub const SETTINGS: u16 = 2;
-
 // How many bytes the longest sheet has.
 pub const LONGEST: usize = COUNT
-    + SETTING * SETTINGS as usize
+    + SETTING * Settings::MOST
     + COUNT
     + TASK * Table::MOST_TASKS
     + COUNT
     + GRANTED * Table::MOST_TASKS;
 
-// Where the task records start.
-pub fn records_place() -> usize
-    ensures { λ r. ⌜ r ≡ recordsPlace ⌝ }
+// Where the task records of a sheet with so many settings start.
+pub fn records_place(settings: usize) -> usize
+    requires { ⌜ settings ≤ mostSettings ⌝ }
+    ensures { λ r. ⌜ r ≡ recordsPlace settings ⌝ }
 {
-    COUNT + SETTING * SETTINGS as usize + COUNT
+    COUNT + SETTING * settings + COUNT
 }
 
-// Where the result count of a sheet with n tasks stands.
-pub fn results_place(n: usize) -> usize
-    requires { ⌜ n ≤ mostTasks ⌝ }
-    ensures { λ r. ⌜ r ≡ resultsPlace n ⌝ }
+// Where the result count of a sheet with so many settings and n tasks stands.
+pub fn results_place(settings: usize, n: usize) -> usize
+    requires { ⌜ (settings ≤ mostSettings) × (n ≤ mostTasks) ⌝ }
+    ensures { λ r. ⌜ r ≡ resultsPlace settings n ⌝ }
 {
-    records_place() + TASK * n
+    records_place(settings) + TASK * n
 }
 
-// How many bytes a sheet with n tasks and r results is long.
-pub fn end_place(n: usize, r: usize) -> usize
-    requires { ⌜ (n ≤ mostTasks) × (r ≤ mostTasks) ⌝ }
-    ensures { λ e. ⌜ e ≡ endPlace n r ⌝ }
+// How many bytes a sheet with so many settings, n tasks and r results is long.
+pub fn end_place(settings: usize, n: usize, r: usize) -> usize
+    requires { ⌜ (settings ≤ mostSettings) × ((n ≤ mostTasks) × (r ≤ mostTasks)) ⌝ }
+    ensures { λ e. ⌜ e ≡ endPlace settings n r ⌝ }
 {
-    results_place(n) + COUNT + GRANTED * r
+    results_place(settings, n) + COUNT + GRANTED * r
+}
+
+// Ask 2, 9: whether a sheet may have so many settings.
+pub fn settings_fit(settings: usize) -> bool
+    ensures { λ b. ⌜ b ≡ settingsFit settings ⌝ }
+{
+    Settings::FEWEST <= settings && settings <= Settings::MOST
 }
 
 // Document 01, 10: whether a sheet with n tasks may have r results.
@@ -123,6 +128,13 @@ fn read_granted(s: &[u8], at: usize) -> GrantedField
     GrantedField::Value(Granted { period, processor }, next)
 }
 
+// The numbers of the settings section: whether all are there, the numbers, and the place after them.
+struct SettingRows {
+    whole: bool,
+    rows: [u16; Settings::MOST],
+    next: usize,
+}
+
 // The rows of the task section: whether all are there, the rows, and the place after them.
 struct TaskRows {
     whole: bool,
@@ -135,6 +147,33 @@ struct GrantedRows {
     whole: bool,
     rows: [Granted; Table::MOST_TASKS],
     next: usize,
+}
+
+// The n settings from a place on, the others filled in; the first field that is not there ends them.
+fn read_settings(s: &[u8], from: usize, n: usize) -> SettingRows
+    requires { ⌜ (n ≤ mostSettings) × (from ≤ length (now s)) ⌝ }
+    ensures { λ r. ⌜ r ≡ settingRows (now (s .entry)) from n ⌝ }
+{
+    let mut rows = Settings::FILL_INS;
+    let mut at = from;
+    let mut i: usize = 0;
+    while i < n {
+        let Field16::Value(row, next) = field::read_u16(s, at) else {
+            return SettingRows {
+                whole: false,
+                rows: Settings::FILL_INS,
+                next: from,
+            };
+        };
+        rows[i] = row;
+        at = next;
+        i += 1;
+    }
+    SettingRows {
+        whole: true,
+        rows,
+        next: at,
+    }
 }
 
 // The n task records from a place on; the first field that is not there ends them.
@@ -191,18 +230,18 @@ fn read_results(s: &[u8], from: usize, n: usize) -> GrantedRows
     }
 }
 
-// Document 01: "a sheet of zeros (policy: the further choice 0)".
+// Document 01: "a sheet of zeros (policy: the further choice 0)"; no number is filled in.
 pub fn no_sheet() -> Sheet
     ensures { λ r. ⌜ r ≡ noSheet ⌝ }
 {
-    let policy = Policy::Further(0);
-    let settings = Settings::new(policy, 0);
+    let settings = Settings::of([0; Settings::MOST]);
     let table = Table::new([Task::NONE; Table::MOST_TASKS], 0);
     let results = Results {
         rows: [Granted::NONE; Table::MOST_TASKS],
         n: 0,
     };
     Sheet {
+        count: 0,
         settings,
         table,
         results,
@@ -218,9 +257,9 @@ fn refusing(refusal: Refusal) -> Reading
     Reading { verdict, sheet }
 }
 
-// The settings, the task count and the place after it, or the refusal.
+// The settings count, the settings, the task count and the place after it, or the refusal.
 enum Head {
-    Value(Settings, usize, usize),
+    Value(usize, Settings, usize, usize),
     Refused(Refusal),
 }
 
@@ -228,32 +267,34 @@ enum Head {
 fn read_head(s: &[u8]) -> Head
     ensures { λ r. ⌜ HeadTells (now (s .entry)) r ⌝ }
 {
-    let Field16::Value(settings, at_policy) = field::read_u16(s, 0) else {
+    let Field16::Value(number, first) = field::read_u16(s, 0) else {
         return Head::Refused(Refusal::SheetEnds(s.len()));
     };
-    if settings != SETTINGS {
-        return Head::Refused(Refusal::NotTwoSettings);
+    let count = number as usize;
+    let fit = settings_fit(count);
+    if !fit {
+        return Head::Refused(Refusal::WrongSettingsCount);
     }
-    let Field16::Value(number, at_m) = field::read_u16(s, at_policy) else {
+    let numbers = read_settings(s, first, count);
+    let numbers_there = numbers.whole;
+    if !numbers_there {
+        return Head::Refused(Refusal::SheetEnds(s.len()));
+    }
+    let at_tasks = numbers.next;
+    let Field16::Value(tasks, from) = field::read_u16(s, at_tasks) else {
         return Head::Refused(Refusal::SheetEnds(s.len()));
     };
-    let Field16::Value(m, at_tasks) = field::read_u16(s, at_m) else {
-        return Head::Refused(Refusal::SheetEnds(s.len()));
-    };
-    let Field16::Value(count, from) = field::read_u16(s, at_tasks) else {
-        return Head::Refused(Refusal::SheetEnds(s.len()));
-    };
-    let n = count as usize;
+    let n = tasks as usize;
     if Table::MOST_TASKS < n {
         return Head::Refused(Refusal::TooManyTasks(at_tasks));
     }
-    let policy = Policy::of(number);
-    Head::Value(Settings::new(policy, m), n, from)
+    let rows = numbers.rows;
+    Head::Value(count, Settings::of(rows), n, from)
 }
 
 // The rows of a sheet whose head was read: its tasks, its results, and nothing after them.
-fn read_rows(s: &[u8], settings: Settings, n: usize, from: usize) -> Reading
-    requires { ⌜ Begins (now s) settings n from ⌝ }
+fn read_rows(s: &[u8], count: usize, settings: Settings, n: usize, from: usize) -> Reading
+    requires { ⌜ Begins (now s) count settings n from ⌝ }
     ensures { λ r. ⌜ handedReading r ≡ readRows (now (s .entry)) ⌝ }
 {
     let tasks = read_tasks(s, from, n);
@@ -262,12 +303,11 @@ fn read_rows(s: &[u8], settings: Settings, n: usize, from: usize) -> Reading
         return refusing(Refusal::SheetEnds(s.len()));
     }
     let at = tasks.next;
-    let Field16::Value(count, first) = field::read_u16(s, at) else {
+    let Field16::Value(number, first) = field::read_u16(s, at) else {
         return refusing(Refusal::SheetEnds(s.len()));
     };
-    let r = count as usize;
-    let fit = results_fit(r, n);
-    if !fit {
+    let r = number as usize;
+    if !results_fit(r, n) {
         return refusing(Refusal::WrongResultCount(at));
     }
     let granted = read_results(s, first, r);
@@ -284,6 +324,7 @@ fn read_rows(s: &[u8], settings: Settings, n: usize, from: usize) -> Reading
     let rows = granted.rows;
     let results = Results { rows, n: r };
     let sheet = Sheet {
+        count,
         settings,
         table,
         results,
@@ -297,7 +338,7 @@ fn place_after(head: Head) -> usize
     ensures { λ r. ⌜ r ≡ placeAfter head ⌝ }
 {
     match head {
-        Head::Value(_, _, next) => next,
+        Head::Value(_, _, _, next) => next,
         Head::Refused(_) => 0,
     }
 }
@@ -309,7 +350,7 @@ fn read_rest(s: &[u8], at: usize, head: Head) -> Reading
 {
     match head {
         Head::Refused(refusal) => refusing(refusal),
-        Head::Value(settings, n, _) => read_rows(s, settings, n, at),
+        Head::Value(count, settings, n, _) => read_rows(s, count, settings, n, at),
     }
 }
 

@@ -4,22 +4,22 @@ use mathlib.Core.Path.{_≡_, sym}
 use native.Mathlib.Omega.{arith}
 use lib.ListN.{length}
 use borrow.Author.Needs.{needs}
-use Rattle.sheet.specs.Rows.{grantedAt, noGranted, rowsAt}
+use Rattle.sheet.specs.Rows.{grantedAt, noResults, rowsAt}
 use Rattle.sheet.specs.Sections.{grantedSize}
-use Rattle.sheet.proofs.Padding.{padded-none}
+use Rattle.sheet.proofs.Padding.{over-none}
 use Rattle.sheet.proofs.RowFields.{granted-got, granted-missed, rows-more, results-there, results-missing}
 use Rattle.sheet.proofs.read_results.Statement.{statement}
 use Rattle.sheet.proofs.read_results.Tie as tie
 
 abbrev Inv-loop : tie.InvT-loop
 Inv-loop s from n rows₀ at₀ i₀ rows at i =
-    (i ≤ n) × ((at ≡ from + grantedSize * i) × ((at ≤ length s) × (rows ≡ rowsAt noGranted grantedSize grantedAt s from i)))
+    (i ≤ n) × ((at ≡ from + grantedSize * i) × ((at ≤ length s) × (rows ≡ rowsAt noResults grantedSize grantedAt s from i)))
 
 abbrev μ-loop : tie.MeasureT-loop
 μ-loop s from n rows₀ at₀ i₀ rows at i = n - i
 
 loop-holds : tie.Need-loop-holds Inv-loop μ-loop
-loop-holds c = (search needs, (omega arith, (search needs, sym (padded-none _ _))))
+loop-holds c = (search needs, (omega arith, (search needs, sym (over-none _ _))))
 
 read-granted-requires : tie.Need-read-granted-requires Inv-loop μ-loop
 read-granted-requires c κs = search needs
@@ -51,7 +51,7 @@ loop-again : tie.Need-loop-again Inv-loop μ-loop
 loop-again c =
     let g = granted-got _ _ _ _ _ (c .before .before .before .read-granted .ensures) (c .before .row .given .1) in
     let inv = c .before .before .before .before .before .loop .inv in
-    (search needs, (omega arith, (omega arith, rows-more noGranted grantedSize grantedAt _ _ _ _ _ _ (inv .1 .1 .1) (inv .1 .0) (g .is))))
+    (search needs, (omega arith, (omega arith, rows-more noResults grantedSize grantedAt _ _ _ _ _ _ (inv .1 .1 .1) (inv .1 .0) (g .is))))
 
 returns-2 : tie.Need-returns-2 Inv-loop μ-loop
 returns-2 c =

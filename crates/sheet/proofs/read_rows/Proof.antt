@@ -20,8 +20,8 @@ returns c =
 read-u16-requires : tie.Need-read-u16-requires
 read-u16-requires c κs = search needs
 
-enum-known-count : tie.Need-enum-known-count
-enum-known-count c = search needs
+enum-known-number : tie.Need-enum-known-number
+enum-known-number c = search needs
 
 enum-told : tie.Need-enum-told
 enum-told c = search needs
@@ -52,7 +52,7 @@ returns-3 c =
     let there = counted .before .before .before in
     let read = there .before in
     let tasks = tasks-read (read .before .before .pre) (read .read-tasks .ensures) (not-false _ (there .if1 .left)) in
-    let count = count-read tasks (counted .before .before .read-u16 .ensures) (counted .count .given .1) in
+    let count = count-read tasks (counted .before .before .read-u16 .ensures) (counted .number .given .1) in
     c .refusing3 .ensures ∙ count-wrong count (sym (judged .results-fit .ensures) ∙ not-true _ (c .before .if2 .taken))
 
 read-results-requires : tie.Need-read-results-requires
@@ -62,7 +62,7 @@ read-results-requires c κs =
     let there = counted .before .before .before in
     let read = there .before in
     let tasks = tasks-read (read .before .before .pre) (read .read-tasks .ensures) (not-false _ (there .if1 .left)) in
-    let count = count-read tasks (counted .before .before .read-u16 .ensures) (counted .count .given .1) in
+    let count = count-read tasks (counted .before .before .read-u16 .ensures) (counted .number .given .1) in
     let fit = sym (judged .results-fit .ensures) ∙ not-false _ (c .if2 .left) in
     results-due count fit
 
@@ -78,7 +78,7 @@ returns-4 c =
     let there = counted .before .before .before in
     let read = there .before in
     let tasks = tasks-read (read .before .before .pre) (read .read-tasks .ensures) (not-false _ (there .if1 .left)) in
-    let count = count-read tasks (counted .before .before .read-u16 .ensures) (counted .count .given .1) in
+    let count = count-read tasks (counted .before .before .read-u16 .ensures) (counted .number .given .1) in
     let fit = sym (judged .results-fit .ensures) ∙ not-false _ (fits .if2 .left) in
     c .refusing4 .ensures ∙ results-end count fit (granted .read-results .ensures) (not-true _ (c .before .if3 .taken))
 
@@ -95,7 +95,7 @@ returns-5 c =
     let there = counted .before .before .before in
     let read = there .before in
     let tasks = tasks-read (read .before .before .pre) (read .read-tasks .ensures) (not-false _ (there .if1 .left)) in
-    let count = count-read tasks (counted .before .before .read-u16 .ensures) (counted .count .given .1) in
+    let count = count-read tasks (counted .before .before .read-u16 .ensures) (counted .number .given .1) in
     let fit = sym (judged .results-fit .ensures) ∙ not-false _ (fits .if2 .left) in
     let results = results-read count fit (granted .read-results .ensures) (not-false _ (whole .if3 .left)) in
     c .refusing5 .ensures ∙ bytes-after results (c .before .if4 .taken)
@@ -114,7 +114,7 @@ returns-6 c =
     let there = counted .before .before .before in
     let read = there .before in
     let tasks = tasks-read (read .before .before .pre) (read .read-tasks .ensures) (not-false _ (there .if1 .left)) in
-    let count = count-read tasks (counted .before .before .read-u16 .ensures) (counted .count .given .1) in
+    let count = count-read tasks (counted .before .before .read-u16 .ensures) (counted .number .given .1) in
     let fit = sym (judged .results-fit .ensures) ∙ not-false _ (fits .if2 .left) in
     let results = results-read count fit (granted .read-results .ensures) (not-false _ (whole .if3 .left)) in
     rw (c .before .new .ensures) (all-read results (ended .if4 .left))
@@ -127,7 +127,7 @@ read-rows-spec =
     refusing-requires
     returns
     read-u16-requires
-    enum-known-count
+    enum-known-number
     enum-told
     refusing-requires-2
     returns-2

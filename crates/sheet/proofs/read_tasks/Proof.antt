@@ -4,23 +4,22 @@ use mathlib.Core.Path.{_≡_, sym}
 use native.Mathlib.Omega.{arith}
 use lib.ListN.{length}
 use borrow.Author.Needs.{needs}
-use Rattle.kinds.specs.Task.{noTask}
-use Rattle.sheet.specs.Rows.{taskAt, rowsAt}
+use Rattle.sheet.specs.Rows.{taskAt, noTasks, rowsAt}
 use Rattle.sheet.specs.Sections.{taskSize}
-use Rattle.sheet.proofs.Padding.{padded-none}
+use Rattle.sheet.proofs.Padding.{over-none}
 use Rattle.sheet.proofs.RowFields.{task-got, task-missed, rows-more, tasks-there, tasks-missing}
 use Rattle.sheet.proofs.read_tasks.Statement.{statement}
 use Rattle.sheet.proofs.read_tasks.Tie as tie
 
 abbrev Inv-loop : tie.InvT-loop
 Inv-loop s from n rows₀ at₀ i₀ rows at i =
-    (i ≤ n) × ((at ≡ from + taskSize * i) × ((at ≤ length s) × (rows ≡ rowsAt noTask taskSize taskAt s from i)))
+    (i ≤ n) × ((at ≡ from + taskSize * i) × ((at ≤ length s) × (rows ≡ rowsAt noTasks taskSize taskAt s from i)))
 
 abbrev μ-loop : tie.MeasureT-loop
 μ-loop s from n rows₀ at₀ i₀ rows at i = n - i
 
 loop-holds : tie.Need-loop-holds Inv-loop μ-loop
-loop-holds c = (search needs, (omega arith, (search needs, sym (padded-none _ _))))
+loop-holds c = (search needs, (omega arith, (search needs, sym (over-none _ _))))
 
 read-task-requires : tie.Need-read-task-requires Inv-loop μ-loop
 read-task-requires c κs = search needs
@@ -52,7 +51,7 @@ loop-again : tie.Need-loop-again Inv-loop μ-loop
 loop-again c =
     let g = task-got _ _ _ _ _ (c .before .before .before .read-task .ensures) (c .before .row .given .1) in
     let inv = c .before .before .before .before .before .loop .inv in
-    (search needs, (omega arith, (omega arith, rows-more noTask taskSize taskAt _ _ _ _ _ _ (inv .1 .1 .1) (inv .1 .0) (g .is))))
+    (search needs, (omega arith, (omega arith, rows-more noTasks taskSize taskAt _ _ _ _ _ _ (inv .1 .1 .1) (inv .1 .0) (g .is))))
 
 returns-2 : tie.Need-returns-2 Inv-loop μ-loop
 returns-2 c =

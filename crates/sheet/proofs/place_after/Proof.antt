@@ -1,0 +1,19 @@
+-- `sheet::place_after` meets its contract. Assumes nothing.
+use borrow.Author.Needs.{needs}
+use Rattle.sheet.proofs.place_after.Statement.{statement}
+use Rattle.sheet.proofs.place_after.Tie as tie
+
+enum-known-head : tie.Need-enum-known-head
+enum-known-head c = search needs
+
+enum-told : tie.Need-enum-told
+enum-told c = search needs
+
+returns : tie.Need-returns
+returns c = rw (c .before .head .given .1)
+
+returns-2 : tie.Need-returns-2
+returns-2 c = search needs
+
+pub place-after-spec : {M : Type 1} → statement M
+place-after-spec = tie.close (tie.spec enum-known-head enum-told returns returns-2)
