@@ -6,30 +6,29 @@ use mathlib.Core.Path.{_≡_, refl}
 use native.Mathlib.Nat.{mul-zero, mul-suc, mul-le-mul-left}
 use native.Mathlib.Omega.{arith}
 use lib.ListN.{length}
-use Rattle.kinds.specs.Limits.{mostTasks}
 use Rattle.kinds.specs.Task.{noTask}
-use Rattle.kinds.specs.Policy.{policyOf, policyNumber}
-use Rattle.kinds.proofs.Policies.{number-back}
+use Rattle.kinds.specs.Settings.{fillIns, settingsOf}
+use Rattle.kinds.proofs.Numbers.{numbers-back}
 use Rattle.field.specs.Number.{Bytes, u16At, bytesOf}
 use Rattle.field.proofs.Parts.{Part, part-none, part-then, part-whole, number-stands}
-use Rattle.sheet.specs.Sections.{settingsCount, taskSize, grantedSize, settingsPlace, policyPlace, mPlace, tasksPlace, recordsPlace, resultsPlace, grantedPlace}
-use Rattle.sheet.specs.Rows.{taskAt, grantedAt, noGranted, rowsAt}
-use Rattle.sheet.specs.Reading.{taskCount, resultCount, endOf, settingsIn, sheetIn}
-use Rattle.sheet.proofs.Padding.{padded-in}
-use Rattle.sheet.proofs.Whole.{Whole, few-results}
+use Rattle.sheet.specs.Sections.{settingSize, taskSize, grantedSize, settingsPlace, numbersPlace, tasksPlace, recordsPlace, resultsPlace, grantedPlace}
+use Rattle.sheet.specs.Rows.{taskAt, grantedAt, noGranted, noTasks, noResults, rowsAt}
+use Rattle.sheet.specs.Reading.{settingsCount, taskCount, resultCount, endOf, numbersIn, sheetIn}
+use Rattle.sheet.proofs.Padding.{over-long, over-in}
+use Rattle.sheet.proofs.Whole.{Whole, few-settings, few-results}
 use Rattle.writer.specs.Encode.{taskBytes, grantedBytes, rowsBytes, settingsBytes, encode}
 
 -- rows that were read, where each stands in its own bytes
-module _ {A : Type 0} (bytes : A → List ℕ) (none : A) (size : ℕ) (rowAt : List ℕ → ℕ → A) (s : List ℕ)
-    (stands : (at : ℕ) → at + size ≤ length s → Part s at size (bytes (rowAt s at))) (from N : ℕ) (few : N ≤ mostTasks)
+module _ {A : Type 0} (bytes : A → List ℕ) (none : A) (rest : List A) (size : ℕ) (rowAt : List ℕ → ℕ → A) (s : List ℕ)
+    (stands : (at : ℕ) → at + size ≤ length s → Part s at size (bytes (rowAt s at))) (from N : ℕ) (few : N ≤ length rest)
     (within : from + size * N ≤ length s) where
-  rows-stand : (n : ℕ) → n ≤ N → Part s from (size * n) (rowsBytes bytes none (rowsAt none size rowAt s from N) n)
+  rows-stand : (n : ℕ) → n ≤ N → Part s from (size * n) (rowsBytes bytes none (rowsAt rest size rowAt s from N) n)
   unfolding rowsBytes
   rows-stand zero h = rw (mul-zero size) (part-none s from (omega arith))
   rows-stand (suc n) h =
       let i : size * suc n ≤ size * N = mul-le-mul-left size h in
       let m : size * suc n ≡ size * n + size = mul-suc size n in
-      let row = padded-in none (λ k. rowAt s (from + size * k)) N n h few in
+      let row = over-in rest (λ k. rowAt s (from + size * k)) none N n h few in
       rw (m, row) (part-then refl (rows-stand n (omega arith)) (stands (from + size * n) (omega arith)))
 
 module _ (s : List ℕ) (b : Bytes s) where
@@ -44,29 +43,40 @@ module _ (s : List ℕ) (b : Bytes s) where
   unfolding grantedBytes
   granted-stands at h = part-then refl (number-stands 4 s at b (omega arith)) (number-stands 2 s (at + 4) b (omega arith))
 
-  settings-stand : Whole s → Part s settingsPlace tasksPlace (settingsBytes (settingsIn s))
-  unfolding settingsBytes settingsIn
+  -- each count stands in its two bytes
+  tasks-counted : Whole s → Part s (tasksPlace (settingsCount s)) 2 (bytesOf 2 (taskCount s))
+  unfolding taskCount
+  tasks-counted w = let e = w .end in number-stands 2 s (tasksPlace (settingsCount s)) b (omega arith)
+
+  results-counted : Whole s → Part s (resultsPlace (settingsCount s) (taskCount s)) 2 (bytesOf 2 (resultCount s))
+  unfolding resultCount
+  results-counted w = let e = w .end in number-stands 2 s (resultsPlace (settingsCount s) (taskCount s)) b (omega arith)
+
+  settings-stand : Whole s → Part s settingsPlace (tasksPlace (settingsCount s)) (settingsBytes (settingsCount s) (settingsOf (numbersIn s)))
+  unfolding settingsBytes settingsCount
   settings-stand w =
       let e = w .end in
-      let two : Part s settingsPlace 2 (bytesOf 2 settingsCount) =
-      rw (w .two) at (number-stands 2 s settingsPlace b (omega arith)) in
-      let policy : Part s policyPlace 2 (bytesOf 2 (policyNumber (policyOf (u16At s policyPlace)))) =
-      rw (number-back (u16At s policyPlace)) (number-stands 2 s policyPlace b (omega arith)) in
-      part-then {n = 4} refl two (part-then refl policy (number-stands 2 s mPlace b (omega arith)))
+      let c = settingsCount s in
+      let few = few-settings w in
+      let numbers =
+      rows-stand (bytesOf settingSize) 0 fillIns settingSize u16At s (λ at h. number-stands 2 s at b h) numbersPlace c few (omega arith) c (omega arith) in
+      rw (numbers-back (numbersIn s) (over-long fillIns _ c))
+      (part-then refl (number-stands 2 s settingsPlace b (omega arith)) numbers)
 
   encoded : Whole s → Part s 0 (endOf s) (encode (sheetIn s))
   unfolding encode sheetIn
   encoded w =
       let e = w .end in
+      let c = settingsCount s in
       let n = taskCount s in
       let r = resultCount s in
       let few = few-results w in
-      let tasks = rows-stand taskBytes noTask taskSize taskAt s task-stands recordsPlace n (w .few) (omega arith) n (omega arith) in
-      let results = rows-stand grantedBytes noGranted grantedSize grantedAt s granted-stands (grantedPlace n) r few (omega arith) r (omega arith) in
-      let task-section = part-then refl (number-stands 2 s tasksPlace b (omega arith)) tasks in
-      let result-section = part-then refl (number-stands 2 s (resultsPlace n) b (omega arith)) results in
-      let size : tasksPlace + ((2 + taskSize * n) + (2 + grantedSize * r)) ≡ endOf s = omega arith in
-      rw (← size) (part-then refl (settings-stand w) (part-then (omega arith) task-section result-section))
+      let tasks = rows-stand taskBytes noTask noTasks taskSize taskAt s task-stands (recordsPlace c) n (w .few) (omega arith) n (omega arith) in
+      let results = rows-stand grantedBytes noGranted noResults grantedSize grantedAt s granted-stands (grantedPlace c n) r few (omega arith) r (omega arith) in
+      let task-section = part-then refl (tasks-counted w) tasks in
+      let result-section = part-then refl (results-counted w) results in
+      let size : tasksPlace c + ((2 + taskSize * n) + (2 + grantedSize * r)) ≡ endOf s = omega arith in
+      rw (← size) (part-then (omega arith) (settings-stand w) (part-then (omega arith) task-section result-section))
 
   -- document 01's sheet, read and written, is the same bytes
   pub back : Whole s → encode (sheetIn s) ≡ s

@@ -1,12 +1,13 @@
 -- The numbers of each row of an array fit their fields: the rule of the kind, which every value by its type has, said of the rows one by one.
 -- Assumes nothing.
-use Prim.Native.Nat.{ℕ, zero, suc}
+use Prim.Native.Nat.{ℕ, zero, suc, _<_}
 use mathlib.Core.List.{List, [], _∷_, map}
 use native.Mathlib.Omega.{arith}
 use lib.ListN.{getD}
 use mir.Val.{Val}
 use base.Fml.{Fml}
 use denote.Array.{each}
+use denote.Builtin.{u16}
 use denote.Shadow.{shadow}
 use denote.Struct.Declared.{field}
 use Rattle.kinds.specs.declared.Task.{Task}
@@ -14,6 +15,7 @@ use Rattle.kinds.proofs.Task as task-kind
 use Rattle.kinds.specs.declared.Granted.{Granted}
 use Rattle.kinds.proofs.Granted as granted-kind
 use Rattle.kinds.specs.Task.{noTask, at}
+use Rattle.field.specs.Number.{limit}
 use Rattle.sheet.specs.Rows.{noGranted}
 use Rattle.writer.specs.Canonical.{TaskHeld, GrantedHeld}
 
@@ -25,6 +27,13 @@ module _ {A D : Type 0} (own : D → List Val → Fml) (to : A → D) (P : A →
   each-at (x ∷ rows) [] s i = absurd s
   each-at (x ∷ rows) (u ∷ us) s zero = one x u (s .0)
   each-at (x ∷ rows) (u ∷ us) s (suc i) = each-at rows us (s .1) i
+
+-- the same of an array of numbers
+pub numbers-held : (rows : List ℕ) (us : List Val) → shadow (each ℕ (u16 .own) rows us) → (i : ℕ) → getD rows i 0 < limit 2
+numbers-held [] us s i = omega arith
+numbers-held (x ∷ rows) [] s i = absurd s
+numbers-held (x ∷ rows) (u ∷ us) s zero = s .0 .1
+numbers-held (x ∷ rows) (u ∷ us) s (suc i) = numbers-held rows us (s .1) i
 
 task-held : (t : Task) (u : Val) → shadow ((field task-kind.the-type) .row .own (task-kind.the-type .to t) (u ∷ [])) → TaskHeld t
 task-held t u s = record { c = s .1 .1 .0 .1; tmin = s .1 .1 .1 .0 .1; tmax = s .1 .1 .1 .1 .0 .1; e = s .1 .1 .1 .1 .1 .0 .1 }

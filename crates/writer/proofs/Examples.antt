@@ -1,8 +1,9 @@
--- Document 01's whole case, worked out over the definition: the bytes of its answer.
+-- Document 01's whole case, worked out over the definition: the bytes of its answer; and settings written up to their count.
 -- Assumes nothing.
 use mathlib.Core.List.{[], _∷_}
 use mathlib.Core.Path.{_≡_, refl}
 use Rattle.kinds.specs.declared.Policy.the-variants.{Pooled}
+use Rattle.kinds.specs.declared.Settings.{Settings}
 use Rattle.kinds.specs.Task.{task}
 use Rattle.field.specs.Number.{bytesOf}
 use Rattle.sheet.specs.Rows.{granted}
@@ -10,7 +11,8 @@ use Rattle.writer.specs.Encode.{taskBytes, grantedBytes, rowsBytes, sett
 
 whole-case : encode
     (record {
-      settings = record { policy = Pooled; m = 1 };
+      count = 2;
+      settings = record { policy = Pooled; m = 1; swap = 0 };
       table = record { rows = task 6 10 20 1000 ∷ []; n = 1 };
       results = record { rows = granted 10 0 ∷ []; n = 1 };
     })
@@ -18,3 +20,15 @@ whole-case : encode
     ∷ 1 ∷ 0 ∷ 10 ∷ 0 ∷ 0 ∷ 0 ∷ 0 ∷ 0 ∷ []
 unfolding encode settingsBytes rowsBytes taskBytes grantedBytes bytesOf
 whole-case = refl
+
+-- Ask 2: the writer "leaves out numbers past" the settings count
+swap : Settings
+swap = record { policy = Pooled; m = 1; swap = 7 }
+
+two-of-three : settingsBytes 2 swap ≡ 2 ∷ 0 ∷ 1 ∷ 0 ∷ 1 ∷ 0 ∷ []
+unfolding swap settingsBytes rowsBytes bytesOf
+two-of-three = refl
+
+all-three : settingsBytes 3 swap ≡ 3 ∷ 0 ∷ 1 ∷ 0 ∷ 1 ∷ 0 ∷ 7 ∷ 0 ∷ []
+unfolding swap settingsBytes rowsBytes bytesOf
+all-three = refl

@@ -13,19 +13,19 @@ use Rattle.kinds.specs.declared.Granted.{Granted}
 use Rattle.kinds.specs.declared.Sheet.{Sheet}
 use Rattle.kinds.specs.Limits.{mostTasks}
 use Rattle.kinds.specs.Task.{noTask, at}
-use Rattle.kinds.specs.Policy.{policyOf, policyNumber}
+use Rattle.kinds.specs.Settings.{fillIns, settingsOf, numbersOf}
 use Rattle.kinds.specs.Answer.{accepted}
-use Rattle.field.specs.Number.{u16At, u32At, bytesOf}
+use Rattle.field.specs.Number.{u16At, u32At, bytesOf, limit}
 use Rattle.field.proofs.Numbers.{bytes-long}
 use Rattle.field.proofs.Parts.{Part, part-all, part-left, part-right, part-number}
-use Rattle.sheet.specs.Sections.{settingsCount, taskSize, grantedSize, settingsPlace, policyPlace, mPlace, tasksPlace, recordsPlace, resultsPlace, grantedPlace, resultsFit}
-use Rattle.sheet.specs.Rows.{taskAt, grantedAt, noGranted, paddedRows, rowsAt}
-use Rattle.sheet.specs.Reading.{taskCount, resultCount, settingsIn, sheetIn, readSheet}
-use Rattle.sheet.proofs.Padding.{padded-cong}
-use Rattle.sheet.proofs.Stages.{fits-few}
+use Rattle.sheet.specs.Sections.{settingSize, taskSize, grantedSize, settingsPlace, numbersPlace, tasksPlace, recordsPlace, resultsPlace, grantedPlace, settingsFit, resultsFit}
+use Rattle.sheet.specs.Rows.{taskAt, grantedAt, noGranted, noTasks, noResults, over, paddedRows, rowsAt}
+use Rattle.sheet.specs.Reading.{settingsCount, taskCount, resultCount, numbersIn, tasksIn, resultsIn, sheetIn, readSheet}
+use Rattle.sheet.proofs.Padding.{over-cong}
+use Rattle.sheet.proofs.Stages.{settings-few, fits-few}
 use Rattle.sheet.proofs.Whole.{Whole, whole-accepted}
-use Rattle.writer.specs.Encode.{taskBytes, grantedBytes, rowsBytes, tasksBytes, resultsBytes, settingsBytes, encode, lengthOf}
-use Rattle.writer.specs.Canonical.{grantedIn, canonical, TaskHeld, GrantedHeld, SheetHeld}
+use Rattle.writer.specs.Encode.{taskBytes, grantedBytes, rowsBytes, numbersBytes, tasksBytes, resultsBytes, settingsBytes, encode, lengthOf}
+use Rattle.writer.specs.Canonical.{settingIn, grantedIn, canonical, TaskHeld, GrantedHeld, SheetHeld}
 use Rattle.writer.proofs.Rows.{task-long, granted-long, settings-long, rows-long, tasks-long, encode-long}
 
 -- a row whose bytes stand at a place is read there
@@ -72,13 +72,25 @@ module _ {A : Type 0} (bytes : A → List ℕ) (none : A) (size : ℕ) (rows : L
       by-le n i (λ h. let e : i ≡ n = omega arith in rw e (part-right (size * n) size front last fl q)) below
 
   -- and so the rows are read as they were
-  rows-back : (rowAt : List ℕ → ℕ → A) (n : ℕ) → n ≤ mostTasks
+  rows-back : (rest : List A) (rowAt : List ℕ → ℕ → A) (n : ℕ)
       → ((i place : ℕ) → Part s place size (bytes (getD rows i none)) → rowAt s place ≡ getD rows i none)
-      → Part s from (size * n) (rowsBytes bytes none rows n) → rowsAt none size rowAt s from n ≡ paddedRows none (λ i. getD rows i none) n
-  rows-back rowAt n few one p =
-      padded-cong none (λ i. rowAt s (from + size * i)) (λ i. getD rows i none) n few (λ i l. one i (from + size * i) (row-stands n i l p))
+      → Part s from (size * n) (rowsBytes bytes none rows n) → rowsAt rest size rowAt s from n ≡ over rest (λ i. getD rows i none) n
+  rows-back rest rowAt n one p =
+      over-cong rest (λ i. rowAt s (from + size * i)) (λ i. getD rows i none) n (λ i l. one i (from + size * i) (row-stands n i l p))
 
--- the parts of a written sheet
+-- of a section whose bytes stand at a place, the count is read there, and the rows after it
+module _ {A : Type 0} (bytes : A → List ℕ) (none : A) (size : ℕ) (long : (a : A) → length (bytes a) ≡ size) (rows : List A) (n : ℕ)
+    {s : List ℕ} {place : ℕ} (p : Part s place (2 + size * n) (bytesOf 2 n ++ rowsBytes bytes none rows n)) where
+  count-back : n < limit 2 → u16At s place ≡ n
+  count-back few = part-number 2 n few (part-left 2 (size * n) (bytesOf 2 n) (rowsBytes bytes none rows n) (bytes-long 2 n) p)
+
+  section-back : (rest : List A) (rowAt : List ℕ → ℕ → A)
+      → ((i place : ℕ) → Part s place size (bytes (getD rows i none)) → rowAt s place ≡ getD rows i none)
+      → rowsAt rest size rowAt s (place + 2) n ≡ over rest (λ i. getD rows i none) n
+  section-back rest rowAt one =
+      rows-back bytes none size rows long rest rowAt n one (part-right 2 (size * n) (bytesOf 2 n) (rowsBytes bytes none rows n) (bytes-long 2 n) p)
+
+-- the sections of a written sheet
 module _ (x : Sheet) (s : List ℕ) (p : Part s 0 (lengthOf x) (encode x)) where
   task-section : List ℕ
   task-section = bytesOf 2 (x .table .n) ++ tasksBytes (x .table .rows) (x .table .n)
@@ -86,121 +98,115 @@ module _ (x : Sheet) (s : List ℕ) (p : Part s 0 (lengthOf x) (encode x)) where
   result-section : List ℕ
   result-section = bytesOf 2 (x .results .n) ++ resultsBytes (x .results .rows) (x .results .n)
 
-  all : Part s 0 (tasksPlace + ((2 + taskSize * x .table .n) + (2 + grantedSize * x .results .n)))
-      (settingsBytes (x .settings) ++ (task-section ++ result-section))
-  unfolding encode task-section result-section
-  all =
-      let size : lengthOf x ≡ tasksPlace + ((2 + taskSize * x .table .n) + (2 + grantedSize * x .results .n)) = omega arith in
-      rw size at p
+  -- how many bytes they take
+  abbrev tasks-size : ℕ
+  tasks-size = 2 + taskSize * x .table .n
 
-  task-section-long : length task-section ≡ 2 + taskSize * x .table .n
+  abbrev results-size : ℕ
+  results-size = 2 + grantedSize * x .results .n
+
+  settings-section : List ℕ
+  settings-section = settingsBytes (x .count) (x .settings)
+
+  all : Part s 0 (tasksPlace (x .count) + (tasks-size + results-size)) (settings-section ++ (task-section ++ result-section))
+  unfolding encode settings-section task-section result-section
+  all = let size : lengthOf x ≡ tasksPlace (x .count) + (tasks-size + results-size) = omega arith in rw size at p
+
+  settings-section-long : length settings-section ≡ tasksPlace (x .count)
+  unfolding settings-section
+  settings-section-long = settings-long (x .count) (x .settings)
+
+  task-section-long : length task-section ≡ tasks-size
   unfolding task-section
   task-section-long = simp (length-append, bytes-long, tasks-long)
 
-  settings-part : Part s 0 tasksPlace (settingsBytes (x .settings))
+  settings-part : Part s settingsPlace (2 + settingSize * x .count) (bytesOf 2 (x .count) ++ numbersBytes (numbersOf (x .settings)) (x .count))
+  unfolding settings-section settingsBytes
   settings-part =
-      part-left tasksPlace ((2 + taskSize * x .table .n) + (2 + grantedSize * x .results .n)) (settingsBytes (x .settings)) (task-section ++ result-section)
-      (settings-long (x .settings)) all
+      part-left (tasksPlace (x .count)) (tasks-size + results-size) settings-section (task-section ++ result-section) settings-section-long all
 
-  sections-part : Part s tasksPlace ((2 + taskSize * x .table .n) + (2 + grantedSize * x .results .n)) (task-section ++ result-section)
+  sections-part : Part s (tasksPlace (x .count)) (tasks-size + results-size) (task-section ++ result-section)
   sections-part =
-      part-right tasksPlace ((2 + taskSize * x .table .n) + (2 + grantedSize * x .results .n)) (settingsBytes (x .settings)) (task-section ++ result-section)
-      (settings-long (x .settings)) all
+      let place : 0 + tasksPlace (x .count) ≡ tasksPlace (x .count) = omega arith in
+      rw place
+      at (part-right (tasksPlace (x .count)) (tasks-size + results-size) settings-section (task-section ++ result-section) settings-section-long all)
 
-  tasks-part : Part s tasksPlace (2 + taskSize * x .table .n) task-section
-  tasks-part =
-      part-left (2 + taskSize * x .table .n) (2 + grantedSize * x .results .n) task-section result-section task-section-long sections-part
+  tasks-part : Part s (tasksPlace (x .count)) tasks-size (bytesOf 2 (x .table .n) ++ tasksBytes (x .table .rows) (x .table .n))
+  unfolding task-section
+  tasks-part = part-left tasks-size results-size task-section result-section task-section-long sections-part
 
-  results-part : Part s (resultsPlace (x .table .n)) (2 + grantedSize * x .results .n) result-section
+  results-part : Part s (resultsPlace (x .count) (x .table .n)) results-size (bytesOf 2 (x .results .n) ++ resultsBytes (x .results .rows) (x .results .n))
+  unfolding result-section
   results-part =
-      let place : tasksPlace + (2 + taskSize * x .table .n) ≡ resultsPlace (x .table .n) = omega arith in
-      rw place at (part-right (2 + taskSize * x .table .n) (2 + grantedSize * x .results .n) task-section result-section task-section-long sections-part)
+      let place : tasksPlace (x .count) + tasks-size ≡ resultsPlace (x .count) (x .table .n) = omega arith in
+      rw place at (part-right tasks-size results-size task-section result-section task-section-long sections-part)
 
-  -- the settings as they are read
-  module _ (h : SheetHeld x) where
-    count-read : u16At s settingsPlace ≡ settingsCount
-    unfolding settingsBytes
-    count-read =
-        part-number 2 settingsCount (omega arith)
-        (part-left 2 4 (bytesOf 2 settingsCount) (bytesOf 2 (policyNumber (x .settings .policy)) ++ bytesOf 2 (x .settings .m))
-        (bytes-long 2 settingsCount) settings-part)
+  -- as they are read
+  module _ (h : SheetHeld x) (taken : settingsFit (x .count) ≡ true) (few : x .table .n ≤ mostTasks)
+      (fit : resultsFit (x .results .n) (x .table .n) ≡ true) where
+    settings-counted : settingsCount s ≡ x .count
+    unfolding settingsCount
+    settings-counted =
+        let most = settings-few (x .count) taken in
+        count-back (bytesOf settingSize) 0 settingSize (bytes-long settingSize) (numbersOf (x .settings)) (x .count) settings-part (omega arith)
 
-    settings-parts : Part s policyPlace (2 + 2) (bytesOf 2 (policyNumber (x .settings .policy)) ++ bytesOf 2 (x .settings .m))
-    unfolding settingsBytes
-    settings-parts =
-        part-right 2 4 (bytesOf 2 settingsCount) (bytesOf 2 (policyNumber (x .settings .policy)) ++ bytesOf 2 (x .settings .m))
-        (bytes-long 2 settingsCount) settings-part
+    tasks-counted : taskCount s ≡ x .table .n
+    unfolding taskCount
+    tasks-counted =
+        ap (λ (c : ℕ). u16At s (tasksPlace c)) settings-counted
+        ∙ count-back taskBytes noTask taskSize task-long (x .table .rows) (x .table .n) tasks-part (omega arith)
 
-    policy-read : u16At s policyPlace ≡ policyNumber (x .settings .policy)
-    policy-read =
-        part-number 2 (policyNumber (x .settings .policy)) (h .policy)
-        (part-left 2 2 (bytesOf 2 (policyNumber (x .settings .policy))) (bytesOf 2 (x .settings .m))
-        (bytes-long 2 (policyNumber (x .settings .policy))) settings-parts)
+    results-counted : resultCount s ≡ x .results .n
+    unfolding resultCount
+    results-counted =
+        let less = fits-few (x .results .n) (x .table .n) fit in
+        ap (λ (c : ℕ). u16At s (resultsPlace c (taskCount s))) settings-counted
+        ∙ (ap (λ (n : ℕ). u16At s (resultsPlace (x .count) n)) tasks-counted
+        ∙ count-back grantedBytes noGranted grantedSize granted-long (x .results .rows) (x .results .n) results-part (omega arith))
 
-    m-read : u16At s mPlace ≡ x .settings .m
-    m-read =
-        part-number 2 (x .settings .m) (h .m)
-        (part-right 2 2 (bytesOf 2 (policyNumber (x .settings .policy))) (bytesOf 2 (x .settings .m))
-        (bytes-long 2 (policyNumber (x .settings .policy))) settings-parts)
+    numbers-read : numbersIn s ≡ over fillIns (settingIn x) (x .count)
+    numbers-read =
+        ap (rowsAt fillIns settingSize u16At s numbersPlace) settings-counted
+        ∙ section-back (bytesOf settingSize) 0 settingSize (bytes-long settingSize) (numbersOf (x .settings)) (x .count) settings-part fillIns u16At
+        (λ i place q. part-number settingSize (settingIn x i) (h .settings i) q)
 
-    -- the sections as they are read
-    module _ (few : x .table .n ≤ mostTasks) (fit : resultsFit (x .results .n) (x .table .n) ≡ true) where
-      few-granted : x .results .n ≤ mostTasks
-      few-granted = let less = fits-few (x .results .n) (x .table .n) fit in omega arith
+    tasks-read : tasksIn s ≡ paddedRows noTask (at (x .table .rows)) (x .table .n)
+    tasks-read =
+        ap (λ (c : ℕ). rowsAt noTasks taskSize taskAt s (recordsPlace c) (taskCount s)) settings-counted
+        ∙ (ap (rowsAt noTasks taskSize taskAt s (recordsPlace (x .count))) tasks-counted
+        ∙ section-back taskBytes noTask taskSize task-long (x .table .rows) (x .table .n) tasks-part noTasks taskAt
+        (λ i place q. task-back (at (x .table .rows) i) (h .tasks i) q))
 
-      tasks-counted : taskCount s ≡ x .table .n
-      unfolding task-section
-      tasks-counted =
-          part-number 2 (x .table .n) (omega arith)
-          (part-left 2 (taskSize * x .table .n) (bytesOf 2 (x .table .n)) (tasksBytes (x .table .rows) (x .table .n)) (bytes-long 2 (x .table .n)) tasks-part)
+    results-read : resultsIn s ≡ paddedRows noGranted (grantedIn x) (x .results .n)
+    results-read =
+        ap (λ (c : ℕ). rowsAt noResults grantedSize grantedAt s (grantedPlace c (taskCount s)) (resultCount s)) settings-counted
+        ∙ (ap (λ (n : ℕ). rowsAt noResults grantedSize grantedAt s (grantedPlace (x .count) n) (resultCount s)) tasks-counted
+        ∙ (ap (rowsAt noResults grantedSize grantedAt s (grantedPlace (x .count) (x .table .n))) results-counted
+        ∙ section-back grantedBytes noGranted grantedSize granted-long (x .results .rows) (x .results .n) results-part noResults grantedAt
+        (λ i place q. granted-back (grantedIn x i) (h .results i) q)))
 
-      tasks-read : rowsAt noTask taskSize taskAt s recordsPlace (taskCount s) ≡ paddedRows noTask (at (x .table .rows)) (x .table .n)
-      unfolding task-section
-      tasks-read =
-          ap (rowsAt noTask taskSize taskAt s recordsPlace) tasks-counted
-          ∙ rows-back taskBytes noTask taskSize (x .table .rows) task-long taskAt (x .table .n) few
-          (λ i place q. task-back (at (x .table .rows) i) (h .tasks i) q)
-          (part-right 2 (taskSize * x .table .n) (bytesOf 2 (x .table .n)) (tasksBytes (x .table .rows) (x .table .n)) (bytes-long 2 (x .table .n)) tasks-part)
+    sheet-read : sheetIn s ≡ canonical x
+    unfolding sheetIn canonical
+    sheet-read =
+        λ i.
+        record {
+          count = settings-counted i;
+          settings = settingsOf (numbers-read i);
+          table = record { rows = tasks-read i; n = tasks-counted i };
+          results = record { rows = results-read i; n = results-counted i };
+        }
 
-      results-counted : resultCount s ≡ x .results .n
-      unfolding result-section
-      results-counted =
-          let less = few-granted in
-          ap (λ (n : ℕ). u16At s (resultsPlace n)) tasks-counted
-          ∙ part-number 2 (x .results .n) (omega arith)
-          (part-left 2 (grantedSize * x .results .n) (bytesOf 2 (x .results .n)) (resultsBytes (x .results .rows) (x .results .n))
-          (bytes-long 2 (x .results .n)) results-part)
-
-      results-read : rowsAt noGranted grantedSize grantedAt s (grantedPlace (taskCount s)) (resultCount s) ≡ paddedRows noGranted (grantedIn x) (x .results .n)
-      unfolding result-section
-      results-read =
-          ap (λ (n : ℕ). rowsAt noGranted grantedSize grantedAt s (grantedPlace n) (resultCount s)) tasks-counted
-          ∙ (ap (rowsAt noGranted grantedSize grantedAt s (grantedPlace (x .table .n))) results-counted
-          ∙ rows-back grantedBytes noGranted grantedSize (x .results .rows) granted-long grantedAt (x .results .n) few-granted
-          (λ i place q. granted-back (grantedIn x i) (h .results i) q)
-          (part-right 2 (grantedSize * x .results .n) (bytesOf 2 (x .results .n)) (resultsBytes (x .results .rows) (x .results .n))
-          (bytes-long 2 (x .results .n)) results-part))
-
-      sheet-read : sheetIn s ≡ canonical x
-      unfolding sheetIn settingsIn canonical
-      sheet-read =
-          λ i.
-          record {
-            settings = record { policy = policyOf (policy-read i); m = m-read i };
-            table = record { rows = tasks-read i; n = tasks-counted i };
-            results = record { rows = results-read i; n = results-counted i };
-          }
-
-      is-whole : lengthOf x ≡ length s → Whole s
-      is-whole end =
-          let n = tasks-counted in
-          let r = results-counted in
-          record { two = count-read; few = omega arith; fit = rw (r, n) fit; end = omega arith }
+    is-whole : lengthOf x ≡ length s → Whole s
+    is-whole end =
+        let c = settings-counted in
+        let n = tasks-counted in
+        let r = results-counted in
+        record { settings = rw c taken; few = omega arith; fit = rw (r, n) fit; end = omega arith }
 
 -- document 01's sheet, written and read, is its canonical form
-pub forth : (x : Sheet) → SheetHeld x → x .table .n ≤ mostTasks → resultsFit (x .results .n) (x .table .n) ≡ true
+pub forth : (x : Sheet) → SheetHeld x → settingsFit (x .count) ≡ true → x .table .n ≤ mostTasks → resultsFit (x .results .n) (x .table .n) ≡ true
     → readSheet (encode x) ≡ accepted (canonical x)
-forth x h few fit =
+forth x h taken few fit =
     let p : Part (encode x) 0 (lengthOf x) (encode x) = rw (encode-long x) at (part-all (encode x)) in
-    whole-accepted (encode x) (is-whole x (encode x) p h few fit (sym (encode-long x)))
-    ∙ ap accepted (sheet-read x (encode x) p h few fit)
+    whole-accepted (encode x) (is-whole x (encode x) p h taken few fit (sym (encode-long x)))
+    ∙ ap accepted (sheet-read x (encode x) p h taken few fit)

@@ -9,23 +9,24 @@ use lib.Seq.{take-at}
 use Rattle.kinds.specs.declared.Task.{Task}
 use Rattle.kinds.specs.declared.Granted.{Granted}
 use Rattle.kinds.specs.declared.Sheet.{Sheet}
-use Rattle.kinds.specs.Limits.{mostTasks}
+use Rattle.kinds.specs.Limits.{mostSettings, mostTasks}
 use Rattle.kinds.specs.Task.{noTask, at}
-use Rattle.kinds.specs.Policy.{policyOf, meant}
+use Rattle.kinds.specs.Policy.{meant}
+use Rattle.kinds.specs.Settings.{fillIns, setting, settingsOf, numbersOf}
 use Rattle.kinds.specs.Answer.{accepted}
-use Rattle.kinds.proofs.Policies.{number-back}
+use Rattle.kinds.proofs.Numbers.{numbers-back, settings-back, meant-of}
 use Rattle.field.specs.Number.{Bytes, u16At}
-use Rattle.sheet.specs.Sections.{taskSize, grantedSize, policyPlace, recordsPlace, grantedPlace, resultsFit}
-use Rattle.sheet.specs.Rows.{noGranted, taskAt, grantedAt}
-use Rattle.sheet.specs.Reading.{taskCount, resultCount, settingsIn, sheetIn, readSheet}
-use Rattle.sheet.proofs.Padding.{padded-long, padded-is, padded-out}
-use Rattle.sheet.proofs.Whole.{whole, few-results}
+use Rattle.sheet.specs.Sections.{settingSize, taskSize, grantedSize, numbersPlace, recordsPlace, grantedPlace, settingsFit, resultsFit}
+use Rattle.sheet.specs.Rows.{noGranted, taskAt, grantedAt, over}
+use Rattle.sheet.specs.Reading.{settingsCount, taskCount, resultCount, numbersIn, sheetIn, readSheet}
+use Rattle.sheet.proofs.Padding.{over-long, over-out, over-is, padded-long, padded-is, padded-out}
+use Rattle.sheet.proofs.Whole.{whole, few-settings, few-results}
 use Rattle.kinds.specs.declared.Counted.{Counted}
 use Rattle.kinds.specs.declared.Counted.the-variants as counted
 use Rattle.kinds.proofs.Answers.{count-one}
 use Rattle.writer.specs.Encode.{encode, lengthOf}
 use Rattle.writer.specs.Writing.{writeSheet, Writes}
-use Rattle.writer.specs.Canonical.{grantedIn, canonical, SheetHeld}
+use Rattle.writer.specs.Canonical.{settingIn, grantedIn, canonical, SheetHeld}
 use Rattle.writer.proofs.Rows.{encode-long}
 use Rattle.writer.proofs.Answers.{accepts, accepted-after, write-accepts}
 use Rattle.writer.proofs.Back.{back}
@@ -46,9 +47,10 @@ module _ (s : List ℕ) (bytes : Bytes s) (x : Sheet) (e : readSheet s ≡ accep
   read-write old new r p room =
       let w = whole s x e in
       let l = read-length in
+      let taken = ap (λ (y : Sheet). settingsFit (y .count)) (w .1) ∙ w .0 .settings in
       let few : x .table .n ≤ mostTasks = rw (ap (λ (y : Sheet). y .table .n) (w .1)) (w .0 .few) in
       let fit = ap (λ (y : Sheet). resultsFit (y .results .n) (y .table .n)) (w .1) ∙ w .0 .fit in
-      let a : writeSheet x (length old) ≡ accepted (lengthOf x) = write-accepts x (length old) few fit (omega arith) in (
+      let a : writeSheet x (length old) ≡ accepted (lengthOf x) = write-accepts x (length old) taken few fit (omega arith) in (
         count-one r (counted.Count (length s)) (p .answer ∙ (a ∙ ap accepted l)),
         p .buffer ∙ (accepted-after x old (lengthOf x) a ∙ rw (read-encode, l)),
       )
@@ -59,25 +61,29 @@ write-read x h old new k p =
     let a = accepts x (length old) k (sym (p .answer)) in
     let front : take k new ≡ encode x =
     ap (take k) (p .buffer ∙ accepted-after x old k (sym (p .answer))) ∙ take-at (encode x) (drop (lengthOf x) old) k (encode-long x ∙ sym (a .is)) in
-    ap readSheet front ∙ forth x h (a .few) (a .fit)
+    ap readSheet front ∙ forth x h (a .settings) (a .few) (a .fit)
 
--- its policy is the one meant, and its unused places are zeros
+-- its policy is the one meant, its numbers past the settings count are those that are filled in, and its unused places are zeros
 pub record Canonical (x : Sheet) : Type 0 where
   pub policy-meant : meant (x .settings .policy) ≡ x .settings .policy
+  pub settings-unused : (i : ℕ) → x .count ≤ i → settingIn x i ≡ setting fillIns i
   pub tasks-unused : (i : ℕ) → x .table .n ≤ i → at (x .table .rows) i ≡ noTask
   pub results-unused : (i : ℕ) → x .results .n ≤ i → grantedIn x i ≡ noGranted
 
 -- exactly then a sheet is its own canonical form
-pub canonical-same : (x : Sheet) → length (x .table .rows) ≡ mostTasks → length (x .results .rows) ≡ mostTasks → x .table .n ≤ mostTasks
-    → x .results .n ≤ mostTasks
+pub canonical-same : (x : Sheet) → length (x .table .rows) ≡ mostTasks → length (x .results .rows) ≡ mostTasks → x .count ≤ mostSettings
+    → x .table .n ≤ mostTasks → x .results .n ≤ mostTasks
     → Canonical x → canonical x ≡ x
 unfolding canonical
-canonical-same x room room′ few few′ c =
+canonical-same x room room′ most few few′ c =
+    let numbers = over-is fillIns (settingIn x) 0 (x .count) (numbersOf (x .settings)) most refl (λ i l. refl) (c .settings-unused) in
+    let settings = ap settingsOf numbers ∙ settings-back (x .settings) (c .policy-meant) in
     let tasks = padded-is noTask (at (x .table .rows)) (x .table .n) (x .table .rows) few room (λ i l. refl) (c .tasks-unused) in
     let results = padded-is noGranted (grantedIn x) (x .results .n) (x .results .rows) few′ room′ (λ i l. refl) (c .results-unused) in
     λ i.
     record {
-      settings = record { policy = c .policy-meant i; m = x .settings .m };
+      count = x .count;
+      settings = settings i;
       table = record { rows = tasks i; n = x .table .n };
       results = record { rows = results i; n = x .results .n };
     }
@@ -85,27 +91,36 @@ canonical-same x room room′ few few′ c =
 pub same-canonical : (x : Sheet) → canonical x ≡ x → Canonical x
 unfolding canonical
 same-canonical x e =
+    let numbers = over fillIns (settingIn x) (x .count) in
+    let policy = ap (λ (y : Sheet). y .settings .policy) e in
+    let back = numbers-back numbers (over-long fillIns (settingIn x) (x .count)) in
     record {
-      policy-meant = ap (λ (y : Sheet). y .settings .policy) e;
+      policy-meant = ap meant (sym policy) ∙ (meant-of numbers ∙ policy);
+      settings-unused = λ i l.
+          sym (ap (λ (y : Sheet). settingIn y i) e) ∙ (ap (λ (k : List ℕ). setting k i) back ∙ over-out fillIns (settingIn x) 0 (x .count) i l);
       tasks-unused = λ i l. sym (ap (λ (y : Sheet). at (y .table .rows) i) e) ∙ padded-out noTask (at (x .table .rows)) (x .table .n) i l;
       results-unused = λ i l. sym (ap (λ (y : Sheet). grantedIn y i) e) ∙ padded-out noGranted (grantedIn x) (x .results .n) i l;
     }
 
 -- a sheet that was read is its own canonical form
 pub read-canonical : (s : List ℕ) (x : Sheet) → readSheet s ≡ accepted x → canonical x ≡ x
-unfolding sheetIn settingsIn
+unfolding sheetIn
 read-canonical s x e =
     let w = whole s x e in
-    let tasks : ℕ → Task = λ i. taskAt s (recordsPlace + taskSize * i) in
-    let results : ℕ → Granted = λ i. grantedAt s (grantedPlace (taskCount s) + grantedSize * i) in
+    let c = settingsCount s in
+    let numbers : ℕ → ℕ = λ i. u16At s (numbersPlace + settingSize * i) in
+    let tasks : ℕ → Task = λ i. taskAt s (recordsPlace c + taskSize * i) in
+    let results : ℕ → Granted = λ i. grantedAt s (grantedPlace c (taskCount s) + grantedSize * i) in
     rw (w .1)
     (canonical-same (sheetIn s)
     (padded-long noTask tasks (taskCount s))
     (padded-long noGranted results (resultCount s))
+    (few-settings (w .0))
     (w .0 .few)
     (few-results (w .0))
     (record {
-      policy-meant = ap policyOf (number-back (u16At s policyPlace));
+      policy-meant = meant-of (numbersIn s);
+      settings-unused = λ i l. ap (λ (k : List ℕ). setting k i) (numbers-back (numbersIn s) (over-long fillIns numbers c)) ∙ over-out fillIns numbers 0 c i l;
       tasks-unused = padded-out noTask tasks (taskCount s);
       results-unused = padded-out noGranted results (resultCount s);
     }))

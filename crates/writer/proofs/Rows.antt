@@ -12,12 +12,13 @@ use Rattle.kinds.specs.declared.Granted.{Granted}
 use Rattle.kinds.specs.declared.Settings.{Settings}
 use Rattle.kinds.specs.declared.Sheet.{Sheet}
 use Rattle.kinds.specs.Task.{noTask}
+use Rattle.field.specs.Number.{bytesOf}
 use Rattle.field.specs.Handover.{Put}
 use Rattle.field.proofs.Numbers.{bytes-long}
 use Rattle.field.proofs.Stores.{put-none, put-then}
-use Rattle.sheet.specs.Sections.{taskSize, grantedSize, tasksPlace}
+use Rattle.sheet.specs.Sections.{settingSize, taskSize, grantedSize, tasksPlace}
 use Rattle.sheet.specs.Rows.{noGranted}
-use Rattle.writer.specs.Encode.{taskBytes, grantedBytes, rowsBytes, tasksBytes, resultsBytes, settingsBytes, encode, lengthOf}
+use Rattle.writer.specs.Encode.{taskBytes, grantedBytes, rowsBytes, numbersBytes, tasksBytes, resultsBytes, settingsBytes, encode, lengthOf}
 
 pub task-long : (t : Task) → length (taskBytes t) ≡ taskSize
 unfolding taskBytes
@@ -26,10 +27,6 @@ task-long t = simp (length-append, bytes-long)
 pub granted-long : (g : Granted) → length (grantedBytes g) ≡ grantedSize
 unfolding grantedBytes
 granted-long g = simp (length-append, bytes-long)
-
-pub settings-long : (st : Settings) → length (settingsBytes st) ≡ tasksPlace
-unfolding settingsBytes
-settings-long st = simp (length-append, bytes-long)
 
 module _ {A : Type 0} (bytes : A → List ℕ) (none : A) (size : ℕ) (rows : List A) where
   pub rows-long : ((a : A) → length (bytes a) ≡ size) → (n : ℕ) → length (rowsBytes bytes none rows n) ≡ size * n
@@ -48,6 +45,13 @@ module _ {A : Type 0} (bytes : A → List ℕ) (none : A) (size : ℕ) (rows : L
       → Put mid at size (bytes (getD rows i none)) next new → Put out from (size * (i + 1)) (rowsBytes bytes none rows (i + 1)) next new
   unfolding rowsBytes
   put-row i p q = rw (add-one i) (rw (mul-suc size i) (put-then p q))
+
+pub numbers-long : (numbers : List ℕ) (n : ℕ) → length (numbersBytes numbers n) ≡ settingSize * n
+numbers-long numbers n = rows-long (bytesOf settingSize) 0 settingSize numbers (bytes-long settingSize) n
+
+pub settings-long : (count : ℕ) (st : Settings) → length (settingsBytes count st) ≡ tasksPlace count
+unfolding settingsBytes
+settings-long count st = simp (length-append, bytes-long, numbers-long)
 
 pub tasks-long : (rows : List Task) (n : ℕ) → length (tasksBytes rows n) ≡ taskSize * n
 tasks-long rows n = rows-long taskBytes noTask taskSize rows task-long n

@@ -8,18 +8,23 @@ use Rattle.kinds.specs.declared.Granted.{Granted}
 use Rattle.kinds.specs.declared.Sheet.{Sheet}
 use Rattle.kinds.specs.Limits.{mostTasks}
 use Rattle.kinds.specs.Task.{noTask, at}
-use Rattle.kinds.specs.Policy.{policyNumber, meant}
+use Rattle.kinds.specs.Settings.{fillIns, setting, settingsOf, numbersOf}
 use Rattle.field.specs.Number.{limit}
-use Rattle.sheet.specs.Rows.{noGranted, paddedRows}
+use Rattle.sheet.specs.Sections.{settingSize}
+use Rattle.sheet.specs.Rows.{noGranted, over, paddedRows}
+
+abbrev pub settingIn : Sheet → ℕ → ℕ
+settingIn x i = setting (numbersOf (x .settings)) i
 
 abbrev pub grantedIn : Sheet → ℕ → Granted
 grantedIn x i = getD (x .results .rows) i noGranted
 
--- a further choice that holds 1 to 4 is that policy, and the unused places are zeros
+-- a further choice that holds 1 to 5 is that policy, numbers past the settings count are filled in, and the unused places are zeros
 unfoldable pub canonical : Sheet → Sheet
 canonical x =
     record {
-      settings = record { policy = meant (x .settings .policy); m = x .settings .m };
+      count = x .count;
+      settings = settingsOf (over fillIns (settingIn x) (x .count));
       table = record { rows = paddedRows noTask (at (x .table .rows)) (x .table .n); n = x .table .n };
       results = record { rows = paddedRows noGranted (grantedIn x) (x .results .n); n = x .results .n };
     }
@@ -37,8 +42,7 @@ pub record GrantedHeld (g : Granted) : Type 0 where
 
 -- and its tables have room for the most tasks
 pub record SheetHeld (x : Sheet) : Type 0 where
-  pub policy : policyNumber (x .settings .policy) < limit 2
-  pub m : x .settings .m < limit 2
+  pub settings : (i : ℕ) → settingIn x i < limit settingSize
   pub tasks : (i : ℕ) → TaskHeld (at (x .table .rows) i)
   pub tasks-room : length (x .table .rows) ≡ mostTasks
   pub results : (i : ℕ) → GrantedHeld (grantedIn x i)

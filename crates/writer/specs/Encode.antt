@@ -8,9 +8,9 @@ use Rattle.kinds.specs.declared.Granted.{Granted}
 use Rattle.kinds.specs.declared.Settings.{Settings}
 use Rattle.kinds.specs.declared.Sheet.{Sheet}
 use Rattle.kinds.specs.Task.{noTask}
-use Rattle.kinds.specs.Policy.{policyNumber}
+use Rattle.kinds.specs.Settings.{numbersOf}
 use Rattle.field.specs.Number.{bytesOf}
-use Rattle.sheet.specs.Sections.{settingsCount, endPlace}
+use Rattle.sheet.specs.Sections.{settingSize, endPlace}
 use Rattle.sheet.specs.Rows.{noGranted}
 
 -- "C, Tmin, Tmax, E, 4 bytes each"
@@ -32,16 +32,19 @@ tasksBytes rows n = rowsBytes taskBytes noTask rows n
 abbrev pub resultsBytes : List Granted → ℕ → List ℕ
 resultsBytes rows n = rowsBytes grantedBytes noGranted rows n
 
--- "settings (count 2: policy, m, 2 bytes each)"
-unfoldable pub settingsBytes : Settings → List ℕ
-settingsBytes st = bytesOf 2 settingsCount ++ (bytesOf 2 (policyNumber (st .policy)) ++ bytesOf 2 (st .m))
+abbrev pub numbersBytes : List ℕ → ℕ → List ℕ
+numbersBytes numbers n = rowsBytes (bytesOf settingSize) 0 numbers n
+
+-- "settings (.. policy, m, 2 bytes each)"; Ask 2: the settings count is "written back as read", and the writer "leaves out numbers past it"
+unfoldable pub settingsBytes : ℕ → Settings → List ℕ
+settingsBytes count st = bytesOf 2 count ++ numbersBytes (numbersOf st) count
 
 unfoldable pub encode : Sheet → List ℕ
 encode x =
-    settingsBytes (x .settings)
+    settingsBytes (x .count) (x .settings)
     ++ ((bytesOf 2 (x .table .n) ++ tasksBytes (x .table .rows) (x .table .n))
     ++ (bytesOf 2 (x .results .n) ++ resultsBytes (x .results .rows) (x .results .n)))
 
 -- how many bytes a sheet takes
 abbrev pub lengthOf : Sheet → ℕ
-lengthOf x = endPlace (x .table .n) (x .results .n)
+lengthOf x = endPlace (x .count) (x .table .n) (x .results .n)

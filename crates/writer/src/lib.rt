@@ -9,10 +9,10 @@ use kinds::Table;
 use kinds::Task;
 ghost use Prim.Native.Nat.{_+_, _*_, _≤_};
 ghost use lib.ListN.{length};
-ghost use Rattle.kinds.specs.Limits.{mostTasks};
+ghost use Rattle.kinds.specs.Limits.{mostSettings, mostTasks};
 ghost use Rattle.field.specs.Handover.{Put};
-ghost use Rattle.sheet.specs.Sections.{taskSize, grantedSize, tasksPlace};
-ghost use Rattle.writer.specs.Encode.{taskBytes, grantedBytes, settingsBytes, tasksBytes, resultsBytes, encode, lengthOf};
+ghost use Rattle.sheet.specs.Sections.{settingSize, taskSize, grantedSize, tasksPlace};
+ghost use Rattle.writer.specs.Encode.{taskBytes, grantedBytes, numbersBytes, settingsBytes, tasksBytes, resultsBytes, encode, lengthOf};
 ghost use Rattle.writer.specs.Writing.{Writes};
 ghost use Rattle.writer.specs.Canonical.{SheetHeld};
 
@@ -64,20 +64,33 @@ fn put_results(out: &mut [u8], from: usize, rows: [Granted; Table::MOST_TASKS], 
     at
 }
 
-// Stores the settings section at the front; returns the place after it.
-fn put_settings(out: &mut [u8], settings: Settings) -> usize
-    requires { ⌜ tasksPlace ≤ length (now out) ⌝ }
-    ensures { λ r. ⌜ Put (now (out .entry)) 0 tasksPlace (settingsBytes settings) r (now (out .exit)) ⌝ }
+// Stores the first n settings from a place on; returns the place after them.
+fn put_numbers(out: &mut [u8], from: usize, rows: [u16; Settings::MOST], n: usize) -> usize
+    requires { ⌜ (n ≤ mostSettings) × (from + settingSize * n ≤ length (now out)) ⌝ }
+    ensures { λ r. ⌜ Put (now (out .entry)) from (settingSize * n) (numbersBytes rows n) r (now (out .exit)) ⌝ }
 {
-    let policy = settings.policy;
-    let at_policy = field::put_u16(out, 0, sheet::SETTINGS);
-    let at_m = field::put_u16(out, at_policy, policy.number());
-    field::put_u16(out, at_m, settings.m)
+    let mut at = from;
+    let mut i: usize = 0;
+    while i < n {
+        at = field::put_u16(out, at, rows[i]);
+        i += 1;
+    }
+    at
+}
+
+// Stores the settings section at the front, without the numbers past the count; returns the place after it.
+fn put_settings(out: &mut [u8], count: usize, settings: Settings) -> usize
+    requires { ⌜ (count ≤ mostSettings) × (tasksPlace count ≤ length (now out)) ⌝ }
+    ensures { λ r. ⌜ Put (now (out .entry)) 0 (tasksPlace count) (settingsBytes count settings) r (now (out .exit)) ⌝ }
+{
+    let numbers = settings.numbers();
+    let first = field::put_u16(out, 0, count as u16);
+    put_numbers(out, first, numbers, count)
 }
 
 // Stores a whole sheet at the front; returns its length.
 fn put_sheet(out: &mut [u8], x: Sheet) -> usize
-    requires { ⌜ (x .table .n ≤ mostTasks) × ((x .results .n ≤ mostTasks) × (lengthOf x ≤ length (now out))) ⌝ }
+    requires { ⌜ (x .count ≤ mostSettings) × ((x .table .n ≤ mostTasks) × ((x .results .n ≤ mostTasks) × (lengthOf x ≤ length (now out)))) ⌝ }
     ensures { λ r. ⌜ Put (now (out .entry)) 0 (lengthOf x) (encode x) r (now (out .exit)) ⌝ }
 {
     let table = x.table;
@@ -87,7 +100,7 @@ fn put_sheet(out: &mut [u8], x: Sheet) -> usize
     let granted = results.rows;
     let r = results.n;
     let settings = x.settings;
-    let at_count = put_settings(out, settings);
+    let at_count = put_settings(out, x.count, settings);
     let at_tasks = field::put_u16(out, at_count, n as u16);
     let at_results = put_tasks(out, at_tasks, tasks, n);
     let at_granted = field::put_u16(out, at_results, r as u16);
@@ -99,18 +112,22 @@ pub fn held(x: Sheet)
     ensures { λ _. ⌜ SheetHeld x ⌝ }
 {
     let settings = x.settings;
-    let policy = settings.policy;
-    policy.number();
+    settings.numbers();
 }
 
 // Writes a station sheet into a lent buffer.
 pub fn write(x: Sheet, out: &mut [u8]) -> Counted
     ensures { λ r. ⌜ Writes x (now (out .entry)) r (now (out .exit)) ⌝ }
 {
+    let count = x.count;
     let table = x.table;
     let n = table.n;
     let results = x.results;
     let r = results.n;
+    let taken = sheet::settings_fit(count);
+    if !taken {
+        return Counted::Refused(Refusal::WrongSettingsCount);
+    }
     if Table::MOST_TASKS < n {
         return Counted::Refused(Refusal::TooManyTasks(n));
     }
@@ -118,7 +135,7 @@ pub fn write(x: Sheet, out: &mut [u8]) -> Counted
     if !fit {
         return Counted::Refused(Refusal::WrongResultCount(0));
     }
-    let needed = sheet::end_place(n, r);
+    let needed = sheet::end_place(count, n, r);
     if out.len() < needed {
         return Counted::Refused(Refusal::OutputTooShort(needed));
     }

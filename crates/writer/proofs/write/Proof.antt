@@ -3,65 +3,86 @@ use mathlib.Core.Path.{sym, _∙_}
 use native.Mathlib.Omega.{arith}
 use borrow.Author.Tests.{not-true, not-false}
 use borrow.Author.Needs.{needs}
-use Rattle.sheet.proofs.Stages.{fits-few}
-use Rattle.writer.proofs.Answers.{too-many, wrong-count, too-short, wrote}
+use Rattle.sheet.proofs.Stages.{settings-few, fits-few}
+use Rattle.writer.proofs.Answers.{wrong-settings, too-many, wrong-count, too-short, wrote}
 use Rattle.writer.proofs.write.Statement.{statement}
 use Rattle.writer.proofs.write.Tie as tie
 
+settings-fit-requires : tie.Need-settings-fit-requires
+settings-fit-requires c κs = search needs
+
 returns : tie.Need-returns
-returns c = too-many _ _ (c .if1 .taken)
+returns c = wrong-settings _ _ (sym (c .before .settings-fit .ensures) ∙ not-true _ (c .if1 .taken))
+
+returns-2 : tie.Need-returns-2
+returns-2 c =
+    let taken = sym (c .before .before .settings-fit .ensures) ∙ not-false _ (c .before .if1 .left) in
+    too-many _ _ taken (c .if2 .taken)
 
 results-fit-requires : tie.Need-results-fit-requires
 results-fit-requires c κs = search needs
 
-returns-2 : tie.Need-returns-2
-returns-2 c = wrong-count _ _ (c .before .before .if1 .left) (sym (c .before .results-fit .ensures) ∙ not-true _ (c .if2 .taken))
+returns-3 : tie.Need-returns-3
+returns-3 c =
+    let few = c .before .before in
+    let taken = sym (few .before .before .settings-fit .ensures) ∙ not-false _ (few .before .if1 .left) in
+    wrong-count _ _ taken (few .if2 .left) (sym (c .before .results-fit .ensures) ∙ not-true _ (c .if3 .taken))
 
 end-place-requires : tie.Need-end-place-requires
 end-place-requires c κs =
-    let fit = sym (c .before .results-fit .ensures) ∙ not-false _ (c .if2 .left) in
+    let few = c .before .before in
+    let taken = sym (few .before .before .settings-fit .ensures) ∙ not-false _ (few .before .if1 .left) in
+    let fit = sym (c .before .results-fit .ensures) ∙ not-false _ (c .if3 .left) in
     let most = fits-few _ _ fit in
-    let few = c .before .before .if1 .left in
-    (few, omega arith)
+    let tasks = few .if2 .left in
+    (settings-few _ taken, (tasks, omega arith))
 
-returns-3 : tie.Need-returns-3
-returns-3 c =
+returns-4 : tie.Need-returns-4
+returns-4 c =
     let fits = c .before .before in
     let judged = fits .before in
-    let fit = sym (judged .results-fit .ensures) ∙ not-false _ (fits .if2 .left) in
+    let few = judged .before in
+    let taken = sym (few .before .before .settings-fit .ensures) ∙ not-false _ (few .before .if1 .left) in
+    let fit = sym (judged .results-fit .ensures) ∙ not-false _ (fits .if3 .left) in
     let end = c .before .end-place .ensures in
-    rw end (too-short _ _ (judged .before .if1 .left) fit (rw end at (c .if3 .taken)))
+    rw end (too-short _ _ taken (few .if2 .left) fit (rw end at (c .if4 .taken)))
 
 put-sheet-requires : tie.Need-put-sheet-requires
 put-sheet-requires c κs =
     let fits = c .before .before .before in
     let judged = fits .before in
-    let fit = sym (judged .results-fit .ensures) ∙ not-false _ (fits .if2 .left) in
+    let few = judged .before in
+    let taken = sym (few .before .before .settings-fit .ensures) ∙ not-false _ (few .before .if1 .left) in
+    let fit = sym (judged .results-fit .ensures) ∙ not-false _ (fits .if3 .left) in
     let most = fits-few _ _ fit in
-    let few = judged .before .if1 .left in
-    (few, (omega arith, rw (c .before .before .end-place .ensures) at (c .before .if3 .left)))
+    let tasks = few .if2 .left in
+    (settings-few _ taken, (tasks, (omega arith, rw (c .before .before .end-place .ensures) at (c .before .if4 .left))))
 
 same-length : tie.Need-same-length
 same-length c = search needs
 
-returns-4 : tie.Need-returns-4
-returns-4 c =
+returns-5 : tie.Need-returns-5
+returns-5 c =
     let put = c .before .before in
     let room = put .before .before in
     let fits = room .before .before in
     let judged = fits .before in
-    let fit = sym (judged .results-fit .ensures) ∙ not-false _ (fits .if2 .left) in
-    wrote _ _ (judged .before .if1 .left) fit (rw (room .before .end-place .ensures) at (room .if3 .left)) _ _ (put .put-sheet .ensures)
+    let few = judged .before in
+    let taken = sym (few .before .before .settings-fit .ensures) ∙ not-false _ (few .before .if1 .left) in
+    let fit = sym (judged .results-fit .ensures) ∙ not-false _ (fits .if3 .left) in
+    wrote _ _ taken (few .if2 .left) fit (rw (room .before .end-place .ensures) at (room .if4 .left)) _ _ (put .put-sheet .ensures)
 
 pub write-spec : {M : Type 1} → statement M
 write-spec =
     tie.close
     (tie.spec
+    settings-fit-requires
     returns
-    results-fit-requires
     returns-2
-    end-place-requires
+    results-fit-requires
     returns-3
+    end-place-requires
+    returns-4
     put-sheet-requires
     same-length
-    returns-4)
+    returns-5)

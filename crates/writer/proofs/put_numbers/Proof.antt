@@ -1,0 +1,70 @@
+-- `writer::put_numbers` meets its contract: the numbers so far are stored, and nothing else. Assumes nothing.
+use Prim.Native.Nat.{_*_, _-_, _≤_}
+use mathlib.Core.Path.{_≡_, refl, _∙_}
+use native.Mathlib.Omega.{arith}
+use lib.ListN.{length}
+use borrow.Author.Needs.{needs}
+use Rattle.field.specs.Number.{bytesOf}
+use Rattle.field.specs.Handover.{Put}
+use Rattle.field.proofs.Stores.{put-long}
+use Rattle.sheet.specs.Sections.{settingSize}
+use Rattle.writer.specs.Encode.{numbersBytes}
+use Rattle.writer.proofs.Rows.{put-no-row, put-row}
+use Rattle.writer.proofs.put_numbers.Statement.{statement}
+use Rattle.writer.proofs.put_numbers.Tie as tie
+
+abbrev Inv-loop : tie.InvT-loop
+Inv-loop out₀ from n rows at₀ i₀ out at i =
+    (i ≤ n) × ((length out ≡ length out₀) × Put out₀ from (settingSize * i) (numbersBytes rows i) at out)
+
+abbrev μ-loop : tie.MeasureT-loop
+μ-loop out₀ from n rows at₀ i₀ out at i = n - i
+
+loop-holds : tie.Need-loop-holds Inv-loop μ-loop
+loop-holds c = (search needs, (refl, put-no-row (bytesOf settingSize) 0 settingSize _ _ _))
+
+mul-put-u16 : tie.Need-mul-put-u16 Inv-loop μ-loop
+mul-put-u16 c = search needs
+
+array-read-put-u16 : tie.Need-array-read-put-u16 Inv-loop μ-loop
+array-read-put-u16 c = search needs
+
+put-u16-requires : tie.Need-put-u16-requires Inv-loop μ-loop
+put-u16-requires c κs = search needs
+
+add-i : tie.Need-add-i Inv-loop μ-loop
+add-i c = search needs
+
+loop-less : tie.Need-loop-less Inv-loop μ-loop
+loop-less c = search needs
+
+loop-again : tie.Need-loop-again Inv-loop μ-loop
+loop-again c =
+    let inv = c .before .before .before .before .before .loop .inv in
+    let p = c .before .before .put-u16 .ensures in
+    (search needs, (put-long p ∙ inv .1 .0, put-row (bytesOf settingSize) 0 settingSize _ _ (inv .1 .1) p))
+
+same-length : tie.Need-same-length Inv-loop μ-loop
+same-length c = search needs
+
+returns : tie.Need-returns Inv-loop μ-loop
+returns c =
+    let l = c .before .loop in
+    let e : l .i ≡ c .before .before .before .args .n = omega arith in
+    rw (← e) (l .inv .1 .1)
+
+pub put-numbers-spec : {M : Type 1} → statement M
+put-numbers-spec =
+    tie.close
+    (tie.spec
+    Inv-loop
+    μ-loop
+    loop-holds
+    mul-put-u16
+    array-read-put-u16
+    put-u16-requires
+    add-i
+    loop-less
+    loop-again
+    same-length
+    returns)
