@@ -17,7 +17,7 @@ use Rattle.kinds.specs.Task.{tableOf}
 use Rattle.kinds.proofs.Answers.{not-refused}
 use Rattle.numeral.specs.declared.Numeral.the-variants as numeral
 use Rattle.numeral.specs.Scan.{numeralIn}
-use Rattle.sheet.specs.Sections.{longestSheet, resultsFit}
+use Rattle.sheet.specs.Sections.{longestSheet, settingsFit, resultsFit}
 use Rattle.kinds.specs.declared.Counted.the-variants as counted
 use Rattle.writer.specs.Encode.{encode, lengthOf}
 use Rattle.writer.specs.Writing.{Writes}
@@ -104,8 +104,8 @@ module _ (p m : ℕ) (t : Table) (few : t .n ≤ mostTasks) (old new : List ℕ)
   x = sheetWith p m t
 
   pub unrefused : (q : Refusal) {B : Type 0} → Writes x old (counted.Refused q) new → B
-  unfolding resultsFit
-  unrefused q w = not-refused (lengthOf x) 0 q (sym (write-accepts x (length old) few refl (omega arith)) ∙ sym (w .answer))
+  unfolding settingsFit resultsFit
+  unrefused q w = not-refused (lengthOf x) 0 q (sym (write-accepts x (length old) refl few refl (omega arith)) ∙ sym (w .answer))
 
   pub sheet-fronts : (k : ℕ) → Writes x old (counted.Count k) new → Fronts (encode x) old k new
   sheet-fronts k w =

@@ -9,8 +9,9 @@ use Rattle.kinds.specs.declared.Refusal.{Refusal}
 use Rattle.kinds.specs.declared.Refusal.the-variants.{NoSuchPolicy, NoSuchProcessors}
 use Rattle.kinds.specs.declared.Sheet.{Sheet}
 use Rattle.kinds.specs.declared.Table.{Table}
-use Rattle.kinds.specs.Limits.{mostTasks}
+use Rattle.kinds.specs.Limits.{mostTasks, fewestSettings}
 use Rattle.kinds.specs.Policy.{policyOf}
+use Rattle.kinds.specs.Settings.{settings}
 use Rattle.kinds.specs.Answer.{Handed, accepted, refused}
 use Rattle.kinds.specs.Task.{tableOf}
 use Rattle.numeral.specs.declared.Numeral.{Numeral}
@@ -39,11 +40,12 @@ abbrev pub handedSetting : Refusal → Setting → Handed ℕ
 handedSetting refusal (Is v) = accepted v
 handedSetting refusal Bad = refused 0 refusal
 
--- the unfilled sheet of a table
+-- the unfilled sheet of a table: it has two settings, and a swap costs nothing
 abbrev pub sheetWith : ℕ → ℕ → Table → Sheet
 sheetWith policy m table =
     record {
-      settings = record { policy = policyOf policy; m = m };
+      count = fewestSettings;
+      settings = settings (policyOf policy) m 0;
       table = table;
       results = record { rows = replicate mostTasks noGranted; n = 0 };
     }

@@ -38,17 +38,18 @@ pub fn setting_of(argument: &[u8]) -> Setting
     Setting::Is(number as u16)
 }
 
-// Writes the sheet of a table with these settings and no results; returns how many bytes.
+// Writes the sheet of a table with these two settings and no results; returns how many bytes.
 fn put_unfilled(policy: u16, m: u16, table: Table, out: &mut [u8]) -> usize
     requires { ⌜ (table .n ≤ mostTasks) × (longestSheet ≤ length (now out)) ⌝ }
     ensures { λ r. ⌜ Fronts (encode (sheetWith policy m table)) (now (out .entry)) r (now (out .exit)) ⌝ }
 {
-    let settings = Settings::new(Policy::of(policy), m);
+    let settings = Settings::new(Policy::of(policy), m, 0);
     let results = Results {
         rows: [Granted::NONE; Table::MOST_TASKS],
         n: 0,
     };
     let x = Sheet {
+        count: Settings::FEWEST,
         settings,
         table,
         results,
