@@ -5,7 +5,7 @@ use mathlib.Core.List.{List}
 use mathlib.Core.Path.{_≡_, refl, sym, _∙_}
 use native.Mathlib.Omega.{arith}
 use lib.ListN.{length, take, drop}
-use Rattle.kinds.specs.Limits.{mostTasks}
+use Rattle.kinds.specs.Limits.{mostSettings, mostTasks}
 use Rattle.sheet.specs.Sections.{taskSize, recordsPlace, resultsPlace}
 use Rattle.change_over.specs.declared.Which.{Which}
 use Rattle.change_over.specs.declared.Which.the-variants.{Standing, Proposed}
@@ -16,19 +16,20 @@ use Rattle.change_over.specs.ChangeOver.{sectionOf, tasksPart, tasksOr, 
 use Rattle.change_over.proofs.Sections.{section-fits}
 
 -- a task section is told by its place and its size
-pub tasks-part : (which : Which) (n from size : ℕ) → from ≡ recordsPlace → size ≡ taskSize * n
-    → record { which = which; from = from; size = size } ≡ tasksPart which n
-tasks-part which n from size a b = λ i. record { which = which; from = a i; size = b i }
+pub tasks-part : (which : Which) (settings n from size : ℕ) → from ≡ recordsPlace settings → size ≡ taskSize * n
+    → record { which = which; from = from; size = size } ≡ tasksPart which settings n
+tasks-part which settings n from size a b = λ i. record { which = which; from = a i; size = b i }
 
 -- the three answers
 module _ (standing proposed : List ℕ) where
-  pub takes-proposed : (n : ℕ) → sectionOf proposed ≡ Tasks n → tasksPart Proposed n ≡ changeOver standing proposed
+  pub takes-proposed : (settings n : ℕ) → sectionOf proposed ≡ Tasks settings n → tasksPart Proposed settings n ≡ changeOver standing proposed
   unfolding changeOver
-  takes-proposed n p = rw p
+  takes-proposed settings n p = rw p
 
-  pub takes-standing : sectionOf proposed ≡ Nothing → (n : ℕ) → sectionOf standing ≡ Tasks n → tasksPart Standing n ≡ changeOver standing proposed
+  pub takes-standing : sectionOf proposed ≡ Nothing → (settings n : ℕ) → sectionOf standing ≡ Tasks settings n
+      → tasksPart Standing settings n ≡ changeOver standing proposed
   unfolding changeOver
-  takes-standing p n q = rw (p, q)
+  takes-standing p settings n q = rw (p, q)
 
   pub takes-nothing : sectionOf proposed ≡ Nothing → sectionOf standing ≡ Nothing → emptyFront ≡ changeOver standing proposed
   unfolding changeOver
@@ -36,12 +37,13 @@ module _ (standing proposed : List ℕ) where
 
   -- it ends where a full task section ends, or before, and not past the sheet
   abbrev Fits : Part → Type 0
-  Fits part = (part .from + part .size ≤ resultsPlace mostTasks) × (part .from + part .size ≤ length (oneOf (part .which) standing proposed))
+  Fits part =
+      (part .from + part .size ≤ resultsPlace mostSettings mostTasks) × (part .from + part .size ≤ length (oneOf (part .which) standing proposed))
 
   tasks-fit : (which : Which) (section : Section) (other : Part) → sectionOf (oneOf which standing proposed) ≡ section → Fits other
       → Fits (tasksOr which section other)
-  tasks-fit which (Tasks n) other e fits =
-      let few = section-fits (oneOf which standing proposed) n e in
+  tasks-fit which (Tasks settings n) other e fits =
+      let few = section-fits (oneOf which standing proposed) settings n e in
       (omega (arith, few), omega (arith, few))
   tasks-fit which Nothing other e fits = fits
 

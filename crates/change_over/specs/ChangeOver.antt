@@ -20,16 +20,16 @@ use Rattle.change_over.specs.declared.Section.the-variants.{Tasks, Nothi
 unfoldable pub acceptable : List ℕ → Bool
 acceptable s = both (eqb (readSheet s .number) 0) (eqb (asked (readSheet s .value) .number) 0)
 
--- how many tasks an acceptable sheet has
+-- how many settings and tasks an acceptable sheet has
 unfoldable pub sectionOf : List ℕ → Section
-sectionOf s = pick (acceptable s) (Tasks (readSheet s .value .table .n)) Nothing
+sectionOf s = pick (acceptable s) (Tasks (readSheet s .value .count) (readSheet s .value .table .n)) Nothing
 
 -- "the task section (records only)" of an acceptable sheet, else another part
-abbrev pub tasksPart : Which → ℕ → Part
-tasksPart which n = record { which = which; from = recordsPlace; size = taskSize * n }
+abbrev pub tasksPart : Which → ℕ → ℕ → Part
+tasksPart which settings n = record { which = which; from = recordsPlace settings; size = taskSize * n }
 
 abbrev pub tasksOr : Which → Section → Part → Part
-tasksOr which (Tasks n) other = tasksPart which n
+tasksOr which (Tasks settings n) other = tasksPart which settings n
 tasksOr which Nothing other = other
 
 -- "the empty front of the standing sheet"

@@ -2,7 +2,7 @@
 use kinds::Verdict;
 ghost use mathlib.Core.Path.{_≡_};
 ghost use Prim.Native.Nat.{_≤_};
-ghost use Rattle.kinds.specs.Limits.{mostTasks};
+ghost use Rattle.kinds.specs.Limits.{mostSettings, mostTasks};
 ghost use Rattle.change_over.specs.ChangeOver.{sectionOf, tasksPart, changeOver, IsPart};
 
 // The two lent sheets.
@@ -18,9 +18,9 @@ pub struct Part {
     pub size: usize,
 }
 
-// How many tasks a sheet has that reads and that the plain finder accepts.
+// How many settings and tasks a sheet has that reads and that the plain finder accepts.
 enum Section {
-    Tasks(usize),
+    Tasks(usize, usize),
     Nothing,
 }
 
@@ -39,18 +39,18 @@ fn section_of(bytes: &[u8]) -> Section
     let settings = x.settings;
     let answer = plain::decide(table, settings, n);
     if answer.accepted() {
-        return Section::Tasks(n);
+        return Section::Tasks(x.count, n);
     }
     Section::Nothing
 }
 
-// The task section of a sheet with n tasks.
-fn tasks_of(which: Which, n: usize) -> Part
-    requires { ⌜ n ≤ mostTasks ⌝ }
-    ensures { λ r. ⌜ r ≡ tasksPart which n ⌝ }
+// The task section of a sheet with so many settings and n tasks.
+fn tasks_of(which: Which, settings: usize, n: usize) -> Part
+    requires { ⌜ (settings ≤ mostSettings) × (n ≤ mostTasks) ⌝ }
+    ensures { λ r. ⌜ r ≡ tasksPart which settings n ⌝ }
 {
-    let from = sheet::records_place();
-    let size = sheet::results_place(n) - from;
+    let from = sheet::records_place(settings);
+    let size = sheet::results_place(settings, n) - from;
     Part { which, from, size }
 }
 
@@ -58,11 +58,11 @@ fn tasks_of(which: Which, n: usize) -> Part
 pub fn part_of(standing: &[u8], proposed: &[u8]) -> Part
     ensures { λ r. ⌜ r ≡ changeOver (now (standing .entry)) (now (proposed .entry)) ⌝ }
 {
-    if let Section::Tasks(n) = section_of(proposed) {
-        return tasks_of(Which::Proposed, n);
+    if let Section::Tasks(settings, n) = section_of(proposed) {
+        return tasks_of(Which::Proposed, settings, n);
     }
-    if let Section::Tasks(n) = section_of(standing) {
-        return tasks_of(Which::Standing, n);
+    if let Section::Tasks(settings, n) = section_of(standing) {
+        return tasks_of(Which::Standing, settings, n);
     }
     let which = Which::Standing;
     Part {

@@ -9,14 +9,18 @@ use Rattle.change_over.proofs.part_of.Tie as tie
 section-of-requires : tie.Need-section-of-requires
 section-of-requires c κs = search needs
 
-enum-known-n : tie.Need-enum-known-n
-enum-known-n c = search needs
+enum-known-settings : tie.Need-enum-known-settings
+enum-known-settings c = search needs
 
 tasks-of-requires : tie.Need-tasks-of-requires
-tasks-of-requires c κs = section-fits _ _ (sym (c .before .before .before .section-of .ensures) ∙ c .before .n .given .1) .0
+tasks-of-requires c κs =
+    let fits = section-fits _ _ _ (sym (c .before .before .before .section-of .ensures) ∙ c .before .settings .given .1) in
+    (fits .0, fits .1 .0)
 
 returns : tie.Need-returns
-returns c = c .tasks-of .ensures ∙ takes-proposed _ _ _ (sym (c .before .before .before .before .section-of .ensures) ∙ c .before .before .n .given .1)
+returns c =
+    let told = c .before .before in
+    c .tasks-of .ensures ∙ takes-proposed _ _ _ _ (sym (told .before .before .section-of .ensures) ∙ told .settings .given .1)
 
 enum-told : tie.Need-enum-told
 enum-told c = search needs
@@ -24,18 +28,21 @@ enum-told c = search needs
 section-of-requires-2 : tie.Need-section-of-requires-2
 section-of-requires-2 c κs = search needs
 
-enum-known-n-2 : tie.Need-enum-known-n-2
-enum-known-n-2 c = search needs
+enum-known-settings-2 : tie.Need-enum-known-settings-2
+enum-known-settings-2 c = search needs
 
 tasks-of-requires-2 : tie.Need-tasks-of-requires-2
-tasks-of-requires-2 c κs = section-fits _ _ (sym (c .before .before .before .section-of2 .ensures) ∙ c .before .n2 .given .1) .0
+tasks-of-requires-2 c κs =
+    let fits = section-fits _ _ _ (sym (c .before .before .before .section-of2 .ensures) ∙ c .before .settings2 .given .1) in
+    (fits .0, fits .1 .0)
 
 returns-2 : tie.Need-returns-2
 returns-2 c =
-    let other = c .before .before .before .before .before in
+    let told = c .before .before in
+    let other = told .before .before .before in
     c .tasks-of2 .ensures
-    ∙ takes-standing _ _ (sym (other .before .before .section-of .ensures) ∙ other .enum-told .given .1) _
-    (sym (c .before .before .before .before .section-of2 .ensures) ∙ c .before .before .n2 .given .1)
+    ∙ takes-standing _ _ (sym (other .before .before .section-of .ensures) ∙ other .enum-told .given .1) _ _
+    (sym (told .before .before .section-of2 .ensures) ∙ told .settings2 .given .1)
 
 enum-told-2 : tie.Need-enum-told-2
 enum-told-2 c = search needs
@@ -51,12 +58,12 @@ part-of-spec =
     tie.close
     (tie.spec
     section-of-requires
-    enum-known-n
+    enum-known-settings
     tasks-of-requires
     returns
     enum-told
     section-of-requires-2
-    enum-known-n-2
+    enum-known-settings-2
     tasks-of-requires-2
     returns-2
     enum-told-2

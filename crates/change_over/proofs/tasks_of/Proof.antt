@@ -23,7 +23,7 @@ returns c =
     let from = records .records-place .ensures in
     let size : c .results-place .result - records .records-place .result ≡ taskSize * records .before .args .n =
     omega (arith, from, c .results-place .ensures) in
-    tasks-part _ _ _ _ from size
+    tasks-part _ _ _ _ _ from size
 
 pub tasks-of-spec : {M : Type 1} → statement M
 tasks-of-spec = tie.close (tie.spec records-place-requires results-place-requires sub-size returns)
