@@ -1,5 +1,5 @@
--- Document 01, "Program", on long inputs: "more than 714 bytes: refused as 11 at 714 if the first 714 read as a sheet of that length, else
--- as the reader says of the whole". The longest sheet's bytes and one more tell all.
+-- Document 01, "Program", on inputs that are longer than the longest sheet: "refused as 11 at" its length "if the first" so many bytes "read
+-- as a sheet of that length, else as the reader says of the whole"; Ask 2: "the program's 714 moves with it". One byte more tells all.
 -- Assumes nothing.
 use Prim.Native.Nat.{ℕ, _+_, _<_}
 use mathlib.Core.List.{List, []}
@@ -13,7 +13,7 @@ use Rattle.kinds.specs.Answer.{Handed, accepted, unrefused}
 use Rattle.sheet.specs.Sections.{longestSheet}
 use Rattle.sheet.specs.Reading.{noSheet, readSheet}
 use Rattle.sheet.proofs.Lengths.{end-most}
-use Rattle.sheet.proofs.Whole.{whole, few-results}
+use Rattle.sheet.proofs.Whole.{whole, few-settings, few-results}
 use Rattle.sheet.proofs.Numbered.{accepted-by-number}
 use Rattle.sheet.proofs.Beyond.{front-reads}
 use Rattle.sheet.proofs.After.{front-refused}
@@ -30,7 +30,7 @@ unfolding filled
 front-fills s = ap (λ (h : Handed (List ℕ)). orLine h (λ b. b)) (front-planned s)
 
 module _ (s : List ℕ) (long : longestSheet < length s) where
-  -- "refused as 11 at 714 if the first 714 read as a sheet of that length"
+  -- "if the first .. read as a sheet of that length"
   pub longest-then-more : (x : Sheet) → readSheet (take longestSheet s) ≡ accepted x → filled s ≡ refusalLine 11 longestSheet
   longest-then-more x e = filled-unread s noSheet (BytesAfterLast longestSheet) (front-refused s longestSheet x long e)
 
@@ -38,7 +38,7 @@ module _ (s : List ℕ) (long : longestSheet < length s) where
   refused-number : readSheet s .number ≡ 0 → ⊥
   refused-number e =
       let w = whole s (readSheet s .value) (accepted-by-number s e) .0 in
-      omega (arith, w .end, end-most _ _ (w .few) (few-results w))
+      omega (arith, w .end, end-most _ _ _ (few-settings w) (w .few) (few-results w))
 
   not-planned : planned s ≡ record { number = readSheet s .number; place = readSheet s .place; value = [] }
   unfolding planned

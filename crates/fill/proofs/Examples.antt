@@ -7,15 +7,15 @@ use Rattle.ground.specs.Least.{leastUpTo}
 use Rattle.ground.specs.Folds.{sumTo, maxTo, listTo}
 use Rattle.kinds.specs.Task.{isGood}
 use Rattle.share.specs.Share.{shareAt, saturationAt, periodAt}
-use Rattle.share.specs.Table.{fullCompression, firstBad, periodsAt}
+use Rattle.share.specs.Table.{fullCompression, firstBad, periodsAt, pricedRows}
 use Rattle.policy.specs.Passing.{passes, leastStep}
 use Rattle.admission.specs.Admission.{gate, admission}
 use Rattle.plan.specs.Plan.{processorsAt, found}
 use Rattle.plain.specs.Asked.{asked}
 use Rattle.field.specs.Number.{numberAt, bytesOf}
-use Rattle.sheet.specs.Sections.{resultsFit}
-use Rattle.sheet.specs.Rows.{paddedRows}
-use Rattle.sheet.specs.Reading.{settingsIn, sheetIn, readRows, readSheet}
+use Rattle.sheet.specs.Sections.{settingsFit, resultsFit}
+use Rattle.sheet.specs.Rows.{over}
+use Rattle.sheet.specs.Reading.{settingsCount, taskCount, resultCount, sheetIn, readRows, readSheet}
 use Rattle.writer.specs.Encode.{taskBytes, grantedBytes, rowsBytes, settingsBytes, encode}
 use Rattle.numeral.specs.Decimal.{digitsIn, decimal}
 use Rattle.fill.specs.Results.{resultsOf, withPlan}
@@ -29,9 +29,18 @@ whole-case : filled
     ∷ 1 ∷ 0 ∷ 10 ∷ 0 ∷ 0 ∷ 0 ∷ 0 ∷ 0 ∷ []
 unfolding
     filled planned plannedSheet withPlan resultsOf firstFrom firstBelow leastUpTo sumTo maxTo listTo isGood shareAt saturationAt periodAt
-    fullCompression firstBad periodsAt passes leastStep gate admission processorsAt found asked numberAt bytesOf resultsFit paddedRows settingsIn
-    sheetIn readRows readSheet taskBytes grantedBytes rowsBytes settingsBytes encode
+    fullCompression firstBad periodsAt pricedRows passes leastStep gate admission processorsAt found asked numberAt bytesOf settingsFit resultsFit
+    over settingsCount taskCount resultCount sheetIn readRows readSheet taskBytes grantedBytes rowsBytes settingsBytes encode
 whole-case = refl
+
+-- Ask 2: "A record with C + 2w above Tmin is refused by 6": the same case with three settings and w = 3
+swap-refused : filled
+    (3 ∷ 0 ∷ 1 ∷ 0 ∷ 1 ∷ 0 ∷ 3 ∷ 0 ∷ 1 ∷ 0 ∷ 6 ∷ 0 ∷ 0 ∷ 0 ∷ 10 ∷ 0 ∷ 0 ∷ 0 ∷ 20 ∷ 0 ∷ 0 ∷ 0 ∷ 232 ∷ 3 ∷ 0 ∷ 0 ∷ 0 ∷ 0 ∷ [])
+    ≡ refusalLine 6 0
+unfolding
+    filled planned plannedSheet firstFrom firstBelow isGood firstBad gate admission found asked numberAt settingsFit resultsFit over settingsCount
+    taskCount resultCount sheetIn readRows readSheet
+swap-refused = refl
 
 -- `refused 8 at 1` and a newline
 one-byte : filled (2 ∷ []) ≡ 114 ∷ 101 ∷ 102 ∷ 117 ∷ 115 ∷ 101 ∷ 100 ∷ 32 ∷ 56 ∷ 32 ∷ 97 ∷ 116 ∷ 32 ∷ 49 ∷ 10 ∷ []

@@ -3,10 +3,9 @@
 use Prim.Native.Nat.{ℕ, zero, suc, _+_, _*_, _≤_, _<_}
 use mathlib.Core.Bool.{true}
 use mathlib.Core.List.{List}
-use mathlib.Core.Path.{_≡_, sym, _∙_}
+use mathlib.Core.Path.{_≡_, sym, ap, _∙_}
 use native.Mathlib.Omega.{arith}
 use lib.ListN.{length, getD}
-use Rattle.ground.specs.Folds.{listTo}
 use Rattle.ground.proofs.Buffer.{list-in}
 use Rattle.ground.proofs.Cases.{by-bool, by-le}
 use Rattle.kinds.specs.declared.Task.{Task}
@@ -15,24 +14,26 @@ use Rattle.kinds.specs.declared.Sheet.{Sheet}
 use Rattle.kinds.specs.Limits.{mostTasks}
 use Rattle.kinds.specs.Task.{noTask, at}
 use Rattle.kinds.specs.Policy.{meant, isFirstFit}
+use Rattle.kinds.specs.Settings.{fillIns, setting, settingsOf, numbersOf}
 use Rattle.kinds.specs.Answer.{accepted}
-use Rattle.kinds.proofs.Policies.{number-back}
+use Rattle.kinds.proofs.Numbers.{numbers-back, fill-in-low}
 use Rattle.share.specs.Share.{periodAt}
 use Rattle.share.specs.Table.{shares, periodsAt}
 use Rattle.share.proofs.Tasks.{shortest}
 use Rattle.share.proofs.Tables.{all-good}
 use Rattle.fit.proofs.Placing.{fits-placed}
+use Rattle.policy.specs.Under.{rowsUnder}
 use Rattle.policy.proofs.Demand.{step-at}
 use Rattle.policy.proofs.Tests.{first-fit-passes}
 use Rattle.plan.specs.Plan.{processorAt, processorsAt}
 use Rattle.plan.proofs.Found.{Accepting, accepting}
 use Rattle.plain.specs.Asked.{asked}
 use Rattle.field.specs.Number.{Bytes, u16At, numberAt, limit}
-use Rattle.sheet.specs.Sections.{taskSize, policyPlace, mPlace, recordsPlace}
+use Rattle.sheet.specs.Sections.{settingSize, taskSize, numbersPlace, recordsPlace}
 use Rattle.sheet.specs.Rows.{taskAt, noGranted, paddedRows}
-use Rattle.sheet.specs.Reading.{taskCount, settingsIn, sheetIn}
-use Rattle.sheet.proofs.Padding.{padded-long, padded-in, padded-out}
-use Rattle.sheet.proofs.Whole.{Whole}
+use Rattle.sheet.specs.Reading.{settingsCount, taskCount, numbersIn, sheetIn}
+use Rattle.sheet.proofs.Padding.{over-long, over-in, over-out, padded-long, padded-in, padded-out}
+use Rattle.sheet.proofs.Whole.{Whole, few-settings}
 use Rattle.writer.specs.Canonical.{grantedIn, TaskHeld, GrantedHeld, SheetHeld}
 use Rattle.fill.specs.Results.{entryAt, resultsOf, planPeriods, planProcessors, withPlan}
 
@@ -65,20 +66,23 @@ module _ (x : Sheet) (k : ℕ) (few : x .table .n ≤ mostTasks) (e : asked x �
   unfolding asked
   accepts = accepting true (x .settings) (x .table .rows) (x .table .n) (x .table .n) k (sym e)
 
+  abbrev paid : List Task
+  paid = rowsUnder (x .settings) (x .table .rows) (x .table .n)
+
   period-held : (i : ℕ) → i < x .table .n → getD (planPeriods x k) i 0 < limit 4
   unfolding periodsAt
   period-held i l =
-      let f : ℕ → ℕ = λ j. periodAt (at (x .table .rows) j) k in
-      let good = all-good (x .table .rows) (x .table .n) (accepts .ready .none-bad) i l in
-      rw (list-in 0 f (x .table .n) i l) (omega (arith, good .tmax-most, shortest (at (x .table .rows) i) good k .high))
+      let f : ℕ → ℕ = λ j. periodAt (at paid j) k in
+      let good = all-good (x .settings .swap) (x .table .rows) (x .table .n) (accepts .ready .none-bad) i l in
+      rw (list-in 0 f (x .table .n) i l) (omega (arith, good .tmax-most, shortest (at paid i) good k .high))
 
-  place-held : (i : ℕ) → i < x .table .n → processorAt (meant (x .settings .policy)) (x .settings .m) (x .table .rows) k i < limit 2
+  place-held : (i : ℕ) → i < x .table .n → processorAt (meant (x .settings .policy)) (x .settings .m) paid k i < limit 2
   place-held i l =
       let p = meant (x .settings .policy) in
-      let load = shares (x .table .rows) k in
+      let load = shares paid k in
       by-bool (isFirstFit p)
       (λ first.
-      let passing = step-at p (x .settings .m) (x .table .rows) (x .table .n) k (accepts .step) .passes in
+      let passing = step-at p (x .settings .m) paid (x .table .n) k (accepts .step) .passes in
       let placed = fits-placed (x .settings .m) load (x .table .n) (sym (first-fit-passes p (x .settings .m) load (x .table .n) first) ∙ passing) i l in
       rw first (omega (arith, placed, accepts .ready .passed .m-most)))
       (λ other. rw other (omega arith))
@@ -86,7 +90,7 @@ module _ (x : Sheet) (k : ℕ) (few : x .table .n ≤ mostTasks) (e : asked x �
   processor-held : (i : ℕ) → i < x .table .n → getD (planProcessors x k) i 0 < limit 2
   unfolding processorsAt
   processor-held i l =
-      let f = processorAt (meant (x .settings .policy)) (x .settings .m) (x .table .rows) k in
+      let f = processorAt (meant (x .settings .policy)) (x .settings .m) paid k in
       rw (list-in 0 f (x .table .n) i l) (place-held i l)
 
   pub results-held : (i : ℕ) → GrantedHeld (grantedIn (withPlan x k) i)
@@ -97,22 +101,38 @@ module _ (x : Sheet) (k : ℕ) (few : x .table .n ≤ mostTasks) (e : asked x �
       (λ j l. record { period = period-held j l; processor = processor-held j l })
       i
 
+-- a setting that stands in bytes, or is filled in
+abbrev settingAt : List ℕ → ℕ → ℕ
+settingAt s i = u16At s (numbersPlace + settingSize * i)
+
+setting-held : (s : List ℕ) → Bytes s → Whole s → (i : ℕ) → setting (numbersIn s) i < limit settingSize
+setting-held s bytes w i =
+    let c = settingsCount s in
+    by-le c i
+    (λ h. omega (arith, over-out fillIns (settingAt s) 0 c i h, fill-in-low i))
+    (λ h. rw (over-in fillIns (settingAt s) 0 c i h (few-settings w)) (number-held s bytes settingSize (numbersPlace + settingSize * i)))
+
+settings-held : (s : List ℕ) → Bytes s → Whole s → (i : ℕ) → setting (numbersOf (settingsOf (numbersIn s))) i < limit settingSize
+settings-held s bytes w i =
+    let back = numbers-back (numbersIn s) (over-long fillIns (settingAt s) (settingsCount s)) in
+    omega (arith, ap (λ (l : List ℕ). setting l i) back, setting-held s bytes w i)
+
 -- a sheet that stands in bytes, with a plan
 pub planned-held : (s : List ℕ) → Bytes s → Whole s → (k : ℕ) → asked (sheetIn s) ≡ accepted k → SheetHeld (withPlan (sheetIn s) k)
-unfolding withPlan resultsOf sheetIn settingsIn
+unfolding withPlan resultsOf sheetIn
 planned-held s bytes w k e =
-    let tasks : ℕ → Task = λ i. taskAt s (recordsPlace + taskSize * i) in
+    let place : ℕ → ℕ = λ i. recordsPlace (settingsCount s) + taskSize * i in
+    let tasks : ℕ → Task = λ i. taskAt s (place i) in
     let held : (i : ℕ) → TaskHeld (tasks i) =
     λ i.
     record {
-      c = number-held s bytes 4 (recordsPlace + taskSize * i);
-      tmin = number-held s bytes 4 (recordsPlace + taskSize * i + 4);
-      tmax = number-held s bytes 4 (recordsPlace + taskSize * i + 8);
-      e = number-held s bytes 4 (recordsPlace + taskSize * i + 12);
+      c = number-held s bytes 4 (place i);
+      tmin = number-held s bytes 4 (place i + 4);
+      tmax = number-held s bytes 4 (place i + 8);
+      e = number-held s bytes 4 (place i + 12);
     } in
     record {
-      policy = rw (number-back (u16At s policyPlace)) (number-held s bytes 2 policyPlace);
-      m = number-held s bytes 2 mPlace;
+      settings = settings-held s bytes w;
       tasks = rows-held TaskHeld noTask tasks (taskCount s) (w .few)
           (record { c = omega arith; tmin = omega arith; tmax = omega arith; e = omega arith }) (λ i l. held i);
       tasks-room = padded-long noTask tasks (taskCount s);

@@ -23,9 +23,10 @@ use Rattle.share.specs.Table.{periodsAt}
 use Rattle.plan.specs.Plan.{processorsAt, periodsAfter, processorsAfter, outcome, Meets}
 use Rattle.plain.specs.Asked.{asked}
 use Rattle.plain.proofs.Asked.{asked-roomy}
-use Rattle.sheet.specs.Sections.{longestSheet, resultsFit}
-use Rattle.sheet.specs.Rows.{granted, noGranted, paddedRows}
-use Rattle.sheet.proofs.Padding.{padded-more, padded-cong}
+use Rattle.sheet.specs.Sections.{longestSheet, settingsFit, resultsFit}
+use Rattle.sheet.specs.Rows.{granted, noGranted, noResults, paddedRows}
+use Rattle.sheet.proofs.Padding.{over-more, over-cong}
+use Rattle.sheet.proofs.Stages.{settings-few}
 use Rattle.kinds.specs.declared.Counted.{Counted}
 use Rattle.writer.specs.Encode.{encode, lengthOf}
 use Rattle.writer.specs.Writing.{writeSheet, Writes}
@@ -37,7 +38,7 @@ use Rattle.fill.specs.Fill.{plannedSheet, Fills}
 -- the rows of a results section, one by one
 module _ (periods processors : List ℕ) (rows : List Granted) (i : ℕ) (is : rows ≡ paddedRows noGranted (entryAt periods processors) i) where
   pub rows-more : set rows i (entryAt periods processors i) ≡ paddedRows noGranted (entryAt periods processors) (i + 1)
-  rows-more = ap (λ (l : List Granted). set l i (entryAt periods processors i)) is ∙ sym (padded-more noGranted (entryAt periods processors) i)
+  rows-more = ap (λ (l : List Granted). set l i (entryAt periods processors i)) is ∙ sym (over-more noResults (entryAt periods processors) i)
 
   pub rows-done : (n : ℕ) → i ≡ n → record { rows = rows; n = n } ≡ resultsOf periods processors n
   unfolding resultsOf
@@ -45,7 +46,7 @@ module _ (periods processors : List ℕ) (rows : List Granted) (i : ℕ) (is : r
 
 -- a sheet with other results
 abbrev pub withResults : Sheet → Results → Sheet
-withResults x r = record { settings = x .settings; table = x .table; results = r }
+withResults x r = record { count = x .count; settings = x .settings; table = x .table; results = r }
 
 -- a sheet that the plain finder accepts is written with its plan
 pub sheet-planned : (x : Sheet) (k : ℕ) → asked x ≡ accepted k → plannedSheet x ≡ accepted (encode (withPlan x k))
@@ -72,7 +73,7 @@ module _ (x : Sheet) (few : x .table .n ≤ mostTasks) (ps qs ps′ qs′ : List
     -- what stands in the outputs
     periods-are : ps′ ≡ planPeriods x k ++ drop (x .table .n) ps
     unfolding outcome
-    periods-are = m .grants ∙ ap (λ (h : Handed ℕ). periodsAfter h (x .table .rows) (x .table .n) ps) (sym (m .answers) ∙ ap handed e)
+    periods-are = m .grants ∙ ap (λ (h : Handed ℕ). periodsAfter h (x .settings) (x .table .rows) (x .table .n) ps) (sym (m .answers) ∙ ap handed e)
 
     processors-are : qs′ ≡ planProcessors x k ++ drop (x .table .n) qs
     unfolding outcome
@@ -99,19 +100,23 @@ module _ (x : Sheet) (few : x .table .n ≤ mostTasks) (ps qs ps′ qs′ : List
       unfolding withPlan resultsOf
       planned-is =
           let n = x .table .n in
-          let rows = padded-cong noGranted (entryAt ps′ qs′) (entryAt (planPeriods x k) (planProcessors x k)) n few entry-is in
+          let rows = over-cong noResults (entryAt ps′ qs′) (entryAt (planPeriods x k) (planProcessors x k)) n entry-is in
           ap (withResults x) is
           ∙ ap (λ (g : List Granted). withResults x (record { rows = g; n = n })) rows
 
-      planned-accepted : (room : ℕ) → longestSheet ≤ room → writeSheet (withPlan x k) room ≡ accepted (lengthOf (withPlan x k))
+      planned-accepted : settingsFit (x .count) ≡ true → (room : ℕ) → longestSheet ≤ room
+          → writeSheet (withPlan x k) room ≡ accepted (lengthOf (withPlan x k))
       unfolding withPlan resultsOf
-      planned-accepted room h = write-accepts (withPlan x k) room few (plan-fits (x .table .n)) (omega arith)
+      planned-accepted taken room h =
+          let most = settings-few (x .count) taken in
+          write-accepts (withPlan x k) room taken few (plan-fits (x .table .n)) (omega arith)
 
-      pub plan-written : (old new : List ℕ) → longestSheet ≤ length old → (w : Counted) → Writes (withResults x r) old w new → Fills (plannedSheet x) old w new
-      plan-written old new room w p =
+      pub plan-written : settingsFit (x .count) ≡ true → (old new : List ℕ) → longestSheet ≤ length old
+          → (w : Counted) → Writes (withResults x r) old w new → Fills (plannedSheet x) old w new
+      plan-written taken old new room w p =
           let y = withPlan x k in
           let p′ : Writes y old w new = rw planned-is at p in
-          let all = planned-accepted (length old) room in
+          let all = planned-accepted taken (length old) room in
           let long = encode-long y in
           rw (sheet-planned x k (sym answers ∙ ap handed e))
           (record {

@@ -6,9 +6,7 @@ use lib.ListN.{getD}
 use Rattle.kinds.specs.declared.Granted.{Granted}
 use Rattle.kinds.specs.declared.Results.{Results}
 use Rattle.kinds.specs.declared.Sheet.{Sheet}
-use Rattle.kinds.specs.Policy.{meant}
-use Rattle.share.specs.Table.{periodsAt}
-use Rattle.plan.specs.Plan.{processorsAt}
+use Rattle.plan.specs.Plan.{periodsUnder, processorsUnder}
 use Rattle.sheet.specs.Rows.{granted, noGranted, paddedRows}
 
 -- entry i of the periods and of the processors
@@ -21,15 +19,16 @@ resultsOf periods processors n = record { rows = paddedRows noGranted (entryAt p
 
 -- the periods and the processors of a sheet's plan at step k
 abbrev pub planPeriods : Sheet → ℕ → List ℕ
-planPeriods x k = periodsAt (x .table .rows) (x .table .n) k
+planPeriods x k = periodsUnder (x .settings) (x .table .rows) (x .table .n) k
 
 abbrev pub planProcessors : Sheet → ℕ → List ℕ
-planProcessors x k = processorsAt (meant (x .settings .policy)) (x .settings .m) (x .table .rows) (x .table .n) k
+planProcessors x k = processorsUnder (x .settings) (x .table .rows) (x .table .n) k
 
 -- document 01, "Program": "the sheet with results filled in from the plain finder, replacing older ones"
 unfoldable pub withPlan : Sheet → ℕ → Sheet
 withPlan x k =
     record {
+      count = x .count;
       settings = x .settings;
       table = x .table;
       results = resultsOf (planPeriods x k) (planProcessors x k) (x .table .n);

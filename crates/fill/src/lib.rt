@@ -7,11 +7,12 @@ use kinds::Results;
 use kinds::Sheet;
 use kinds::Table;
 use kinds::Verdict;
+ghost use mathlib.Core.Bool.{true};
 ghost use mathlib.Core.Path.{_≡_};
 ghost use Prim.Native.Nat.{_≤_};
 ghost use lib.ListN.{length};
 ghost use Rattle.kinds.specs.Limits.{mostTasks};
-ghost use Rattle.sheet.specs.Sections.{longestSheet};
+ghost use Rattle.sheet.specs.Sections.{longestSheet, settingsFit};
 ghost use Rattle.line.specs.Fronts.{Fronts};
 ghost use Rattle.fill.specs.Results.{resultsOf};
 ghost use Rattle.fill.specs.Fill.{plannedSheet, planned, filled, Fills};
@@ -39,7 +40,7 @@ fn results_of(
 
 // Writes a sheet with its results filled in from the plain finder, or refuses it.
 fn fill_sheet(x: Sheet, out: &mut [u8]) -> Counted
-    requires { ⌜ (x .table .n ≤ mostTasks) × (longestSheet ≤ length (now out)) ⌝ }
+    requires { ⌜ (settingsFit (x .count) ≡ true) × ((x .table .n ≤ mostTasks) × (longestSheet ≤ length (now out))) ⌝ }
     ensures { λ r. ⌜ Fills (plannedSheet x) (now (out .entry)) r (now (out .exit)) ⌝ }
 {
     let table = x.table;
@@ -52,6 +53,7 @@ fn fill_sheet(x: Sheet, out: &mut [u8]) -> Counted
     }
     let results = results_of(periods, processors, table.n);
     let planned = Sheet {
+        count: x.count,
         settings,
         table,
         results,

@@ -2,7 +2,7 @@
 use Rattle.fill.proofs.Fills.{refuses}
 use Rattle.fill.proofs.Readings.{reading-refused, reading-accepted}
 use borrow.Author.Needs.{needs}
-use Rattle.sheet.proofs.Handed.{reading-few}
+use Rattle.sheet.proofs.Handed.{reading-taken, reading-few}
 use Rattle.fill.proofs.fill_in.Statement.{statement}
 use Rattle.fill.proofs.fill_in.Tie as tie
 
@@ -16,7 +16,11 @@ enum-told : tie.Need-enum-told
 enum-told c = search needs
 
 fill-sheet-requires : tie.Need-fill-sheet-requires
-fill-sheet-requires c κs = (reading-few _ _ (c .before .before .before .before .read .ensures) (c .before .before .enum-told .given .1), search needs)
+fill-sheet-requires c κs =
+    let told = c .before .before in
+    let read = told .before .before .read .ensures in
+    let accepted = told .enum-told .given .1 in
+    (reading-taken _ _ read accepted, (reading-few _ _ read accepted, search needs))
 
 returns : tie.Need-returns
 returns c = refuses _ _ (reading-refused _ _ (c .before .before .before .read .ensures) _ (c .before .verdict .given .1)) _

@@ -22,7 +22,8 @@ returns : tie.Need-returns
 returns c =
     let found = c .before .before .before .before .before in
     let entry = found .before .before .before .before .before .before in
-    refuses _ _ (plan-refused (entry .args .x) (entry .pre .0) _ _ _ _ refl refl (found .find .result) (found .find .ensures) _ (c .before .answer .given .1)) _
+    refuses _ _
+    (plan-refused (entry .args .x) (entry .pre .1 .0) _ _ _ _ refl refl (found .find .result) (found .find .ensures) _ (c .before .answer .given .1)) _
 
 enum-told : tie.Need-enum-told
 enum-told c = search needs
@@ -41,8 +42,8 @@ returns-2 c =
     let told = c .before .before .before .before .before in
     let found = told .before .before .before .before in
     let entry = found .before .before .before .before .before .before in
-    plan-written (entry .args .x) (entry .pre .0) _ _ _ _ refl refl (found .find .result) (found .find .ensures) _ (told .enum-told .given .1)
-    _ (c .before .before .before .before .results-of .ensures) _ _ (entry .pre .1) _ (c .before .before .write .ensures)
+    plan-written (entry .args .x) (entry .pre .1 .0) _ _ _ _ refl refl (found .find .result) (found .find .ensures) _ (told .enum-told .given .1)
+    _ (c .before .before .before .before .results-of .ensures) (entry .pre .0) _ _ (entry .pre .1 .1) _ (c .before .before .write .ensures)
 
 pub fill-sheet-spec : {M : Type 1} → statement M
 fill-sheet-spec =

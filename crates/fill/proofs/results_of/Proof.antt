@@ -5,8 +5,8 @@ use native.Mathlib.Omega.{arith}
 use lib.ListN.{length, length-set}
 use borrow.Author.Needs.{needs}
 use Rattle.kinds.specs.Limits.{mostTasks}
-use Rattle.sheet.specs.Rows.{noGranted, paddedRows}
-use Rattle.sheet.proofs.Padding.{padded-none}
+use Rattle.sheet.specs.Rows.{noGranted, noResults, paddedRows}
+use Rattle.sheet.proofs.Padding.{over-none}
 use Rattle.fill.specs.Results.{entryAt}
 use Rattle.fill.proofs.Plans.{rows-more, rows-done}
 use Rattle.fill.proofs.results_of.Statement.{statement}
@@ -20,7 +20,7 @@ abbrev μ-loop : tie.MeasureT-loop
 μ-loop n periods processors rows₀ i₀ rows i = n - i
 
 loop-holds : tie.Need-loop-holds Inv-loop μ-loop
-loop-holds c = (search needs, (refl, sym (padded-none noGranted (entryAt (c .args .t1) (c .args .t2)))))
+loop-holds c = (search needs, (refl, sym (over-none noResults (entryAt (c .args .t1) (c .args .t2)))))
 
 mul-t10 : tie.Need-mul-t10 Inv-loop μ-loop
 mul-t10 c = search needs
