@@ -28,7 +28,7 @@ use Rattle.kinds.proofs.Chain.{goes-on, both-accept, judged-passed}
 use Rattle.share.specs.Share.{periodAt}
 use Rattle.share.specs.Table.{periodsAt}
 use Rattle.admission.specs.Admission.{admission}
-use Rattle.policy.specs.Passing.{leastStep}
+use Rattle.policy.specs.Under.{rowsUnder, leastUnder}
 use Rattle.plan.specs.Plan.{processorAt, processorsAt, decided, found}
 use Rattle.plain.specs.Asked.{asked}
 use Rattle.sheet.specs.Rows.{granted}
@@ -53,7 +53,7 @@ asked-by-number : (x : Sheet) → asked x .number ≡ 0 → asked x ≡ accepted
 unfolding asked found
 asked-by-number x z =
     let n = x .table .n in
-    decided-numbered (admission true (x .settings) (x .table .rows) n n) (leastStep (meant (x .settings .policy)) (x .settings .m) (x .table .rows) n) z
+    decided-numbered (admission true (x .settings) (x .table .rows) n n) (leastUnder (x .settings) (x .table .rows) n) z
 
 -- results that do not differ are the same
 agree : (a b : Granted) → differ a b ≡ false → a ≡ b
@@ -72,8 +72,9 @@ same a b e =
 pub plan-at : (x : Sheet) (k i : ℕ) → x .table .n ≤ mostTasks → i < x .table .n → grantedIn (withPlan x k) i ≡ grantedAt x k i
 unfolding periodsAt processorsAt
 plan-at x k i few l =
-    let period : ℕ → ℕ = λ j. periodAt (at (x .table .rows) j) k in
-    let processor = processorAt (meant (x .settings .policy)) (x .settings .m) (x .table .rows) k in
+    let paid = rowsUnder (x .settings) (x .table .rows) (x .table .n) in
+    let period : ℕ → ℕ = λ j. periodAt (at paid j) k in
+    let processor = processorAt (meant (x .settings .policy)) (x .settings .m) paid k in
     planned-at x k i few l ∙ ap₂ granted (list-in 0 period (x .table .n) i l) (list-in 0 processor (x .table .n) i l)
 
 -- "naming the first result that differs": it does, and none before it
