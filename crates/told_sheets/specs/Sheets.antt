@@ -18,13 +18,14 @@ use Rattle.told.specs.Told.{settingsOf}
 
 -- the sheet that the numbers stand for
 abbrev pub sheetOf : StationSheet → Sheet
-sheetOf x = record { settings = settingsOf (x .station); table = x .table; results = x .results }
+sheetOf x = record { count = x .count; settings = settingsOf (x .station); table = x .table; results = x .results }
 
 -- a sheet in numbers
 abbrev pub numbersOf : Sheet → StationSheet
 numbersOf x =
     record {
-      station = record { policy = policyNumber (x .settings .policy); m = x .settings .m };
+      count = x .count;
+      station = record { policy = policyNumber (x .settings .policy); m = x .settings .m; w = x .settings .swap };
       table = x .table;
       results = x .results;
     }

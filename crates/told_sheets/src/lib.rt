@@ -18,9 +18,10 @@ ghost use Rattle.filled_sheet.specs.Checked.{checked};
 ghost use Rattle.change_over.specs.ChangeOver.{changeOver};
 ghost use Rattle.told_sheets.specs.Sheets.{sheetOf, numbersOf, inNumbers, toldReading, toldCount, ToldCounts, toldVerdict, toldPart};
 
-// A sheet in numbers.
+// A sheet in numbers: how many numbers its settings section has, and its sections.
 #[repr(C)]
 pub struct StationSheet {
+    pub count: usize,
     pub station: Station,
     pub table: Table,
     pub results: Results,
@@ -66,6 +67,7 @@ fn sheet_of(x: StationSheet) -> Sheet
     let results = x.results;
     let settings = told::settings_of(station);
     Sheet {
+        count: x.count,
         settings,
         table,
         results,
@@ -83,8 +85,10 @@ fn numbers_of(sheet: Sheet) -> StationSheet
     let station = Station {
         policy: policy.number(),
         m: settings.m,
+        w: settings.swap,
     };
     StationSheet {
+        count: sheet.count,
         station,
         table,
         results,
