@@ -78,8 +78,11 @@ fn put_rows(bytes: &mut Vec<u8>, rows: &[Record]) {
 }
 
 fn put_sheet(bytes: &mut Vec<u8>, sheet: &Sheet) {
-    for number in [sheet.policy.number(), sheet.m, sheet.task_count, sheet.result_count] {
+    for number in [sheet.policy.number(), sheet.m, sheet.settings_count, sheet.w] {
         bytes.extend(number.to_le_bytes());
+    }
+    for count in [sheet.task_count, sheet.result_count] {
+        bytes.extend(count.to_le_bytes());
     }
     put_rows(bytes, &sheet.rows);
     for result in &sheet.results {

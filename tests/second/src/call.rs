@@ -8,13 +8,16 @@ use crate::definition::wide::{WideQuestion, WideRecord};
 /// The most bytes of a payload.
 pub const MOST_PAYLOAD: usize = 2_000;
 
-/// Policy and processors as a call gives them.
+/// The settings as a call gives them.
 #[derive(Clone, Copy, Debug, PartialEq, Eq)]
 pub struct Settings {
     pub number: u16,
     /// Whether the number is held by a further choice, also when it is 1 to 5.
     pub further: bool,
     pub m: u16,
+    /// The settings count, at which only the writer looks; a sheet in bytes has as many of the numbers.
+    pub count: u16,
+    pub w: u16,
 }
 
 /// Settings and a table; of more than 32 tasks the stream has 32 rows.
@@ -97,8 +100,14 @@ pub fn present(count: u16) -> usize {
 }
 
 impl Settings {
-    pub fn new(number: u16, m: u16) -> Settings {
-        Settings { number, further: false, m }
+    /// Two settings.
+    pub const fn new(number: u16, m: u16) -> Settings {
+        Settings { number, further: false, m, count: 2, w: 0 }
+    }
+
+    /// Three settings.
+    pub fn with_swaps(self, w: u16) -> Settings {
+        Settings { count: 3, w, ..self }
     }
 
     pub fn policy(self) -> Policy {
@@ -112,7 +121,9 @@ impl Settings {
     fn put(self, bytes: &mut Vec<u8>) {
         bytes.extend(self.number.to_le_bytes());
         bytes.push(u8::from(self.further));
-        bytes.extend(self.m.to_le_bytes());
+        for number in [self.m, self.count, self.w] {
+            bytes.extend(number.to_le_bytes());
+        }
     }
 }
 
@@ -122,10 +133,18 @@ impl Table {
         Table { settings: Settings::new(number, m), count: rows.len() as u16, rows: rows.to_vec() }
     }
 
+    /// The same table with three settings.
+    pub fn with_swaps(mut self, w: u16) -> Table {
+        self.settings = self.settings.with_swaps(w);
+        self
+    }
+
+    /// Ask 2's finders use w whatever the settings count says.
     pub fn question(&self) -> Question {
         Question {
             policy: self.settings.policy(),
             m: self.settings.m,
+            w: self.settings.w,
             count: usize::from(self.count),
             rows: self.rows.clone(),
         }
@@ -159,8 +178,10 @@ impl Writing {
     /// The sheet of the call, with zeros in the places that the stream does not have.
     pub fn sheet(&self) -> Sheet {
         let mut sheet = Sheet::zeros();
+        sheet.settings_count = self.settings.count;
         sheet.policy = self.settings.policy();
         sheet.m = self.settings.m;
+        sheet.w = self.settings.w;
         sheet.task_count = self.task_count;
         sheet.result_count = self.result_count;
         sheet.rows[..self.rows.len()].copy_from_slice(&self.rows);

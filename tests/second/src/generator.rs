@@ -8,6 +8,7 @@ pub mod edges_of_clock;
 mod edges_of_finders;
 pub mod edges_of_office;
 mod edges_of_sheets;
+mod edges_of_swaps;
 pub mod edges_of_wide;
 mod mix;
 mod office_texts;
@@ -27,6 +28,7 @@ impl Calls {
     pub fn of_seed(seed: u64) -> Calls {
         let mut fixed = bench::calls();
         fixed.extend(edges_of_finders::calls());
+        fixed.extend(edges_of_swaps::calls());
         fixed.extend(edges_of_sheets::calls());
         fixed.extend(edges_of_wide::calls());
         fixed.extend(edges_of_checked::calls());

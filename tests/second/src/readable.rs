@@ -13,7 +13,8 @@ pub fn hex(bytes: &[u8]) -> String {
 
 fn settings_line(settings: Settings) -> String {
     let made = if settings.further { "a further choice" } else { "as a sheet is read" };
-    format!("  policy {} ({made}), m {}\n", settings.number, settings.m)
+    let Settings { number, m, count, w, .. } = settings;
+    format!("  policy {number} ({made}), m {m}, settings count {count}, w {w}\n")
 }
 
 fn record_line(index: usize, row: &Record) -> String {
@@ -151,6 +152,7 @@ impl<'a> Fields<'a> {
 
     fn sheet(&mut self) -> Option<String> {
         let mut text = format!("  policy {}, m {}", self.number(2)?, self.number(2)?);
+        let _ = write!(text, ", settings count {}, w {}", self.number(2)?, self.number(2)?);
         let _ =
             writeln!(text, ", task count {}, result count {}", self.number(2)?, self.number(2)?);
         for index in 0..MOST_TASKS {

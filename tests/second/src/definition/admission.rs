@@ -1,14 +1,23 @@
 //! The checks 1 to 6 that stand before every search, "the lowest number first"; Ask 8's 15 stands in the place of 1.
 
 use super::kinds::{refuse, Policy, Record, Refusal, MOST_PROCESSORS, MOST_TASKS};
+use super::share::{springs, Spring};
 
 /// What finders and margin are asked about. Of more than 32 tasks only 32 rows are kept.
 #[derive(Clone, Debug)]
 pub struct Question {
     pub policy: Policy,
     pub m: u16,
+    pub w: u16,
     pub count: usize,
     pub rows: Vec<Record>,
+}
+
+impl Question {
+    /// The springs of a question that is admitted.
+    pub fn springs(&self) -> Vec<Spring> {
+        springs(&self.rows, self.w)
+    }
 }
 
 /// Whether the call that asks serves policy 4.
@@ -42,7 +51,7 @@ pub fn admit(question: &Question, serves: Serves, rooms: &[usize]) -> Result<(),
     if rooms.iter().any(|room| *room < question.count) {
         return refuse(5, question.count);
     }
-    match question.rows.iter().position(|row| !row.is_good()) {
+    match question.rows.iter().position(|row| !row.is_good(question.w)) {
         Some(first) => refuse(6, first),
         None => Ok(()),
     }

@@ -23,7 +23,8 @@ pub struct Part {
 /// What a read sheet asks of the plain finder.
 fn question_of(sheet: &Sheet) -> Question {
     let count = usize::from(sheet.task_count);
-    Question { policy: sheet.policy, m: sheet.m, count, rows: sheet.rows[..count].to_vec() }
+    let rows = sheet.rows[..count].to_vec();
+    Question { policy: sheet.policy, m: sheet.m, w: sheet.w, count, rows }
 }
 
 /// The plain finder's results for a read sheet.
@@ -40,8 +41,8 @@ pub fn results_for(sheet: &Sheet) -> Result<Vec<Granted>, Refusal> {
 fn accepted_task_section(which: Which, bytes: &[u8]) -> Option<Part> {
     let sheet = read(bytes).ok()?;
     results_for(&sheet).ok()?;
-    // three settings fields and the task count, 2 bytes each, stand before the records
-    Some(Part { which, offset: 8, length: Record::BYTES * usize::from(sheet.task_count) })
+    let offset = Sheet::records_place(usize::from(sheet.settings_count));
+    Some(Part { which, offset, length: Record::BYTES * usize::from(sheet.task_count) })
 }
 
 /// The proposed one's task section, otherwise the standing one's, otherwise the empty front.

@@ -3,7 +3,7 @@
 use super::admission::{admit, Question, Serves};
 use super::kinds::{refuse, Policy, Refusal};
 use super::policy::{first_fit, passes};
-use super::share::{full_compression, period_with_share, springs, Spring};
+use super::share::{full_compression, period_with_share, Spring};
 use std::collections::BTreeSet;
 
 /// The shares of all tasks at a step, in record order.
@@ -13,7 +13,7 @@ pub fn shares_at(springs: &[Spring], step: u32) -> Vec<u64> {
 
 /// Scans every step from 0 to K and answers the first that passes.
 pub fn least_passing_step(question: &Question) -> Option<u32> {
-    let springs = springs(&question.rows);
+    let springs = question.springs();
     let mut shares = vec![0_u64; springs.len()];
     (0..=full_compression(&springs)).find(|step| {
         for (share, spring) in shares.iter_mut().zip(&springs) {
@@ -25,9 +25,9 @@ pub fn least_passing_step(question: &Question) -> Option<u32> {
 
 /// "for each task its period and a processor: 1 to m under policy 4, and 0 ("any") under 1 to 3", and under 5; 3 is withdrawn
 fn write_plan(question: &Question, step: u32, periods: &mut [u32], processors: &mut [u16]) {
-    let shares = shares_at(&springs(&question.rows), step);
+    let shares = shares_at(&question.springs(), step);
     for (index, row) in question.rows.iter().enumerate() {
-        periods[index] = period_with_share(*row, shares[index]);
+        periods[index] = period_with_share(*row, question.w, shares[index]);
     }
     let placed = match question.policy.meaning() {
         Policy::FirstFit => first_fit(question.m, &shares).expect("the step passes"),
@@ -92,9 +92,5 @@ fn looks(question: &Question, answer: Option<u32>) -> u16 {
 
 /// Every saturation step above 0, each once.
 pub fn distinct_positive_saturation_steps(question: &Question) -> BTreeSet<u32> {
-    springs(&question.rows)
-        .iter()
-        .filter_map(Spring::saturation_step)
-        .filter(|step| *step > 0)
-        .collect()
+    question.springs().iter().filter_map(Spring::saturation_step).filter(|step| *step > 0).collect()
 }

@@ -28,10 +28,15 @@ impl Record {
         Record { c, tmin, tmax, e }
     }
 
-    /// "good when 1 ≤ C ≤ Tmin ≤ Tmax ≤ 1,000,000,000 and 0 ≤ E ≤ 1,000,000"
-    pub fn is_good(self) -> bool {
+    /// Ask 2: "each job pays for being swapped in and out", so a job costs C + 2w; 32 bits do not always hold it.
+    pub fn cost(self, w: u16) -> u64 {
+        u64::from(self.c) + 2 * u64::from(w)
+    }
+
+    /// "good when 1 ≤ C ≤ Tmin ≤ Tmax ≤ 1,000,000,000 and 0 ≤ E ≤ 1,000,000", where Ask 2 reads C + 2w in "C ≤ Tmin" alone
+    pub fn is_good(self, w: u16) -> bool {
         1 <= self.c
-            && self.c <= self.tmin
+            && self.cost(w) <= u64::from(self.tmin)
             && self.tmin <= self.tmax
             && self.tmax <= Record::GREATEST_PERIOD
             && self.e <= Record::GREATEST_ELASTICITY
@@ -98,8 +103,12 @@ impl Granted {
 /// A station sheet with all its places, used or not.
 #[derive(Clone, Debug, PartialEq, Eq)]
 pub struct Sheet {
+    /// Ask 2: "kept and written back as read", whatever it is; only the writer looks at it.
+    pub settings_count: u16,
     pub policy: Policy,
     pub m: u16,
+    /// Ask 2: "a third number, the swap cost w"
+    pub w: u16,
     pub task_count: u16,
     pub result_count: u16,
     pub rows: [Record; MOST_TASKS],
@@ -107,14 +116,19 @@ pub struct Sheet {
 }
 
 impl Sheet {
-    /// "at most 714"
-    pub const MOST_BYTES: usize = 714;
+    /// Ask 2: 9 "now means neither 2 nor 3"
+    pub const SETTINGS_COUNTS: [u16; 2] = [2, 3];
+
+    /// "at most 714"; since Ask 2 "the greatest length follows", that of three settings.
+    pub const MOST_BYTES: usize = Sheet::bytes_needed(3, MOST_TASKS, MOST_TASKS);
 
     /// "a sheet of zeros (policy: the further choice 0)"
     pub fn zeros() -> Sheet {
         Sheet {
+            settings_count: 0,
             policy: Policy::Further(0),
             m: 0,
+            w: 0,
             task_count: 0,
             result_count: 0,
             rows: [Record::default(); MOST_TASKS],
@@ -122,9 +136,23 @@ impl Sheet {
         }
     }
 
-    /// "A sheet with n tasks and r results is 10 + 16n + 6r bytes."
-    pub fn bytes_needed(task_count: usize, result_count: usize) -> usize {
-        10 + Record::BYTES * task_count + Granted::BYTES * result_count
+    /// Whether the settings count is one that a sheet may have.
+    pub fn counts_its_settings(&self) -> bool {
+        Sheet::SETTINGS_COUNTS.contains(&self.settings_count)
+    }
+
+    /// Where the records begin: behind the settings count, the settings and the task count, 2 bytes each.
+    pub const fn records_place(settings_count: usize) -> usize {
+        4 + 2 * settings_count
+    }
+
+    /// "A sheet is then 6 + 2s + 16n + 6r bytes for s settings."
+    pub const fn bytes_needed(
+        settings_count: usize,
+        task_count: usize,
+        result_count: usize,
+    ) -> usize {
+        6 + 2 * settings_count + Record::BYTES * task_count + Granted::BYTES * result_count
     }
 }
 

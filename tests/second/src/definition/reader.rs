@@ -41,13 +41,17 @@ impl Reader<'_> {
         Ok(Granted { period: self.four_bytes()?, processor: self.two_bytes()? })
     }
 
-    /// "settings (count 2: policy, m, 2 bytes each)"
+    /// "settings (count 2: policy, m, 2 bytes each)"; Ask 2: "Sheets with settings count 2 are still read, with w = 0"
     fn settings(&mut self, sheet: &mut Sheet) -> Result<(), Refusal> {
-        if self.two_bytes()? != 2 {
+        sheet.settings_count = self.two_bytes()?;
+        if !sheet.counts_its_settings() {
             return refuse(9, 0);
         }
         sheet.policy = Policy::from_number(self.two_bytes()?);
         sheet.m = self.two_bytes()?;
+        if sheet.settings_count == 3 {
+            sheet.w = self.two_bytes()?;
+        }
         Ok(())
     }
 

@@ -1,4 +1,4 @@
-//! "Numbers on a task": shares, saturation steps, full compression and periods.
+//! "Numbers on a task": shares, saturation steps, full compression and periods; "every C … is to be read as C + 2w" (Ask 2).
 
 use super::kinds::{Record, SCALE};
 
@@ -11,22 +11,22 @@ pub struct Spring {
 }
 
 /// "Largest share: C × S / Tmin rounded up. Least share: C × S / Tmax rounded up."
-fn share_with_period(c: u32, period: u32) -> u64 {
-    (u64::from(c) * SCALE).div_ceil(u64::from(period))
+fn share_with_period(cost: u64, period: u32) -> u64 {
+    (cost * SCALE).div_ceil(u64::from(period))
 }
 
-/// The spring of a good record.
-pub fn spring(record: Record) -> Spring {
+/// The spring of a record that is good with a swap cost.
+pub fn spring(record: Record, w: u16) -> Spring {
     Spring {
-        largest: share_with_period(record.c, record.tmin),
-        least: share_with_period(record.c, record.tmax),
+        largest: share_with_period(record.cost(w), record.tmin),
+        least: share_with_period(record.cost(w), record.tmax),
         elasticity: u64::from(record.e),
     }
 }
 
-/// The springs of good records, in record order.
-pub fn springs(rows: &[Record]) -> Vec<Spring> {
-    rows.iter().map(|row| spring(*row)).collect()
+/// The springs of such records, in record order.
+pub fn springs(rows: &[Record], w: u16) -> Vec<Spring> {
+    rows.iter().map(|row| spring(*row, w)).collect()
 }
 
 impl Spring {
@@ -50,34 +50,34 @@ pub fn full_compression(springs: &[Spring]) -> u32 {
 }
 
 /// The property of a period: C × S ≤ share × T.
-fn share_allows(c: u32, share: u64, period: u32) -> bool {
-    u128::from(c) * u128::from(SCALE) <= u128::from(share) * u128::from(period)
+fn share_allows(cost: u64, share: u64, period: u32) -> bool {
+    u128::from(cost) * u128::from(SCALE) <= u128::from(share) * u128::from(period)
 }
 
 /// "the smallest whole T from Tmin to Tmax with C × S ≤ share × T. One always exists."
-pub fn period_with_share(record: Record, share: u64) -> u32 {
+pub fn period_with_share(record: Record, w: u16, share: u64) -> u32 {
     const STEPPED_RANGE: u32 = 100_000;
     if record.tmax - record.tmin <= STEPPED_RANGE {
-        stepped_period(record, share)
+        stepped_period(record, w, share)
     } else {
-        halved_period(record, share)
+        halved_period(record, w, share)
     }
 }
 
 /// Tries every T of the range, the smallest first.
-pub fn stepped_period(record: Record, share: u64) -> u32 {
+pub fn stepped_period(record: Record, w: u16, share: u64) -> u32 {
     (record.tmin..=record.tmax)
-        .find(|period| share_allows(record.c, share, *period))
+        .find(|period| share_allows(record.cost(w), share, *period))
         .expect("document 01: one always exists")
 }
 
 /// Halves a range whose upper end has the property; the property never ends as T grows.
-pub fn halved_period(record: Record, share: u64) -> u32 {
-    assert!(share_allows(record.c, share, record.tmax), "document 01: one always exists");
+pub fn halved_period(record: Record, w: u16, share: u64) -> u32 {
+    assert!(share_allows(record.cost(w), share, record.tmax), "document 01: one always exists");
     let (mut low, mut high) = (record.tmin, record.tmax);
     while low < high {
         let middle = low + (high - low) / 2;
-        if share_allows(record.c, share, middle) {
+        if share_allows(record.cost(w), share, middle) {
             high = middle;
         } else {
             low = middle + 1;

@@ -4,8 +4,10 @@ use super::kinds::{refuse, Refusal, Sheet, MOST_TASKS};
 
 /// The bytes of a sheet whose counts are in order.
 fn bytes_of(sheet: &Sheet) -> Vec<u8> {
-    let mut bytes = Vec::new();
-    for setting in [2, sheet.policy.number(), sheet.m] {
+    let mut bytes = sheet.settings_count.to_le_bytes().to_vec();
+    // Ask 2: the writer "leaves out numbers past it", the settings count
+    let settings = [sheet.policy.number(), sheet.m, sheet.w];
+    for setting in &settings[..usize::from(sheet.settings_count)] {
         bytes.extend(setting.to_le_bytes());
     }
     bytes.extend(sheet.task_count.to_le_bytes());
@@ -22,16 +24,22 @@ fn bytes_of(sheet: &Sheet) -> Vec<u8> {
     bytes
 }
 
-/// "The writer gives 3, 10, 5 in that order." Accepted: the written length.
+/// "The writer gives 3, 10, 5 in that order", and since Ask 2 "it gives 9 first". Accepted: the written length.
 pub fn write(sheet: &Sheet, buffer: &mut [u8]) -> Result<u16, Refusal> {
+    if !sheet.counts_its_settings() {
+        return refuse(9, 0);
+    }
     if usize::from(sheet.task_count) > MOST_TASKS {
         return refuse(3, usize::from(sheet.task_count));
     }
     if sheet.result_count != 0 && sheet.result_count != sheet.task_count {
         return refuse(10, 0);
     }
-    let needed =
-        Sheet::bytes_needed(usize::from(sheet.task_count), usize::from(sheet.result_count));
+    let needed = Sheet::bytes_needed(
+        usize::from(sheet.settings_count),
+        usize::from(sheet.task_count),
+        usize::from(sheet.result_count),
+    );
     if buffer.len() < needed {
         return refuse(5, needed);
     }

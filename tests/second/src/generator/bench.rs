@@ -1,4 +1,4 @@
-//! "Bench settings to try": the cases A to L and case B under policy 5, asked of every call that can be asked.
+//! "Bench settings to try": the cases A to L, case B under policy 5 and with swaps, asked of every call that can be asked.
 
 use super::sheets::sheet_of;
 use crate::call::{Call, Rooms, Table};
@@ -17,7 +17,8 @@ pub fn case_k_rows() -> Vec<Record> {
     rows
 }
 
-/// The cases A to K by their letters, of which F, G and H are under the policy withdrawn, and case B under Ask 1's.
+/// The cases A to K by their letters, of which F, G and H are under the policy withdrawn, case B under Ask 1's, and with Ask 2's swap
+/// costs that its tasks can bear.
 pub fn cases() -> Vec<(&'static str, Table)> {
     vec![
         ("A", Table::new(1, 1, &[])),
@@ -32,6 +33,8 @@ pub fn cases() -> Vec<(&'static str, Table)> {
         ("J", Table::new(1, 1, &[HUGE_RANGE; 2])),
         ("K", Table::new(4, 3, &case_k_rows())),
         ("B under 5", Table::new(5, 1, &[HALF_SPRING; 2])),
+        ("B, w = 1", Table::new(1, 1, &[HALF_SPRING; 2]).with_swaps(1)),
+        ("B, w = 2", Table::new(1, 1, &[HALF_SPRING; 2]).with_swaps(2)),
     ]
 }
 
@@ -52,8 +55,8 @@ pub fn case_l() -> Vec<Table> {
 
 /// The steps of the bench answers and those beside them, full compressions, a step whose
 /// product with E = 1000 is a multiple of 2 to the 32, and the last step.
-const MARGIN_STEPS: [u32; 17] =
-    [0, 1, 54, 55, 56, 99, 100, 101, 146, 185, 186, 266, 267, 400, 500_000, 1 << 29, u32::MAX];
+const MARGIN_STEPS: [u32; 18] =
+    [0, 1, 54, 55, 56, 99, 100, 101, 146, 185, 186, 266, 267, 300, 400, 500_000, 1 << 29, u32::MAX];
 
 /// The calls of one case; `again` asks also through sheets.
 fn calls_of(table: &Table, again: bool) -> Vec<Call> {

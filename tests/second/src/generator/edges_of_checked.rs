@@ -61,6 +61,8 @@ fn refused_first() -> Vec<Call> {
         Table::new(1, 17, &[good]),
         Table::new(1, 1, &[good, Record::new(11, 10, 20, 0)]),
         Table::new(1, 1, &[Record::new(10, 10, 10, 0), good]),
+        Table::new(1, 1, &[good, Record::new(5, 10, 20, 0)]).with_swaps(3),
+        Table::new(1, 1, &[Record::new(0, 10, 20, 0), good]).with_swaps(1),
         Table::new(0, 0, &[]),
     ];
     let mut calls = Vec::new();
@@ -72,10 +74,15 @@ fn refused_first() -> Vec<Call> {
     calls
 }
 
-/// Inputs past the longest sheet: a full one that agrees, then zeros.
+/// Inputs past the longest sheet of two and of three settings: a full one that agrees, then zeros.
 fn overlong() -> Vec<Call> {
     let rows: Vec<Record> = (1..=32).map(|c| Record::new(c, 500, 1000, 100 * c)).collect();
-    let whole = filled(&Table::new(2, 3, &rows));
-    let longer = |more: usize| Call::Check([&whole[..], &vec![0; more][..]].concat());
-    [0, 1, 2, 86].into_iter().map(longer).collect()
+    let two = Table::new(2, 3, &rows);
+    let mut calls = Vec::new();
+    for whole in [filled(&two), filled(&two.with_swaps(1))] {
+        for more in [0, 1, 2, 3, 84] {
+            calls.push(Call::Check([&whole[..], &vec![0; more][..]].concat()));
+        }
+    }
+    calls
 }

@@ -22,7 +22,7 @@ pub fn calls() -> Vec<Call> {
 }
 
 /// One question asked of all three calls.
-fn ask(table: &Table, rooms: Rooms, step: u32) -> [Call; 3] {
+pub fn ask(table: &Table, rooms: Rooms, step: u32) -> [Call; 3] {
     [
         Call::Plain(table.clone(), rooms),
         Call::Quick(table.clone(), rooms),
@@ -43,8 +43,8 @@ fn settings() -> Vec<Call> {
     for number in [0, 1, 2, 3, 4, 5, 6, 65535] {
         for further in [false, true] {
             for m in [0, 1, 2, 16, 17, 65535] {
-                let table =
-                    counted(Settings { number, further, m }, *counts.next().expect("a cycle"));
+                let settings = Settings { further, ..Settings::new(number, m) };
+                let table = counted(settings, *counts.next().expect("a cycle"));
                 calls.extend(ask(&table, Rooms::just(&table), 7));
             }
         }

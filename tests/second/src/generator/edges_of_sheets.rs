@@ -1,7 +1,7 @@
 //! The edges of sheets: every truncation, bad counts, trailing bytes, long inputs, short buffers.
 
 use super::bench::case_k_rows;
-use super::sheets::{made_up_results, sheet_of, Raw};
+use super::sheets::{made_up_results, sheet_of, Raw, SETTINGS_COUNTS};
 use crate::call::{present, Call, Settings, Table, Writing};
 use crate::definition::kinds::{Record, Sheet};
 
@@ -20,10 +20,21 @@ fn two_tasks() -> Raw {
     Raw::honest(&Table::new(1, 1, &[Record::new(6, 10, 20, 1000); 2]), &made_up_results(2))
 }
 
-/// The longest sheet, 714 bytes.
+/// The same with a swap cost: 56 bytes.
+fn two_tasks_with_swaps(w: u16) -> Raw {
+    let table = Table::new(1, 1, &[Record::new(6, 10, 20, 1000); 2]).with_swaps(w);
+    Raw::honest(&table, &made_up_results(2))
+}
+
+/// The longest sheet of two settings, 714 bytes.
 fn full() -> Raw {
     let rows: Vec<Record> = (1..=32).map(|c| Record::new(c, 500, 1000, 100 * c)).collect();
     Raw::honest(&Table::new(2, 3, &rows), &made_up_results(32))
+}
+
+/// The longest sheet, 716 bytes.
+fn full_with_swaps() -> Raw {
+    Raw { settings_count: 3, settings: vec![2, 3, 1], ..full() }
 }
 
 /// A case whose answers name processors: case K with older results.
@@ -36,15 +47,18 @@ fn cut_to(bytes: &[u8], length: usize) -> [Call; 2] {
     [Call::Read(bytes[..length].to_vec()), Call::Program(bytes[..length].to_vec())]
 }
 
-/// "every truncation of a sheet", and of the longest sheet those around its sections.
+/// "every truncation of a sheet" of two settings and of three, and of the longest ones those around their sections.
 fn truncations() -> Vec<Call> {
-    let small = two_tasks().bytes();
-    let mut calls: Vec<Call> =
-        (0..=small.len()).flat_map(|length| cut_to(&small, length)).collect();
-    let long = full().bytes();
+    let mut calls = Vec::new();
+    for small in [two_tasks().bytes(), two_tasks_with_swaps(1).bytes()] {
+        calls.extend((0..=small.len()).flat_map(|length| cut_to(&small, length)));
+    }
     let telling = [7, 8, 9, 23, 24, 25, 504, 505, 519, 520, 521, 522, 523, 527, 528, 712, 713, 714];
-    calls.extend(telling.into_iter().flat_map(|length| cut_to(&long, length)));
-    calls.extend((0..=long.len()).step_by(31).map(|length| Call::Program(long[..length].to_vec())));
+    for (long, more) in [(full().bytes(), 0), (full_with_swaps().bytes(), 2)] {
+        calls.extend(telling.into_iter().flat_map(|length| cut_to(&long, length + more)));
+        let every = (0..=long.len()).step_by(31);
+        calls.extend(every.map(|length| Call::Program(long[..length].to_vec())));
+    }
     calls.push(Call::Program(case_k().bytes()));
     calls
 }
@@ -64,14 +78,20 @@ fn judged_at(raw: &Raw, place: usize) -> Vec<Call> {
 /// "a count is judged as soon as its two bytes are there"
 fn bad_counts() -> Vec<Call> {
     let mut calls = Vec::new();
-    for settings_count in [0, 1, 3, 258, 512, 65535] {
+    for settings_count in SETTINGS_COUNTS {
+        let mut honest = Table::new(1, 1, &[Record::new(6, 10, 20, 1000); 2]).with_swaps(1);
+        honest.settings.count = settings_count;
+        calls.extend(judged_at(&Raw::honest(&honest, &[]), 0));
         calls.extend(judged_at(&Raw { settings_count, ..two_tasks() }, 0));
+        calls.extend(judged_at(&Raw { settings_count, ..two_tasks_with_swaps(1) }, 0));
     }
-    for task_count in [0, 1, 3, 32, 33, 34, 40, 256, 65535] {
-        calls.extend(judged_at(&Raw { task_count, ..two_tasks() }, 6));
-    }
-    for result_count in [0, 1, 3, 4, 32, 33, 40, 256, 258, 65535] {
-        calls.extend(judged_at(&Raw { result_count, ..two_tasks() }, 40));
+    for (whole, place) in [(two_tasks(), 6), (two_tasks_with_swaps(1), 8)] {
+        for task_count in [0, 1, 3, 32, 33, 34, 40, 256, 65535] {
+            calls.extend(judged_at(&Raw { task_count, ..whole.clone() }, place));
+        }
+        for result_count in [0, 1, 3, 4, 32, 33, 40, 256, 258, 65535] {
+            calls.extend(judged_at(&Raw { result_count, ..whole.clone() }, place + 34));
+        }
     }
     let empty = Raw::honest(&Table::new(1, 1, &[]), &[]);
     for result_count in [0, 1, 32, 65535] {
@@ -85,7 +105,7 @@ fn trailing_bytes() -> Vec<Call> {
     let without = sheet_of(&Table::new(3, 2, &[Record::new(6, 10, 20, 1000); 3]));
     let empty = sheet_of(&Table::new(1, 1, &[]));
     let mut calls = Vec::new();
-    for sheet in [two_tasks().bytes(), without, empty] {
+    for sheet in [two_tasks().bytes(), two_tasks_with_swaps(2).bytes(), without, empty] {
         for more in [1, 2, 6, 16] {
             let mut bytes = sheet.clone();
             bytes.extend(vec![0; more]);
@@ -96,21 +116,24 @@ fn trailing_bytes() -> Vec<Call> {
     calls
 }
 
-/// Inputs of 715 to 800 bytes: behind the longest sheet, a shorter one, and damaged ones.
+/// Inputs of 714 to 800 bytes: behind the longest sheets, a shorter one, and damaged ones.
 fn over_the_limit() -> Vec<Call> {
-    let long = full();
-    let starts = [
-        long.clone(),
-        Raw { result_count: 0, results: vec![], ..long.clone() },
-        Raw { result_count: 31, ..long.clone() },
-        Raw { settings_count: 3, ..long.clone() },
-        Raw { task_count: 33, ..long.clone() },
-        Raw { settings: Settings::new(77, 0), ..long },
-        two_tasks(),
-    ];
+    let mut starts = vec![two_tasks()];
+    for long in [full(), full_with_swaps()] {
+        let settings_count = long.settings_count;
+        starts.extend([
+            long.clone(),
+            Raw { result_count: 0, results: vec![], ..long.clone() },
+            Raw { result_count: 31, ..long.clone() },
+            Raw { settings_count: 5 - settings_count, ..long.clone() },
+            Raw { settings_count: 4, ..long.clone() },
+            Raw { task_count: 33, ..long.clone() },
+            Raw { settings: vec![77; usize::from(settings_count)], ..long },
+        ]);
+    }
     let mut calls = Vec::new();
     for start in starts {
-        for length in [714, 715, 716, 730, 799, 800] {
+        for length in [714, 715, 716, 717, 718, 730, 799, 800] {
             let mut bytes = start.bytes();
             bytes.resize(length, 0);
             if length % 5 == 0 {
@@ -135,24 +158,47 @@ fn writing(settings: Settings, task_count: u16, result_count: u16, room: usize) 
     })
 }
 
-/// "The writer gives 3, 10, 5 in that order": counts and rooms around each limit.
+/// "The writer gives 3, 10, 5 in that order", and 9 before them: counts and rooms around each limit.
 fn writings() -> Vec<Call> {
     let mut calls = Vec::new();
     for task_count in [0, 1, 2, 32, 33, 40, 65535] {
         for result_count in [0, 1, 2, 3, 31, 32, 33, 40, 65535] {
             calls.push(writing(Settings::new(1, 1), task_count, result_count, 0));
-            calls.push(writing(Settings::new(4, 3), task_count, result_count, 720));
+            calls.push(writing(Settings::new(4, 3).with_swaps(7), task_count, result_count, 720));
         }
     }
     for (task_count, result_count) in [(0, 0), (1, 0), (1, 1), (3, 3), (32, 0), (32, 32)] {
-        let needed = Sheet::bytes_needed(usize::from(task_count), usize::from(result_count));
-        for room in [1, 9, needed - 1, needed, needed + 1, needed + 7] {
-            calls.push(writing(Settings::new(2, 16), task_count, result_count, room));
+        for settings in [Settings::new(2, 16), Settings::new(2, 16).with_swaps(0x4567)] {
+            let needed = Sheet::bytes_needed(
+                usize::from(settings.count),
+                usize::from(task_count),
+                usize::from(result_count),
+            );
+            for room in [1, 9, needed - 2, needed - 1, needed, needed + 1, needed + 7] {
+                calls.push(writing(settings, task_count, result_count, room));
+            }
         }
     }
     for number in [0, 1, 2, 3, 4, 5, 6, 255, 256, 65535] {
         for further in [false, true] {
-            calls.push(writing(Settings { number, further, m: number ^ 0x1234 }, 1, 1, 40));
+            let settings = Settings { further, ..Settings::new(number, number ^ 0x1234) };
+            calls.push(writing(settings, 1, 1, 40));
+        }
+    }
+    calls.extend(settings_counts());
+    calls
+}
+
+/// Every settings count beside task counts, result counts and rooms that are right and wrong: a number past the count is left out, and 9
+/// comes first.
+fn settings_counts() -> Vec<Call> {
+    let mut calls = Vec::new();
+    for count in SETTINGS_COUNTS {
+        let settings = Settings { count, w: 65535, ..Settings::new(1, 2) };
+        for (task_count, result_count) in [(0, 0), (2, 2), (33, 0), (2, 1)] {
+            for room in [0, 80] {
+                calls.push(writing(settings, task_count, result_count, room));
+            }
         }
     }
     calls
@@ -167,6 +213,9 @@ fn sheet_under(number: u16, m: u16, c: u32) -> Vec<u8> {
 fn change_over_sheets() -> Vec<Vec<u8>> {
     vec![
         sheet_under(4, 2, 3),
+        two_tasks_with_swaps(1).bytes(),
+        two_tasks_with_swaps(3).bytes(),
+        full_with_swaps().bytes(),
         case_k().bytes(),
         sheet_of(&Table::new(1, 1, &[])),
         full().bytes(),
@@ -184,6 +233,7 @@ fn change_over_sheets() -> Vec<Vec<u8>> {
         Raw { task_count: 33, ..two_tasks() }.bytes(),
         Raw { result_count: 1, ..two_tasks() }.bytes(),
         Raw { settings_count: 3, ..two_tasks() }.bytes(),
+        Raw { settings_count: 4, ..two_tasks() }.bytes(),
         [full().bytes(), vec![0; 80]].concat(),
     ]
 }
@@ -203,11 +253,13 @@ fn change_overs() -> Vec<Call> {
             }
         }
     }
-    let (small, other) = (two_tasks().bytes(), sheet_under(4, 2, 3));
-    for length in 0..=small.len() {
-        let cut = small[..length].to_vec();
-        calls.push(Call::ChangeOver { standing: other.clone(), proposed: cut.clone() });
-        calls.push(Call::ChangeOver { standing: cut, proposed: sheet_under(1, 1, 11) });
+    let other = sheet_under(4, 2, 3);
+    for small in [two_tasks().bytes(), two_tasks_with_swaps(1).bytes()] {
+        for length in 0..=small.len() {
+            let cut = small[..length].to_vec();
+            calls.push(Call::ChangeOver { standing: other.clone(), proposed: cut.clone() });
+            calls.push(Call::ChangeOver { standing: cut, proposed: sheet_under(1, 1, 11) });
+        }
     }
     calls
 }

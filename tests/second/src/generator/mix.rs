@@ -2,10 +2,10 @@
 
 use super::clock_runs::random_run;
 use super::office_texts;
-use super::sheets::{damaged, overlong, random_results, random_sheet};
+use super::sheets::{damaged, overlong, random_results, random_sheet, SETTINGS_COUNTS};
 use super::tables::{
-    crossing, exact, exact_first_fit, general, huge, spoil, telling_step, tied, turning_step,
-    wavering, Aim,
+    crossing, exact, exact_first_fit, general, huge, pay_swaps, spoil, telling_step, tied,
+    turning_step, wavering, Aim,
 };
 use super::wide_tables::random_wide;
 use crate::call::{present, Call, Rooms, Settings, Table, Writing};
@@ -69,12 +69,13 @@ fn several_cores(random: &mut Random) -> Call {
 
 fn margin(random: &mut Random) -> Call {
     let table = if random.one_in(6) { huge_table(random) } else { table(random, &FORMULAS) };
-    let good = table.rows.iter().all(|row| row.is_good());
+    let w = table.settings.w;
+    let good = table.rows.iter().all(|row| row.is_good(w));
     let step = match random.between(0, 7) {
         0 => u32::MAX - random.small(0, 1),
         1 => random.of_any_size(u32::MAX),
         2 => turning_step(random, &table.rows),
-        _ if good => telling_step(random, &springs(&table.rows)),
+        _ if good => telling_step(random, &springs(&table.rows, w)),
         _ => 0,
     };
     Call::Margin(table, step)
@@ -106,6 +107,13 @@ fn most_steps(random: &mut Random) -> u32 {
 /// A table under one of some policies, seldom with settings, count or records that are refused.
 fn table(random: &mut Random, numbers: &[u16]) -> Table {
     let mut table = good_table(random, numbers);
+    if random.one_in(2) {
+        let w = pay_swaps(random, &mut table.rows);
+        table = table.with_swaps(w);
+    }
+    if random.one_in(10) {
+        table.settings.count = random.pick(&SETTINGS_COUNTS);
+    }
     table.settings.further = random.one_in(8);
     if random.one_in(15) {
         table.settings.number = random.pick(&[0, 3, 3, 3, 4, 5, 6, 256, 257, 65535]);
@@ -114,7 +122,7 @@ fn table(random: &mut Random, numbers: &[u16]) -> Table {
         table.settings.m = random.pick(&[0, 17, 18, 256, 65535]);
     }
     if random.one_in(15) && !table.rows.is_empty() {
-        spoil(random, &mut table.rows);
+        spoil(random, &mut table.rows, table.settings.w);
     }
     if random.one_in(40) {
         table.rows.resize(32, Record::new(1, 10, 20, 1000));
@@ -200,13 +208,20 @@ fn any_record(random: &mut Random) -> Record {
 fn writing(random: &mut Random) -> Writing {
     let task_count = if random.one_in(8) { random.small(7, 32) } else { random.small(0, 6) } as u16;
     let result_count = if random.one_in(3) { 0 } else { task_count };
-    let needed = Sheet::bytes_needed(usize::from(task_count), usize::from(result_count)) as u32;
+    let settings = Settings {
+        number: random.pick(&[0, 1, 2, 3, 4, 5, 6, 258, 65535]),
+        further: random.one_in(2),
+        m: random.pick(&[0, 1, 2, 16, 17, 65535]),
+        count: if random.one_in(8) { random.pick(&SETTINGS_COUNTS) } else { random.pick(&[2, 3]) },
+        w: random.pick(&[0, 1, 2, 255, 256, 65535]),
+    };
+    let needed = Sheet::bytes_needed(
+        usize::from(settings.count.min(3)),
+        usize::from(task_count),
+        usize::from(result_count),
+    ) as u32;
     let mut writing = Writing {
-        settings: Settings {
-            number: random.pick(&[0, 1, 2, 3, 4, 5, 6, 258, 65535]),
-            further: random.one_in(2),
-            m: random.pick(&[0, 1, 2, 16, 17, 65535]),
-        },
+        settings,
         task_count,
         result_count,
         room: needed as u16,

@@ -1,26 +1,32 @@
 //! Sheets in bytes, whole and damaged.
 
 use crate::call::{Settings, Table};
-use crate::definition::kinds::{Granted, Record};
+use crate::definition::kinds::{Granted, Record, Sheet, MOST_TASKS};
 use crate::random::Random;
 
 /// The fields of a sheet, where every count may lie.
 #[derive(Clone)]
 pub struct Raw {
     pub settings_count: u16,
-    pub settings: Settings,
+    pub settings: Vec<u16>,
     pub task_count: u16,
     pub rows: Vec<Record>,
     pub result_count: u16,
     pub results: Vec<Granted>,
 }
 
+/// As many numbers of the settings section as its count says: those that there are, then some that nobody knows, six at the most.
+fn settings_section(settings: Settings) -> Vec<u16> {
+    let numbers = [settings.number, settings.m, settings.w, 1, 1, 1];
+    numbers.into_iter().take(usize::from(settings.count)).collect()
+}
+
 impl Raw {
     /// A sheet whose counts tell the truth.
     pub fn honest(table: &Table, results: &[Granted]) -> Raw {
         Raw {
-            settings_count: 2,
-            settings: table.settings,
+            settings_count: table.settings.count,
+            settings: settings_section(table.settings),
             task_count: table.count,
             rows: table.rows.clone(),
             result_count: results.len() as u16,
@@ -29,9 +35,8 @@ impl Raw {
     }
 
     pub fn bytes(&self) -> Vec<u8> {
-        let mut bytes = Vec::new();
-        for number in [self.settings_count, self.settings.number, self.settings.m, self.task_count]
-        {
+        let mut bytes = self.settings_count.to_le_bytes().to_vec();
+        for number in self.settings.iter().chain([&self.task_count]) {
             bytes.extend(number.to_le_bytes());
         }
         for row in &self.rows {
@@ -74,8 +79,8 @@ pub fn random_sheet(random: &mut Random, table: &Table) -> Raw {
     Raw::honest(table, &results)
 }
 
-/// Counts that are never right for settings.
-const BAD_SETTINGS_COUNTS: [u16; 6] = [0, 1, 3, 258, 512, 65535];
+/// Settings counts, right and wrong; before other settings than they count even 2 and 3 are wrong.
+pub const SETTINGS_COUNTS: [u16; 11] = [0, 1, 2, 3, 4, 5, 6, 258, 259, 512, 65535];
 /// Task counts above 32.
 const BAD_TASK_COUNTS: [u16; 5] = [33, 34, 40, 256, 65535];
 
@@ -83,7 +88,7 @@ const BAD_TASK_COUNTS: [u16; 5] = [33, 34, 40, 256, 65535];
 pub fn damaged(random: &mut Random, raw: &Raw) -> Vec<u8> {
     let mut raw = raw.clone();
     match random.between(0, 7) {
-        0 => raw.settings_count = random.pick(&BAD_SETTINGS_COUNTS),
+        0 => raw.settings_count = random.pick(&SETTINGS_COUNTS),
         1 => raw.task_count = random.pick(&BAD_TASK_COUNTS),
         2 => raw.task_count = random.small(0, 32) as u16,
         3 => raw.result_count = random.small(0, 40) as u16,
@@ -111,9 +116,10 @@ fn with_trailing_bytes(random: &mut Random, mut bytes: Vec<u8>) -> Vec<u8> {
     bytes
 }
 
-/// A sheet of more than 714 bytes, at most 800: an honest start, then whatever.
+/// An input longer than the longest sheet of two settings, at most 800 bytes: an honest start, then whatever.
 pub fn overlong(random: &mut Random, raw: &Raw) -> Vec<u8> {
-    let length = random.between(715, 800) as usize;
+    let longest = Sheet::bytes_needed(2, MOST_TASKS, MOST_TASKS) as u64;
+    let length = random.between(longest + 1, 800) as usize;
     let mut bytes = raw.bytes();
     while bytes.len() < length {
         bytes.push(random.next() as u8);

@@ -1,4 +1,5 @@
-//! Random tables: general ones, exact fits, ties, first fits that waver, huge ranges.
+//! Random tables: general ones, exact fits, ties, first fits that waver, huge ranges. Each is made with a swap cost of 0, and the swaps
+//! are paid afterwards.
 
 use super::bench::{case_k_rows, HUGE_RANGE};
 use crate::definition::bound::bound;
@@ -30,7 +31,7 @@ fn elasticity(random: &mut Random, record: Record, most_steps: u32) -> u32 {
     if random.one_in(30) {
         return Record::GREATEST_ELASTICITY;
     }
-    let rigid = spring(record);
+    let rigid = spring(record, 0);
     let steps = random.between(1, u64::from(most_steps));
     (rigid.largest - rigid.least).div_ceil(steps).max(1) as u32
 }
@@ -112,7 +113,7 @@ pub fn exact(random: &mut Random, aim: Aim) -> Vec<Record> {
             record_near(random, parts.clamp(1, SCALE), aim.most_steps)
         })
         .collect();
-    let step = telling_step(random, &springs(&rows));
+    let step = telling_step(random, &springs(&rows, 0));
     fit_at(random, &mut rows, step, aim);
     rows
 }
@@ -139,7 +140,7 @@ pub fn crossing(random: &mut Random, aim: Aim) -> Vec<Record> {
 
 /// Adds rigid tasks that make the table fit exactly at a step, or a part or two beside it.
 fn fit_at(random: &mut Random, rows: &mut Vec<Record>, step: u32, aim: Aim) {
-    let shares = shares_at(&springs(rows), step);
+    let shares = shares_at(&springs(rows, 0), step);
     if aim.number == 5 {
         return fit_bound(random, rows, shares.iter().sum());
     }
@@ -174,7 +175,7 @@ pub fn exact_first_fit(random: &mut Random, aim: Aim) -> Vec<Record> {
             record_near(random, parts, aim.most_steps)
         })
         .collect();
-    let springs = springs(&rows);
+    let springs = springs(&rows, 0);
     let step = telling_step(random, &springs);
     for share in shares_at(&springs, step) {
         let parts = (SCALE + random.between(0, 2)).saturating_sub(share + 1);
@@ -194,7 +195,7 @@ pub fn tied(random: &mut Random, aim: Aim) -> Vec<Record> {
         .map(|_| {
             let c = (fair * random.between(60, 120) / 100).clamp(10_000, SCALE) as u32;
             let mut row = Record::new(c, SCALE as u32, random.small(1_200_000, 5_000_000), 0);
-            let at_rest = spring(row);
+            let at_rest = spring(row, 0);
             row.e = (at_rest.largest - at_rest.least).div_ceil(steps) as u32;
             row
         })
@@ -208,7 +209,7 @@ pub fn tied(random: &mut Random, aim: Aim) -> Vec<Record> {
 
 /// Whether first fit fails at step 0, passes at a later step and fails again after it.
 pub fn wavers(m: u16, rows: &[Record]) -> bool {
-    let springs = springs(rows);
+    let springs = springs(rows, 0);
     let passing = |step| passes(Policy::FirstFit, m, &shares_at(&springs, step));
     let last = full_compression(&springs);
     let Some(first) = (0..=last).find(|step| passing(*step)) else {
@@ -273,19 +274,40 @@ pub fn huge(random: &mut Random, most_tasks: u64) -> Vec<Record> {
         .collect()
 }
 
-/// Makes one or two records bad by a single step over a limit, or far over it.
-pub fn spoil(random: &mut Random, rows: &mut [Record]) {
+/// A swap cost for a table that was made without one: mostly what the least C can spare, taken off every C, so that each cost and with it
+/// each fit stays; else a little on top of each C, or any.
+pub fn pay_swaps(random: &mut Random, rows: &mut [Record]) -> u16 {
+    let least = rows.iter().map(|row| row.c).min().unwrap_or(1);
+    let spare = (least.saturating_sub(1) / 2).min(u32::from(u16::MAX));
+    match random.between(0, 9) {
+        0 => random.pick(&[0, 1, 2, 255, 32_767, 32_768, 65_535]),
+        1 => random.small(1, 3) as u16,
+        _ if spare == 0 => 1,
+        _ => {
+            let w = random.of_any_size(spare);
+            rows.iter_mut().for_each(|row| row.c -= 2 * w);
+            w as u16
+        }
+    }
+}
+
+/// Makes one or two records bad, with that swap cost, by a single step over a limit, or far over it.
+pub fn spoil(random: &mut Random, rows: &mut [Record], w: u16) {
+    let swaps = 2 * u32::from(w);
     for _ in 0..random.between(1, 2) {
         let place = random.place(rows.len());
         let row = &mut rows[place];
-        match random.between(0, 7) {
+        match random.between(0, 9) {
             0 => row.c = 0,
             1 => row.c = row.tmin.wrapping_add(1),
-            2 => row.tmax = row.tmin - 1,
-            3 => row.tmax = Record::GREATEST_PERIOD + 1,
-            4 => row.e = Record::GREATEST_ELASTICITY + 1,
-            5 => row.e = u32::MAX,
-            6 => row.tmin = u32::MAX,
+            // C + 2w one above Tmin, and a sum that 32 bits would turn over
+            2 => row.c = row.tmin.saturating_add(1).saturating_sub(swaps),
+            3 => row.c = u32::MAX - swaps.saturating_sub(random.small(0, 2)),
+            4 => row.tmax = row.tmin - 1,
+            5 => row.tmax = Record::GREATEST_PERIOD + 1,
+            6 => row.e = Record::GREATEST_ELASTICITY + 1,
+            7 => row.e = u32::MAX,
+            8 => row.tmin = u32::MAX,
             _ => *row = Record::new(u32::MAX, u32::MAX, u32::MAX, 0),
         }
     }

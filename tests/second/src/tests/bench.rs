@@ -1,4 +1,4 @@
-//! "Bench settings to try" with document 01's answers, and case B under policy 5.
+//! "Bench settings to try" with document 01's answers, and case B under policy 5 and with swaps.
 
 use super::{plan_of, quick_of, refused, step_of, HALF_SPRING};
 use crate::call::{Settings, Table};
@@ -36,6 +36,9 @@ fn cases_with_steps_periods_and_looks() {
     expect("E", 100, &[12, 12, 12], 2);
     expect("J", 500_000, &[2, 2], 2);
     expect("B under 5", 186, &[15, 15], 2);
+    // a job costs 8 of 10 ticks, then all 10
+    expect("B, w = 1", 300, &[16, 16], 2);
+    expect("B, w = 2", 500, &[20, 20], 2);
 }
 
 #[test]
@@ -59,7 +62,7 @@ fn cases_f_g_and_h_are_kept_for_the_rule_and_refused_by_15() {
 #[test]
 fn case_g_has_margin_0_at_step_0() {
     let table = case("G");
-    let shares = shares_at(&springs(&table.rows), 0);
+    let shares = shares_at(&springs(&table.rows, 0), 0);
     assert_eq!(sides(Policy::GlobalRm, 1, &shares), Some((3_000_000, 3_000_000)));
 }
 
@@ -74,19 +77,19 @@ fn case_i_is_refused_7_with_the_sum_1000002() {
     let table = case("I");
     assert_eq!(step_of(&table), refused(7, 0));
     assert_eq!(quick_of(&table), (refused(7, 0), 1));
-    assert_eq!(shares_at(&springs(&table.rows), 0), [333_334; 3]);
+    assert_eq!(shares_at(&springs(&table.rows, 0), 0), [333_334; 3]);
     assert_eq!(margin(&table.question(), 0), Ok(-2));
 }
 
 #[test]
 fn case_j_has_the_greatest_full_compression() {
-    assert_eq!(full_compression(&springs(&case("J").rows)), 999_999);
+    assert_eq!(full_compression(&springs(&case("J").rows, 0)), 999_999);
 }
 
 #[test]
 fn case_k_passes_at_5_and_6_only() {
     let table = case("K");
-    let springs = springs(&table.rows);
+    let springs = springs(&table.rows, 0);
     assert_eq!(full_compression(&springs), 15);
     let passing = |step: &u32| passes(Policy::FirstFit, 3, &shares_at(&springs, *step));
     assert_eq!((0..=15).filter(passing).collect::<Vec<_>>(), [5, 6]);
@@ -122,17 +125,17 @@ fn bytes(hex: &str) -> Vec<u8> {
 
 #[test]
 fn case_b_by_a_further_choice_is_the_same() {
-    let settings = Settings { number: 1, further: true, m: 1 };
+    let settings = Settings { further: true, ..Settings::new(1, 1) };
     let table = Table { settings, count: 2, rows: vec![HALF_SPRING; 2] };
     assert_eq!(quick_of(&table), (Ok(100), 2));
 }
 
 #[test]
 fn a_record_of_the_bench_is_good_and_one_over_is_not() {
-    assert!(Record::new(1, 1, 1_000_000_000, 1_000_000).is_good());
-    assert!(!Record::new(1, 1, 1_000_000_001, 1_000_000).is_good());
-    assert!(!Record::new(1, 1, 1_000_000_000, 1_000_001).is_good());
-    assert!(!Record::new(0, 1, 1, 0).is_good());
-    assert!(!Record::new(2, 1, 2, 0).is_good());
-    assert!(!Record::new(1, 2, 1, 0).is_good());
+    assert!(Record::new(1, 1, 1_000_000_000, 1_000_000).is_good(0));
+    assert!(!Record::new(1, 1, 1_000_000_001, 1_000_000).is_good(0));
+    assert!(!Record::new(1, 1, 1_000_000_000, 1_000_001).is_good(0));
+    assert!(!Record::new(0, 1, 1, 0).is_good(0));
+    assert!(!Record::new(2, 1, 2, 0).is_good(0));
+    assert!(!Record::new(1, 2, 1, 0).is_good(0));
 }

@@ -1,6 +1,6 @@
 //! The small readings about finders and margin.
 
-use super::{quick_of, refused, step_of, HALF_SPRING};
+use super::{plan_of, quick_of, refused, step_of, HALF_SPRING};
 use crate::call::{Settings, Table};
 use crate::definition::bound::{bound, is_within};
 use crate::definition::finder::{plain, quick};
@@ -64,6 +64,56 @@ fn a_short_output_comes_before_a_bad_record() {
 fn the_first_bad_record_is_the_place() {
     let bad = Record::new(11, 10, 20, 0);
     assert_eq!(step_of(&Table::new(1, 1, &[HALF_SPRING, bad, HALF_SPRING, bad])), refused(6, 1));
+}
+
+#[test]
+fn only_c_at_most_tmin_reads_c_plus_2w() {
+    // 1 ≤ C is of C itself
+    assert!(!Record::new(0, 10, 20, 0).is_good(5) && !Record::new(0, 10, 20, 0).is_good(1));
+    // C + 2w is Tmin, and one more
+    assert!(Record::new(6, 10, 20, 0).is_good(2) && !Record::new(7, 10, 20, 0).is_good(2));
+    let widest = Record::new(1, 131_071, 131_071, 0);
+    assert!(widest.is_good(65_535) && !Record { c: 2, ..widest }.is_good(65_535));
+    // 32 bits would keep 7 of this sum
+    let past = Record::new(u32::MAX - 131_070 + 8, 10, 20, 0);
+    assert_eq!(past.cost(65_535), (1 << 32) + 7);
+    assert!(!past.is_good(65_535));
+}
+
+#[test]
+fn swaps_count_in_shares_periods_and_margin() {
+    let at = |w| Table::new(1, 1, &[HALF_SPRING; 2]).with_swaps(w);
+    assert_eq!([0, 1, 2].map(|w| step_of(&at(w))), [Ok(100), Ok(300), Ok(500)]);
+    assert_eq!([0, 1, 2].map(|w| plan_of(&at(w)).0), [[12, 12], [16, 16], [20, 20]]);
+    assert_eq!(step_of(&at(3)), refused(6, 0));
+    assert_eq!(quick_of(&at(3)), (refused(6, 0), 0));
+    assert_eq!(margin(&at(3).question(), 0), refused(6, 0));
+    // 800,000 twice
+    assert_eq!(margin(&at(1).question(), 0), Ok(-600_000));
+    assert_eq!(margin(&at(1).question(), 300), Ok(0));
+}
+
+#[test]
+fn the_finders_look_at_no_settings_count() {
+    for count in [0, 1, 2, 3, 4, 65535] {
+        let mut table = Table::new(1, 1, &[HALF_SPRING; 2]).with_swaps(1);
+        table.settings.count = count;
+        assert_eq!(quick_of(&table), (Ok(300), 2));
+        assert_eq!(margin(&table.question(), 300), Ok(0));
+    }
+}
+
+#[test]
+fn a_swap_cost_is_a_part_of_the_cost() {
+    // a record with swaps is the record whose C is C + 2w
+    for w in [1, 7, 900] {
+        let row = Record::new(50, 2_000, 9_000, 77);
+        let priced = Record { c: 50 + 2 * u32::from(w), ..row };
+        let swaps = Table::new(2, 3, &[row; 5]).with_swaps(w);
+        let none = Table::new(2, 3, &[priced; 5]);
+        assert_eq!(quick_of(&swaps), quick_of(&none));
+        assert_eq!(plan_of(&swaps), plan_of(&none));
+    }
 }
 
 #[test]
@@ -166,10 +216,12 @@ fn an_answer_on_a_saturation_step_counts_the_steps_below_it_only() {
 fn stepping_and_halving_find_the_same_period() {
     for (c, tmin, tmax) in [(6, 10, 20), (1, 1, 100_000), (3000, 4000, 5000), (7, 7, 90_001)] {
         let record = Record::new(c, tmin, tmax, 1);
-        let least = (u64::from(c) * 1_000_000).div_ceil(u64::from(tmax));
-        for share in [least, least + 1, (least + 1_000_000) / 2, 999_999, 1_000_000] {
-            if share >= least {
-                assert_eq!(stepped_period(record, share), halved_period(record, share));
+        for w in [0, 1, 1_000] {
+            let least = (record.cost(w) * 1_000_000).div_ceil(u64::from(tmax));
+            for share in [least, least + 1, (least + 1_000_000) / 2, 999_999, 1_000_000] {
+                if share >= least {
+                    assert_eq!(stepped_period(record, w, share), halved_period(record, w, share));
+                }
             }
         }
     }

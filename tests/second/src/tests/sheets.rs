@@ -3,6 +3,7 @@
 use super::{refused, HALF_SPRING};
 use crate::call::Table;
 use crate::definition::change_over::{change_over, Part, Which};
+use crate::definition::checked::told;
 use crate::definition::kinds::{Policy, Record, Sheet};
 use crate::definition::program::program;
 use crate::definition::reader::read;
@@ -17,12 +18,26 @@ fn full() -> Raw {
     Raw::honest(&Table::new(1, 16, &[Record::new(1, 40, 80, 1000); 32]), &made_up_results(32))
 }
 
+fn full_with_swaps() -> Raw {
+    Raw { settings_count: 3, settings: vec![1, 16, 9], ..full() }
+}
+
 #[test]
 fn a_count_is_judged_as_soon_as_its_two_bytes_are_there() {
     assert_eq!(read(&[]), refused(8, 0));
-    assert_eq!(read(&[3]), refused(8, 1));
-    assert_eq!(read(&[3, 0]), refused(9, 0));
+    assert_eq!(read(&[4]), refused(8, 1));
+    for count in [0, 1, 4, 5, 6, 255] {
+        assert_eq!(read(&[count, 0]), refused(9, 0));
+    }
+    assert_eq!(read(&[2, 1]), refused(9, 0));
+    assert_eq!(read(&[3, 1]), refused(9, 0));
     assert_eq!(read(&[2, 0]), refused(8, 2));
+    assert_eq!(read(&[3, 0]), refused(8, 2));
+    assert_eq!(read(&[3, 0, 0, 0, 0, 0, 0]), refused(8, 7));
+    assert_eq!(read(&[3, 0, 0, 0, 0, 0, 0, 0, 33]), refused(8, 9));
+    assert_eq!(read(&[3, 0, 0, 0, 0, 0, 0, 0, 33, 0]), refused(3, 8));
+    assert_eq!(read(&[3, 0, 0, 0, 0, 0, 0, 0, 0, 0, 1, 0]), refused(10, 10));
+    assert_eq!(read(&[3, 0, 0, 0, 0, 0, 0, 0, 0, 0, 0, 0, 0]), refused(11, 12));
     assert_eq!(read(&[2, 0, 0, 0, 0, 0, 33]), refused(8, 7));
     assert_eq!(read(&[2, 0, 0, 0, 0, 0, 33, 0]), refused(3, 6));
     assert_eq!(read(&[2, 0, 0, 0, 0, 0, 0, 0, 1]), refused(8, 9));
@@ -32,12 +47,39 @@ fn a_count_is_judged_as_soon_as_its_two_bytes_are_there() {
 
 #[test]
 fn every_truncation_is_refused_8_at_its_length() {
-    let bytes = full().bytes();
-    assert_eq!(bytes.len(), Sheet::MOST_BYTES);
-    for length in 0..bytes.len() {
-        assert_eq!(read(&bytes[..length]), refused(8, length as u32));
+    assert_eq!((full().bytes().len(), Sheet::MOST_BYTES), (714, 716));
+    assert_eq!(full_with_swaps().bytes().len(), Sheet::MOST_BYTES);
+    for bytes in [full().bytes(), full_with_swaps().bytes()] {
+        for length in 0..bytes.len() {
+            assert_eq!(read(&bytes[..length]), refused(8, length as u32));
+        }
+        assert!(read(&bytes).is_ok());
     }
-    assert!(read(&bytes).is_ok());
+}
+
+#[test]
+fn the_settings_count_is_kept_and_a_missing_w_is_0() {
+    let two = read(&full().bytes()).expect("read");
+    let three = read(&full_with_swaps().bytes()).expect("read");
+    assert_eq!((two.settings_count, two.m, two.w), (2, 16, 0));
+    assert_eq!((three.settings_count, three.m, three.w), (3, 16, 9));
+    assert_eq!(two.rows, three.rows);
+    // a refused reading is zeros
+    assert_eq!((Sheet::zeros().settings_count, Sheet::zeros().w), (0, 0));
+}
+
+#[test]
+fn the_writer_leaves_out_the_numbers_past_the_count() {
+    let mut sheet = Sheet { m: 4, w: 77, ..Sheet::zeros() };
+    let mut buffer = [0xEE; 13];
+    sheet.settings_count = 2;
+    assert_eq!(write(&sheet, &mut buffer), Ok(10));
+    assert_eq!(buffer, [2, 0, 0, 0, 4, 0, 0, 0, 0, 0, 0xEE, 0xEE, 0xEE]);
+    assert_eq!(read(&buffer[..10]), Ok(Sheet { w: 0, ..sheet.clone() }));
+    sheet.settings_count = 3;
+    assert_eq!(write(&sheet, &mut buffer), Ok(12));
+    assert_eq!(buffer, [3, 0, 0, 0, 4, 0, 77, 0, 0, 0, 0, 0, 0xEE]);
+    assert_eq!(read(&buffer[..12]), Ok(sheet));
 }
 
 #[test]
@@ -53,7 +95,8 @@ fn the_reader_keeps_a_strange_policy_and_judges_no_record() {
 fn what_is_read_is_written_back() {
     let withdrawn = Raw::honest(&Table::new(3, 2, &[HALF_SPRING; 3]), &made_up_results(3));
     let others = [(5, 2), (65535, 0)].map(|(number, m)| sheet_of(&Table::new(number, m, &[])));
-    for bytes in [two_tasks(), full().bytes(), withdrawn.bytes()].into_iter().chain(others) {
+    let swaps = full_with_swaps().bytes();
+    for bytes in [two_tasks(), full().bytes(), swaps, withdrawn.bytes()].into_iter().chain(others) {
         let mut buffer = vec![0xEE; bytes.len() + 3];
         let written = write(&read(&bytes).expect("read"), &mut buffer);
         assert_eq!(written, Ok(bytes.len() as u16));
@@ -62,9 +105,14 @@ fn what_is_read_is_written_back() {
 }
 
 #[test]
-fn the_writer_gives_3_then_10_then_5() {
+fn the_writer_gives_9_then_3_then_10_then_5() {
     let mut sheet = Sheet::zeros();
     (sheet.task_count, sheet.result_count) = (40, 7);
+    for count in [0, 1, 4, 5, 6, 258, 65535] {
+        sheet.settings_count = count;
+        assert_eq!(write(&sheet, &mut []), refused(9, 0));
+    }
+    sheet.settings_count = 2;
     assert_eq!(write(&sheet, &mut []), refused(3, 40));
     sheet.task_count = 5;
     assert_eq!(write(&sheet, &mut []), refused(10, 0));
@@ -73,7 +121,10 @@ fn the_writer_gives_3_then_10_then_5() {
     assert_eq!(write(&sheet, &mut buffer), refused(5, 120));
     assert_eq!(buffer, [0xEE; 119]);
     assert_eq!(write(&sheet, &mut [0xEE; 120]), Ok(120));
-    assert_eq!(write(&Sheet::zeros(), &mut [0; 10]), Ok(10));
+    sheet.settings_count = 3;
+    assert_eq!(write(&sheet, &mut [0xEE; 121]), refused(5, 122));
+    // what a refused reading hands back is not written
+    assert_eq!(write(&Sheet::zeros(), &mut [0; 12]), refused(9, 0));
 }
 
 #[test]
@@ -93,6 +144,11 @@ fn a_change_over_is_a_part_of_a_lent_sheet() {
     assert_eq!(change_over(&bad, &bad), part(Which::Standing, 0, 0));
     assert_eq!(change_over(&[], &[]), part(Which::Standing, 0, 0));
     assert_eq!(change_over(&bad, &good).of(&bad, &good), &good[8..40]);
+    // Ask 2: with three settings the records stand two bytes further on; a swap too dear is refused
+    let swaps = |w| sheet_of(&Table::new(1, 1, &[HALF_SPRING; 2]).with_swaps(w));
+    assert_eq!(change_over(&good, &swaps(2)), part(Which::Proposed, 10, 32));
+    assert_eq!(change_over(&swaps(2), &swaps(3)), part(Which::Standing, 10, 32));
+    assert_eq!(change_over(&swaps(3), &swaps(3)), part(Which::Standing, 0, 0));
 }
 
 #[test]
@@ -105,19 +161,39 @@ fn the_program_refuses_in_a_line() {
 }
 
 #[test]
-fn the_program_and_more_than_714_bytes() {
+fn the_program_and_more_than_716_bytes() {
     let longer = |raw: Raw, length: usize| {
         let mut bytes = raw.bytes();
         bytes.resize(length, 0);
         program(&bytes)
     };
-    for length in [715, 800, 70_000] {
+    for length in [715, 716, 717, 718, 800, 70_000] {
         assert_eq!(longer(full(), length), b"refused 11 at 714\n");
         let without_results = Raw { result_count: 0, results: vec![], ..full() };
         assert_eq!(longer(without_results, length), b"refused 11 at 522\n");
         assert_eq!(longer(Raw { task_count: 33, ..full() }, length), b"refused 3 at 6\n");
         assert_eq!(longer(Raw { result_count: 31, ..full() }, length), b"refused 10 at 520\n");
     }
+    for length in [717, 718, 800, 70_000] {
+        assert_eq!(longer(full_with_swaps(), length), b"refused 11 at 716\n");
+        let wrong = Raw { task_count: 33, ..full_with_swaps() };
+        assert_eq!(longer(wrong, length), b"refused 3 at 8\n");
+    }
+}
+
+#[test]
+fn the_program_keeps_the_settings_count() {
+    let table = Table::new(1, 1, &[HALF_SPRING; 2]);
+    assert_eq!(program(&sheet_of(&table))[..6], [2, 0, 1, 0, 1, 0]);
+    let output = program(&sheet_of(&table.clone().with_swaps(1)));
+    assert_eq!(output[..8], [3, 0, 1, 0, 1, 0, 1, 0]);
+    assert_eq!(read(&output).expect("read").results[1].period, 16);
+    assert_eq!(told(&output), b"accepted\n");
+    assert_eq!(program(&sheet_of(&table.with_swaps(3))), b"refused 6 at 0\n");
+    // with another swap cost the results are others
+    let mut dearer = output;
+    dearer[6] = 2;
+    assert_eq!(told(&dearer), b"refused 19 at 0\n");
 }
 
 #[test]
