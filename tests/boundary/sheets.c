@@ -21,6 +21,8 @@ void answer_read(void) {
     put_verdict(told.number, told.place);
     put_number(sheet->station.policy, 2);
     put_number(sheet->station.m, 2);
+    put_number(sheet->settings_count, 2);
+    put_number(sheet->station.w, 2);
     put_number(sheet->table.n, 2);
     put_number(sheet->results.n, 2);
     put_tasks(sheet->table.rows, EELBASKET_MOST_TASKS);
@@ -39,7 +41,9 @@ static void take_results(struct eelbasket_results *results) {
 
 void answer_write(void) {
     struct eelbasket_sheet sheet = {0};
-    sheet.station = take_station();
+    struct settings settings = take_settings();
+    sheet.station = settings.station;
+    sheet.settings_count = settings.count;
     sheet.table.n = (size_t)take_number(2);
     sheet.results.n = (size_t)take_number(2);
     size_t size = (size_t)take_number(2);

@@ -38,7 +38,7 @@ static void expect_no_looks(struct eelbasket_told told) {
 }
 
 static struct eelbasket_told ask(finder *find, struct outputs *lent) {
-    struct eelbasket_station station = take_station();
+    struct eelbasket_station station = take_settings().station;
     size_t tasks = (size_t)take_number(2);
     *lent = lend_outputs();
     const struct eelbasket_task *rows = lend_tasks(tasks);
@@ -62,7 +62,7 @@ void answer_quick(void) {
 }
 
 void answer_margin(void) {
-    struct eelbasket_station station = take_station();
+    struct eelbasket_station station = take_settings().station;
     size_t tasks = (size_t)take_number(2);
     uint32_t step = (uint32_t)take_number(4);
     struct eelbasket_margin told = eelbasket_margin(lend_tasks(tasks), tasks, station, step);

@@ -3,12 +3,14 @@
 #include "stream.h"
 #include "tasks.h"
 
-struct eelbasket_station take_station(void) {
-    struct eelbasket_station station;
-    station.policy = (uint16_t)take_number(2);
+struct settings take_settings(void) {
+    struct settings settings;
+    settings.station.policy = (uint16_t)take_number(2);
     take_number(1);
-    station.m = (uint16_t)take_number(2);
-    return station;
+    settings.station.m = (uint16_t)take_number(2);
+    settings.count = (size_t)take_number(2);
+    settings.station.w = (uint16_t)take_number(2);
+    return settings;
 }
 
 size_t present(size_t count) { return count < EELBASKET_MOST_TASKS ? count : EELBASKET_MOST_TASKS; }

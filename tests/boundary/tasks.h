@@ -5,8 +5,10 @@
 
 enum { MOST_ROWS = 65535, NUMBER_BEFORE = 0xA5, SHORT_BEFORE = 0x5A, BYTE_BEFORE = 0xEE };
 
-/* Policy and processors. A further choice crosses as the number that it holds. */
-struct eelbasket_station take_station(void);
+/* The settings of a call. A further choice crosses as the number that it holds; the settings count goes to the writer only. */
+struct settings { struct eelbasket_station station; size_t count; };
+
+struct settings take_settings(void);
 
 /* How many of so many rows the stream has: at most 32. */
 size_t present(size_t count);
