@@ -79,20 +79,22 @@ int main(void) {
         spread(rows, 20, wide ? 100 : 1, wide ? 100 : 1);
         const char *name = wide ? "20 tasks, m = 4, E 100 to 2000" : "20 tasks, m = 4, E 1 to 20";
         const char *one_core = wide ? "20 tasks, m = 1, E 100 to 2000" : "20 tasks, m = 1, E 1 to 20";
-        ok &= quick(name, "quick, policy 1", rows, 20, (struct eelbasket_station){1, 4});
-        ok &= quick(name, "quick, policy 2", rows, 20, (struct eelbasket_station){2, 4});
-        ok &= plain(name, "plain, policy 1", rows, 20, (struct eelbasket_station){1, 4});
-        ok &= plain(name, "plain, policy 2", rows, 20, (struct eelbasket_station){2, 4});
-        ok &= plain(name, "plain, policy 4", rows, 20, (struct eelbasket_station){4, 4});
-        ok &= quick(one_core, "quick, policy 5", rows, 20, (struct eelbasket_station){5, 1});
-        ok &= plain(one_core, "plain, policy 5", rows, 20, (struct eelbasket_station){5, 1});
+        ok &= quick(name, "quick, policy 1", rows, 20, (struct eelbasket_station){1, 4, 0});
+        ok &= quick(name, "quick, policy 2", rows, 20, (struct eelbasket_station){2, 4, 0});
+        ok &= plain(name, "plain, policy 1", rows, 20, (struct eelbasket_station){1, 4, 0});
+        ok &= plain(name, "plain, policy 2", rows, 20, (struct eelbasket_station){2, 4, 0});
+        ok &= plain(name, "plain, policy 4", rows, 20, (struct eelbasket_station){4, 4, 0});
+        ok &= quick(name, "quick, policy 2, w = 50", rows, 20, (struct eelbasket_station){2, 4, 50});
+        ok &= plain(name, "plain, policy 2, w = 50", rows, 20, (struct eelbasket_station){2, 4, 50});
+        ok &= quick(one_core, "quick, policy 5", rows, 20, (struct eelbasket_station){5, 1, 0});
+        ok &= plain(one_core, "plain, policy 5", rows, 20, (struct eelbasket_station){5, 1, 0});
     }
     for (int i = 0; i < 32; i++) rows[i] = (struct eelbasket_task){1, 1, 1000000000, 1};
-    ok &= quick("case J", "quick", rows, 2, (struct eelbasket_station){1, 1});
-    ok &= plain("case J", "plain", rows, 2, (struct eelbasket_station){1, 1});
-    ok &= quick("32 tasks of case J's kind, m = 16", "quick", rows, 32, (struct eelbasket_station){1, 16});
-    ok &= plain("32 tasks of case J's kind, m = 16", "plain", rows, 32, (struct eelbasket_station){1, 16});
+    ok &= quick("case J", "quick", rows, 2, (struct eelbasket_station){1, 1, 0});
+    ok &= plain("case J", "plain", rows, 2, (struct eelbasket_station){1, 1, 0});
+    ok &= quick("32 tasks of case J's kind, m = 16", "quick", rows, 32, (struct eelbasket_station){1, 16, 0});
+    ok &= plain("32 tasks of case J's kind, m = 16", "plain", rows, 32, (struct eelbasket_station){1, 16, 0});
     for (int i = 1; i < 32; i++) rows[i] = (struct eelbasket_task){600, 1000, 1000, 0};
-    ok &= plain("first fit, K = 999,999, refused", "plain, policy 4", rows, 20, (struct eelbasket_station){4, 16});
+    ok &= plain("first fit, K = 999,999, refused", "plain, policy 4", rows, 20, (struct eelbasket_station){4, 16, 0});
     return ok ? 0 : 1;
 }
