@@ -9,6 +9,9 @@ use crate::definition::program::program;
 use crate::definition::reader::read;
 use crate::definition::writer::write;
 use crate::generator::sheets::{made_up_results, sheet_of, Raw};
+use std::ffi::OsStr;
+use std::fs;
+use std::path::Path;
 
 fn two_tasks() -> Vec<u8> {
     sheet_of(&Table::new(1, 1, &[HALF_SPRING; 2]))
@@ -204,4 +207,19 @@ fn the_program_replaces_older_results() {
     assert_eq!(program(&with_older), output);
     assert_eq!(program(&output), output);
     assert_eq!(read(&output).expect("read").results[1].period, 12);
+}
+
+#[test]
+fn the_sheets_to_try_have_these_answers() {
+    let folder = Path::new(env!("CARGO_MANIFEST_DIR")).join("../../sheets");
+    let mut sheets = 0;
+    for entry in fs::read_dir(folder).expect("the sheets to try") {
+        let name = entry.expect("a file").path();
+        if name.extension() == Some(OsStr::new("sheet")) {
+            let answer = fs::read(name.with_extension("filled")).expect("an answer beside it");
+            assert_eq!(program(&fs::read(&name).expect("a sheet")), answer, "{name:?}");
+            sheets += 1;
+        }
+    }
+    assert!(sheets > 0);
 }
