@@ -22,11 +22,10 @@ use Rattle.kinds.specs.Task.{at}
 use Rattle.share.specs.Table.{shares}
 use Rattle.share.proofs.Tasks.{falls}
 use Rattle.bound.specs.Bound.{boundOf}
-use Rattle.bound.proofs.Bounds.{bound-high}
 use Rattle.fit.specs.Fit.{fits}
 use Rattle.fit.proofs.Placing.{fits-within, fits-same}
 use Rattle.policy.specs.declared.Weights.{Weights}
-use Rattle.policy.specs.Sides.{leftSide, rightSide, left, weightsOf, marginOf}
+use Rattle.policy.specs.Sides.{leftSide, rightSide, left, weightsOf, mostSum, marginOf}
 use Rattle.policy.specs.Handover.{TotalIs}
 use Rattle.policy.specs.Passing.{holds, passes, passesAt}
 use Rattle.policy.proofs.OneForm.{one-left, one-right}
@@ -122,21 +121,20 @@ module _ (p : Policy) (m : ℕ) (load : ℕ → ℕ) (n : ℕ) (w : Weights) (su
   unfolding marginOf
   margin-worked-out = ap₂ subℕ right-worked-out left-worked-out
 
--- loads that add up to more than the processors have pass under no policy that is served
-pub passes-within : (p : Policy) (m : ℕ) (load : ℕ → ℕ) (n : ℕ) → 1 ≤ m → m ≤ mostProcessors → Served p
-    → passes p m load n ≡ true → sumTo load n ≤ scale * m
+-- loads that add up to more than that pass under no policy that is served
+pub passes-within : (p : Policy) (m : ℕ) (load : ℕ → ℕ) (n : ℕ) → m ≤ mostProcessors → Served p
+    → passes p m load n ≡ true → sumTo load n ≤ mostSum p m n
 unfolding passes
-passes-within Pooled m load n some few s t = omega (arith, leb-true (sumTo load n) (m * scale) t)
-passes-within GlobalEdf m load n some few s t = omega (arith, leb-true (sumTo load n + (m - 1) * maxTo load n) (m * scale) t)
-passes-within GlobalRm m load n some few s t = true-false (s refl) refl
-passes-within FirstFit m load n some few s t = fits-within m load n few t
-passes-within OneCoreRm m load n some few s t =
-    omega (arith, leb-true (sumTo load n) (boundOf n) t, bound-high n, mul-le-mul-left scale some)
-passes-within (Further q) m load n some few s t = true-false t refl
+passes-within Pooled m load n few s t = leb-true (sumTo load n) (m * scale) t
+passes-within GlobalEdf m load n few s t = omega (arith, leb-true (sumTo load n + (m - 1) * maxTo load n) (m * scale) t)
+passes-within GlobalRm m load n few s t = true-false (s refl) refl
+passes-within FirstFit m load n few s t = omega (arith, fits-within m load n few t)
+passes-within OneCoreRm m load n few s t = leb-true (sumTo load n) (boundOf n) t
+passes-within (Further q) m load n few s t = true-false t refl
 
-pub too-much : (p : Policy) (m : ℕ) (load : ℕ → ℕ) (n : ℕ) → 1 ≤ m → m ≤ mostProcessors → Served p
-    → scale * m < sumTo load n → passes p m load n ≡ false
-too-much p m load n some few s h = by-bool (passes p m load n) (λ t. absurd (omega (arith, passes-within p m load n some few s t))) (λ f. f)
+pub too-much : (p : Policy) (m : ℕ) (load : ℕ → ℕ) (n : ℕ) → m ≤ mostProcessors → Served p
+    → mostSum p m n < sumTo load n → passes p m load n ≡ false
+too-much p m load n few s h = by-bool (passes p m load n) (λ t. absurd (omega (arith, passes-within p m load n few s t))) (λ f. f)
 
 -- passing and the margin look at the loads of the first n tasks only
 holds-same : (p : Policy) (m : ℕ) (f g : ℕ → ℕ) (n : ℕ) → ((i : ℕ) → i < n → f i ≡ g i)

@@ -5,7 +5,9 @@ use lib.IntN.{ℤ, subℕ}
 use Rattle.ground.specs.Folds.{sumTo, maxTo}
 use Rattle.kinds.specs.declared.Policy.{Policy}
 use Rattle.kinds.specs.declared.Policy.the-variants.{Pooled, GlobalEdf, GlobalRm, FirstFit, OneCoreRm, Further}
+use Rattle.ground.specs.Choice.{pick}
 use Rattle.kinds.specs.Limits.{scale}
+use Rattle.kinds.specs.Policy.{isFirstFit}
 use Rattle.bound.specs.Bound.{boundOf}
 use Rattle.policy.specs.declared.Weights.{Weights}
 
@@ -45,3 +47,7 @@ weightsOf GlobalRm m n = weights 0 0
 weightsOf FirstFit m n = weights 0 0
 weightsOf OneCoreRm m n = weights 0 (boundOf n)
 weightsOf (Further q) m n = weights 0 0
+
+-- what the loads of n tasks that pass add up to at most
+abbrev pub mostSum : Policy → ℕ → ℕ → ℕ
+mostSum p m n = pick (isFirstFit p) (m * scale) (weightsOf p m n .r)

@@ -12,7 +12,7 @@ ghost use Rattle.kinds.specs.Limits.{scale, mostTasks, mostProcessors};
 ghost use Rattle.kinds.specs.Policy.{isWeighed, Served};
 ghost use Rattle.fit.specs.Fit.{loadIn};
 ghost use Rattle.fit.specs.Handover.{Loads};
-ghost use Rattle.policy.specs.Sides.{weightsOf, left, marginOf};
+ghost use Rattle.policy.specs.Sides.{weightsOf, mostSum, left, marginOf};
 ghost use Rattle.policy.specs.Handover.{Light, SideIs, TotalIs};
 ghost use Rattle.policy.specs.Passing.{passes};
 
@@ -88,7 +88,19 @@ pub fn passes(policy: Policy, m: u16, loads: &[u32; Table::MOST_TASKS], n: usize
     left_of(w, total.sum, total.max) <= w.r
 }
 
-// The same with the sum of the loads at hand: where they add up to more than the processors have, no policy passes and none is tried.
+// What the loads of n tasks that pass add up to at most.
+fn most_sum(policy: Policy, m: u16, n: usize) -> u64
+    requires { ⌜ (1 ≤ m) × (m ≤ mostProcessors) × (n ≤ mostTasks) ⌝ }
+    ensures { λ r. ⌜ r ≡ mostSum policy m n ⌝ }
+{
+    if policy.is_first_fit() {
+        return m as u64 * Share::SCALE;
+    }
+    let w = weights_of(policy, m, n);
+    w.r
+}
+
+// The same with the sum of the loads at hand: where they add up to more than can pass, the policy is not tried.
 pub fn passes_summed(
     policy: Policy,
     m: u16,
@@ -99,7 +111,7 @@ pub fn passes_summed(
     requires { ⌜ Loads (now loads) n × (1 ≤ m) × (m ≤ mostProcessors) × Served policy × (sum ≡ sumTo (loadIn (now loads)) n) ⌝ }
     ensures { λ r. ⌜ r ≡ passes policy m (loadIn (now (loads .entry))) n ⌝ }
 {
-    if m as u64 * Share::SCALE < sum {
+    if most_sum(policy, m, n) < sum {
         return false;
     }
     passes(policy, m, loads, n)

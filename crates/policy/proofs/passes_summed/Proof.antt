@@ -7,15 +7,16 @@ use borrow.Author.Needs.{needs}
 use Rattle.policy.proofs.passes_summed.Statement.{statement}
 use Rattle.policy.proofs.passes_summed.Tie as tie
 
-mul-if1 : tie.Need-mul-if1
-mul-if1 c = search needs
+most-sum-requires : tie.Need-most-sum-requires
+most-sum-requires c κs = let p = c .pre in (p .1, p .2, p .0 .few)
 
 returns : tie.Need-returns
 returns c =
-    let s = c .before in
+    let most = c .before in
+    let s = most .before in
     let a = s .args in
     let p = s .pre in
-    sym (too-much (a .policy) (a .m) (loadIn (a .loads .now)) (a .n) (p .1) (p .2) (p .3) (omega (arith, p .4)))
+    sym (too-much (a .policy) (a .m) (loadIn (a .loads .now)) (a .n) (p .2) (p .3) (omega (arith, p .4, most .most-sum .ensures)))
 
 passes-requires : tie.Need-passes-requires
 passes-requires c κs = search needs
@@ -24,4 +25,4 @@ returns-2 : tie.Need-returns-2
 returns-2 c = search needs
 
 pub passes-summed-spec : {M : Type 1} → statement M
-passes-summed-spec = tie.close (tie.spec mul-if1 returns passes-requires returns-2)
+passes-summed-spec = tie.close (tie.spec most-sum-requires returns passes-requires returns-2)
