@@ -6,14 +6,16 @@
  *
  *   No.  Given exactly when                                                Place
  *    1   the policy is not 1 to 5                                          0
- *    2   there are no processors, or more than 16 (policy 5: than 1)       0
+ *    2   there are no processors, or more than 16 (policy 5: than 1),      0
+ *        or q is 0 (where a station is asked)
  *    3   there are more than 32 tasks                                      the count (reading s settings: 2 + 2s, import: 32)
  *    4   policy 4, asked of the quick finder or the margin                 0
  *    5   a lent output holds fewer entries, rows or bytes than needed      how many are needed
- *    6   a record is not good, such as one with C + 2w above Tmin          the first such record, from 0
+ *    6   a record is not good, such as one with C + 2w above Tmin,         the first such record, from 0
+ *        or with a Tmin or Tmax that is no multiple of q
  *    7   no step from 0 to full compression passes                         0
  *    8   the sheet ends before or inside a field that is due               its length
- *    9   the settings count is neither 2 nor 3                             0
+ *    9   the settings count is not 2 to 4                                  0
  *   10   the result count is neither 0 nor the task count                  where it stands (writing: 0)
  *   11   there are bytes after the last section                            the first of them
  *   15   policy 3, which is withdrawn: in the place of 1                   0
@@ -31,15 +33,16 @@
 
 /* The most tasks of a table, and the bytes of the longest sheet. */
 #define EELBASKET_MOST_TASKS 32
-#define EELBASKET_LONGEST_SHEET 716
+#define EELBASKET_LONGEST_SHEET 718
 
-/* A task record: cost, shortest and longest period in ticks, elasticity. It is good with a swap cost w when 1 <= C, C + 2w <= Tmin,
- * Tmin <= Tmax <= 1,000,000,000 and E <= 1,000,000. */
+/* A task record: cost, shortest and longest period in ticks, elasticity. It is good with a swap cost w and a notch q when 1 <= C,
+ * C + 2w <= Tmin, Tmin <= Tmax <= 1,000,000,000, E <= 1,000,000, and Tmin and Tmax are multiples of q. */
 struct eelbasket_task { uint32_t c, tmin, tmax, e; };
 
-/* The policy (1 pooled, 2 global EDF, 4 first fit, 5 one-core RM; 3, global RM, is withdrawn), how many processors there are, and the swap
- * cost in ticks: each job pays for being swapped in and out, so every C in shares and periods is read as C + 2w. */
-struct eelbasket_station { uint16_t policy, m, w; };
+/* The policy (1 pooled, 2 global EDF, 4 first fit, 5 one-core RM; 3, global RM, is withdrawn), how many processors there are, the swap cost
+ * in ticks, and the notch in ticks. Each job pays for being swapped in and out, so every C in shares and periods is read as C + 2w. Each
+ * period is a multiple of q, which is 1 where every tick can be timed, and never 0. */
+struct eelbasket_station { uint16_t policy, m, w, q; };
 
 /* ---- The finders and the margin ---- */
 
@@ -65,8 +68,8 @@ struct eelbasket_margin eelbasket_margin(const struct eelbasket_task *rows, size
 /* A task record with a span: cost, span, shortest and longest period in ticks, elasticity. */
 struct eelbasket_wide_task { uint64_t c; uint32_t l, tmin, tmax, e; };
 
-/* The least passing step on m processors, each task's period and how many cores it takes; no looks, and no swap cost counts here.
- * Refusals 2, 3, 5, 6, 7. */
+/* The least passing step on m processors, each task's period and how many cores it takes; no looks, and neither swap cost nor notch
+ * counts here. Refusals 2, 3, 5, 6, 7. */
 struct eelbasket_told eelbasket_wide(const struct eelbasket_wide_task *rows, size_t tasks, uint16_t m,
                                      uint32_t *periods, size_t periods_len, uint16_t *cores, size_t cores_len);
 
@@ -79,8 +82,9 @@ struct eelbasket_granted { uint32_t period; uint16_t processor; };
 struct eelbasket_table { struct eelbasket_task rows[EELBASKET_MOST_TASKS]; size_t n; };
 struct eelbasket_results { struct eelbasket_granted rows[EELBASKET_MOST_TASKS]; size_t n; };
 
-/* A station sheet in numbers. The settings count says how many numbers its settings section has: 2 (policy, m) or 3 (policy, m, w). A reading
- * keeps it, and w is 0 where the sheet has none. Only eelbasket_write looks at it: the finders use w whatever the count says. */
+/* A station sheet in numbers. The settings count says how many numbers its settings section has: the first 2, 3 or 4 of policy, m, w, q. A
+ * reading keeps it, and w is 0 and q is 1 where the sheet has none. Only eelbasket_write looks at it: the finders use w and q whatever the
+ * count says. */
 struct eelbasket_sheet {
     size_t settings_count;
     struct eelbasket_station station;
@@ -88,7 +92,7 @@ struct eelbasket_sheet {
     struct eelbasket_results results;
 };
 
-/* What a reading tells: the sheet is all zeros where it is refused. */
+/* What a reading tells: the sheet is all zeros, q too, where it is refused. */
 struct eelbasket_reading { uint32_t number; size_t place; struct eelbasket_sheet sheet; };
 
 /* What a call tells that hands over rows or bytes: how many it wrote. */
@@ -100,7 +104,7 @@ struct eelbasket_verdict { uint32_t number; size_t place; };
 /* A part of one of two sheets: which (0 the standing, 1 the proposed one), from which place on, and how many bytes. */
 struct eelbasket_part { uint32_t which; size_t place, size; };
 
-/* Reads a sheet; it judges neither policy, processors nor records. Refusals 8, 9, 3, 10, 11, whichever comes first from the left. */
+/* Reads a sheet; it judges neither a number of the settings nor a record. Refusals 8, 9, 3, 10, 11, whichever comes first from the left. */
 struct eelbasket_reading eelbasket_read(const uint8_t *sheet, size_t sheet_len);
 
 /* Writes a sheet of 6 + 2s + 16n + 6r bytes, for s settings, n tasks and r results; a setting past the settings count is left out.

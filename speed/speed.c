@@ -71,6 +71,11 @@ static void spread(struct eelbasket_task *rows, int n, uint32_t from, uint32_t s
     for (int i = 0; i < n; i++) rows[i] = (struct eelbasket_task){(uint32_t)(300 + 17 * i), (uint32_t)(1000 + 31 * i), (uint32_t)(9000 + 501 * i), from + step * (uint32_t)i};
 }
 
+/* The same tasks with periods of whole notches. */
+static void notch(struct eelbasket_task *rows, int n, uint32_t q) {
+    for (int i = 0; i < n; i++) rows[i].tmin -= rows[i].tmin % q, rows[i].tmax -= rows[i].tmax % q;
+}
+
 int main(void) {
     static struct eelbasket_task rows[32];
     int ok = 1;
@@ -79,22 +84,25 @@ int main(void) {
         spread(rows, 20, wide ? 100 : 1, wide ? 100 : 1);
         const char *name = wide ? "20 tasks, m = 4, E 100 to 2000" : "20 tasks, m = 4, E 1 to 20";
         const char *one_core = wide ? "20 tasks, m = 1, E 100 to 2000" : "20 tasks, m = 1, E 1 to 20";
-        ok &= quick(name, "quick, policy 1", rows, 20, (struct eelbasket_station){1, 4, 0});
-        ok &= quick(name, "quick, policy 2", rows, 20, (struct eelbasket_station){2, 4, 0});
-        ok &= plain(name, "plain, policy 1", rows, 20, (struct eelbasket_station){1, 4, 0});
-        ok &= plain(name, "plain, policy 2", rows, 20, (struct eelbasket_station){2, 4, 0});
-        ok &= plain(name, "plain, policy 4", rows, 20, (struct eelbasket_station){4, 4, 0});
-        ok &= quick(name, "quick, policy 2, w = 50", rows, 20, (struct eelbasket_station){2, 4, 50});
-        ok &= plain(name, "plain, policy 2, w = 50", rows, 20, (struct eelbasket_station){2, 4, 50});
-        ok &= quick(one_core, "quick, policy 5", rows, 20, (struct eelbasket_station){5, 1, 0});
-        ok &= plain(one_core, "plain, policy 5", rows, 20, (struct eelbasket_station){5, 1, 0});
+        ok &= quick(name, "quick, policy 1", rows, 20, (struct eelbasket_station){1, 4, 0, 1});
+        ok &= quick(name, "quick, policy 2", rows, 20, (struct eelbasket_station){2, 4, 0, 1});
+        ok &= plain(name, "plain, policy 1", rows, 20, (struct eelbasket_station){1, 4, 0, 1});
+        ok &= plain(name, "plain, policy 2", rows, 20, (struct eelbasket_station){2, 4, 0, 1});
+        ok &= plain(name, "plain, policy 4", rows, 20, (struct eelbasket_station){4, 4, 0, 1});
+        ok &= quick(name, "quick, policy 2, w = 50", rows, 20, (struct eelbasket_station){2, 4, 50, 1});
+        ok &= plain(name, "plain, policy 2, w = 50", rows, 20, (struct eelbasket_station){2, 4, 50, 1});
+        ok &= quick(one_core, "quick, policy 5", rows, 20, (struct eelbasket_station){5, 1, 0, 1});
+        ok &= plain(one_core, "plain, policy 5", rows, 20, (struct eelbasket_station){5, 1, 0, 1});
+        notch(rows, 20, 10);
+        ok &= quick(name, "quick, policy 2, q = 10", rows, 20, (struct eelbasket_station){2, 4, 0, 10});
+        ok &= plain(name, "plain, policy 2, q = 10", rows, 20, (struct eelbasket_station){2, 4, 0, 10});
     }
     for (int i = 0; i < 32; i++) rows[i] = (struct eelbasket_task){1, 1, 1000000000, 1};
-    ok &= quick("case J", "quick", rows, 2, (struct eelbasket_station){1, 1, 0});
-    ok &= plain("case J", "plain", rows, 2, (struct eelbasket_station){1, 1, 0});
-    ok &= quick("32 tasks of case J's kind, m = 16", "quick", rows, 32, (struct eelbasket_station){1, 16, 0});
-    ok &= plain("32 tasks of case J's kind, m = 16", "plain", rows, 32, (struct eelbasket_station){1, 16, 0});
+    ok &= quick("case J", "quick", rows, 2, (struct eelbasket_station){1, 1, 0, 1});
+    ok &= plain("case J", "plain", rows, 2, (struct eelbasket_station){1, 1, 0, 1});
+    ok &= quick("32 tasks of case J's kind, m = 16", "quick", rows, 32, (struct eelbasket_station){1, 16, 0, 1});
+    ok &= plain("32 tasks of case J's kind, m = 16", "plain", rows, 32, (struct eelbasket_station){1, 16, 0, 1});
     for (int i = 1; i < 32; i++) rows[i] = (struct eelbasket_task){600, 1000, 1000, 0};
-    ok &= plain("first fit, K = 999,999, refused", "plain, policy 4", rows, 20, (struct eelbasket_station){4, 16, 0});
+    ok &= plain("first fit, K = 999,999, refused", "plain, policy 4", rows, 20, (struct eelbasket_station){4, 16, 0, 1});
     return ok ? 0 : 1;
 }

@@ -10,6 +10,7 @@ struct settings take_settings(void) {
     settings.station.m = (uint16_t)take_number(2);
     settings.count = (size_t)take_number(2);
     settings.station.w = (uint16_t)take_number(2);
+    settings.station.q = (uint16_t)take_number(2);
     return settings;
 }
 

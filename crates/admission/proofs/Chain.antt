@@ -5,10 +5,10 @@ use mathlib.Core.Bool.{Bool, true, false, not}
 use mathlib.Core.List.{List}
 use mathlib.Core.Path.{_≡_, refl, ap}
 use native.Mathlib.Omega.{arith}
-use lib.Dec.{ltb, lit≤, lit<}
-use borrow.Author.Tests.{ltb-false}
+use lib.Dec.{ltb, eqb, lit≤, lit<}
+use borrow.Author.Tests.{ltb-false, eqb-false}
 use Rattle.ground.specs.Choice.{both, either}
-use Rattle.ground.proofs.Cases.{true-false}
+use Rattle.ground.proofs.Cases.{by-le, true-false}
 use Rattle.kinds.specs.declared.Task.{Task}
 use Rattle.kinds.specs.declared.Settings.{Settings}
 use Rattle.kinds.specs.declared.Policy.{Policy}
@@ -24,7 +24,7 @@ use Rattle.kinds.proofs.Policies.{known-served}
 use Rattle.kinds.specs.Task.{at}
 use Rattle.share.specs.Table.{firstBad}
 use Rattle.share.proofs.Tables.{bad-same}
-use Rattle.admission.specs.Admission.{andThen, knows, misset, missetUnder, gate, served, roomy, gateOf, recordsGood, admission}
+use Rattle.admission.specs.Admission.{andThen, knows, misset, unsuited, missetUnder, gate, served, roomy, gateOf, recordsGood, admission}
 
 -- a verdict of a chain was refused nowhere
 pub unchecked : (test : Bool) (r : Refusal) (rest : Verdict) → check test (Refused r) rest ≡ Accepted → (test ≡ false) × (rest ≡ Accepted)
@@ -97,6 +97,20 @@ all-passed serves s n room e =
       roomy = roomy-passed n room (asked .1);
     }
 
+some-of : (x : ℕ) → eqb x 0 ≡ false → 1 ≤ x
+some-of x e = by-le x 0 (λ l. absurd (eqb-false x 0 e (omega arith))) (λ l. l)
+
+-- and that there is a notch
+pub notch-passed : (serves : Bool) (s : Settings) (n room : ℕ) → gateOf serves s n room ≡ Accepted → 1 ≤ s .notch
+notch-passed serves s n room e =
+    let p = meant (s .policy) in
+    let last = andThen (served serves p) (roomy n room) in
+    let known = then-admitted (knows p) (andThen (gate (missetUnder s) n) last) e in
+    let set = then-admitted (gate (missetUnder s) n) last (known .1) in
+    let opens = gate-opens (missetUnder s) n (set .0) in
+    let m-set = neither (misset (s .m)) (either (eqb (s .notch) 0) (unsuited p (s .m))) (opens .0) in
+    some-of (s .notch) (neither (eqb (s .notch) 0) (unsuited p (s .m)) (m-set .1) .0)
+
 -- a verdict does not refuse by k
 abbrev pub Unlike : ℕ → Verdict → Type 0
 Unlike k v = handedVerdict v .number ≡ k → ⊥
@@ -137,7 +151,7 @@ pub six-last : (serves : Bool) (s : Settings) (rows : List Task) (n room place :
 unfolding admission
 six-last serves s rows n room place = by (gateOf serves s n room) (all-unlike serves s n room 6 (lit≤ tt) (lit< tt))
   where
-    by : (a : Verdict) → Unlike 6 a → andThen a (recordsGood (s .swap) rows n) ≡ Refused (BadRecord place) → a ≡ Accepted
+    by : (a : Verdict) → Unlike 6 a → andThen a (recordsGood (s .swap) (s .notch) rows n) ≡ Refused (BadRecord place) → a ≡ Accepted
     by Accepted h e = refl
     by (Refused r) h e = absurd (h (ap (λ (v : Verdict). handedVerdict v .number) e))
 
@@ -145,8 +159,8 @@ six-last serves s rows n room place = by (gateOf serves s n room) (all-unlike se
 pub admission-unlike : (serves : Bool) (s : Settings) (rows : List Task) (n room : ℕ) → Unlike 7 (admission serves s rows n room)
 unfolding admission
 admission-unlike serves s rows n room =
-    let bad = firstBad (s .swap) rows n in
-    then-unlike 7 (gateOf serves s n room) (recordsGood (s .swap) rows n)
+    let bad = firstBad (s .swap) (s .notch) rows n in
+    then-unlike 7 (gateOf serves s n room) (recordsGood (s .swap) (s .notch) rows n)
     (all-unlike serves s n room 7 (lit≤ tt) (lit< tt))
     (check-unlike 7 (ltb bad n) (BadRecord bad) Accepted (λ e. omega arith) (λ e. omega arith))
 
@@ -163,25 +177,30 @@ passed-weighed p m n room a = passed-served false p m n room a (placed-not (isFi
 
 pub record Ready (serves : Bool) (s : Settings) (rows : List Task) (n room : ℕ) : Type 0 where
   pub passed : Passed serves (meant (s .policy)) (s .m) n room
-  pub none-bad : n ≤ firstBad (s .swap) rows n
+  pub notched : 1 ≤ s .notch
+  pub none-bad : n ≤ firstBad (s .swap) (s .notch) rows n
 
 pub admitted : (serves : Bool) (s : Settings) (rows : List Task) (n room : ℕ) → admission serves s rows n room ≡ Accepted → Ready serves s rows n room
 unfolding admission
 admitted serves s rows n room e =
     let a = then-admitted _ _ e in
-    record { passed = all-passed serves s n room (a .0); none-bad = ltb-false _ _ (unchecked _ _ _ (a .1) .0) }
+    record {
+      passed = all-passed serves s n room (a .0);
+      notched = notch-passed serves s n room (a .0);
+      none-bad = ltb-false _ _ (unchecked _ _ _ (a .1) .0);
+    }
 
 -- the admission looks at the first n records, and where there are too many at none
 module _ (serves : Bool) (s : Settings) (xs ys : List Task) (n room : ℕ) where
   pub admission-same : ((i : ℕ) → i < n → at xs i ≡ at ys i) → admission serves s xs n room ≡ admission serves s ys n room
   unfolding admission
-  admission-same same = let e = bad-same (s .swap) xs ys n same in rw e
+  admission-same same = let e = bad-same (s .swap) (s .notch) xs ys n same in rw e
 
   pub admission-many : mostTasks < n → admission serves s xs n room ≡ admission serves s ys n room
   unfolding admission
   admission-many h = by (gateOf serves s n room) refl
     where
-      by : (a : Verdict) → gateOf serves s n room ≡ a → andThen a (recordsGood (s .swap) xs n) ≡ andThen a (recordsGood (s .swap) ys n)
+      by : (a : Verdict) → gateOf serves s n room ≡ a → andThen a (recordsGood (s .swap) (s .notch) xs n) ≡ andThen a (recordsGood (s .swap) (s .notch) ys n)
       by Accepted e = absurd (omega (arith, all-passed serves s n room e .few))
       by (Refused r) e = refl
 

@@ -28,5 +28,5 @@ pub opened : (serves : Bool) (s : Settings) (rows : List Task) (n room : ℕ) (a
     → AdmittedSprung serves s rows n room a springs → a ≡ Accepted → Opened serves s rows n room springs
 opened serves s rows n room a springs x e =
     let ready = admitted serves s rows n room (sym (x .is) ∙ e) in
-    let good = all-good (s .swap) rows n (ready .none-bad) in
+    let good = all-good (s .swap) (s .notch) rows n (ready .none-bad) in
     record { ready = ready; good = good; sprung = x .sprung e; within = sprung-within (pricedRows (s .swap) rows n) n springs (x .sprung e) good }

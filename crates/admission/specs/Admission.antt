@@ -33,9 +33,9 @@ misset m = either (ltb m 1) (ltb mostProcessors m)
 abbrev pub unsuited : Policy → ℕ → Bool
 unsuited p m = both (isOneCore p) (not (eqb m 1))
 
--- what 2 is given for in a call with settings
+-- what 2 is given for in a call with settings; Ask 5: "q = 0 is refused by 2"
 abbrev pub missetUnder : Settings → Bool
-missetUnder s = either (misset (s .m)) (unsuited (meant (s .policy)) (s .m))
+missetUnder s = either (misset (s .m)) (either (eqb (s .notch) 0) (unsuited (meant (s .policy)) (s .m)))
 
 -- 2 and 3, for any kind of table: something is misset, more tasks than there may be
 unfoldable pub gate : Bool → ℕ → Verdict
@@ -55,9 +55,9 @@ gateOf serves s n room =
     let p = meant (s .policy) in
     andThen (knows p) (andThen (gate (missetUnder s) n) (andThen (served serves p) (roomy n room)))
 
--- 6, where a swap costs w
-abbrev pub recordsGood : ℕ → List Task → ℕ → Verdict
-recordsGood w rows n = check (ltb (firstBad w rows n) n) (Refused (BadRecord (firstBad w rows n))) Accepted
+-- 6, where a swap costs w and a notch is q
+abbrev pub recordsGood : ℕ → ℕ → List Task → ℕ → Verdict
+recordsGood w q rows n = check (ltb (firstBad w q rows n) n) (Refused (BadRecord (firstBad w q rows n))) Accepted
 
 unfoldable pub admission : Bool → Settings → List Task → ℕ → ℕ → Verdict
-admission serves s rows n room = andThen (gateOf serves s n room) (recordsGood (s .swap) rows n)
+admission serves s rows n room = andThen (gateOf serves s n room) (recordsGood (s .swap) (s .notch) rows n)

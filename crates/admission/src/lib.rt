@@ -52,6 +52,9 @@ pub fn misset_under(settings: Settings) -> bool
     if misset(settings.m) {
         return true;
     }
+    if settings.notch == 0 {
+        return true;
+    }
     let asked = settings.policy;
     unsuited(asked.meant(), settings.m)
 }
@@ -144,6 +147,7 @@ pub fn admit(
     let bad = springs::springs_of(
         table,
         settings.swap,
+        settings.notch,
         largest,
         least,
         elasticity,

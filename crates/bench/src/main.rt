@@ -32,7 +32,7 @@ fn run_quick(table: Table, settings: Settings) {
 
 fn run(name: &[u8], policy: Policy, m: u16, table: Table) {
     show::words(name);
-    let settings = Settings::new(policy, m, 0);
+    let settings = Settings::new(policy, m, 0, 1);
     run_plain(table, settings);
     run_quick(table, settings);
 }
@@ -40,7 +40,7 @@ fn run(name: &[u8], policy: Policy, m: u16, table: Table) {
 // Whether the margin at a step is negative, zero or positive.
 fn run_margin(policy: Policy, m: u16, table: Table, step: u32) {
     show::words(b"margin");
-    let settings = Settings::new(policy, m, 0);
+    let settings = Settings::new(policy, m, 0, 1);
     match margin::margin_at(table, settings, step) {
         Margin::Is(x) => {
             if x < 0 {

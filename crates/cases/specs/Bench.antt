@@ -39,12 +39,12 @@ pub record Outcome : Type 0 where
 abbrev pub lent : ℕ → List ℕ
 lent n = replicate n 7
 
--- by the definitions that the finders promise, for a call that is admitted and where a swap costs nothing: which policies are served is no
--- part of the bench
+-- by the definitions that the finders promise, for a call that is admitted, where a swap costs nothing and a notch is one tick: which
+-- policies are served is no part of the bench
 unfoldable pub workedOut : Setting → Outcome
 workedOut c =
     let n = length (c .tasks) in
-    let s = settings (c .policy) (c .m) 0 in
+    let s = settings (c .policy) (c .m) 0 1 in
     let paid = rowsUnder s (c .tasks) n in
     let handed = decided Accepted (leastUnder s (c .tasks) n) in
     record {

@@ -38,12 +38,12 @@ passing s (k ∷ rest) = pick (passesAt (s .policy) (s .m) (s .tasks) (length (s
 pub record StepsOfJ : Type 0 where
   pub full : fullCompression (caseJ .tasks) 2 ≡ 999999
   pub beside : passing caseJ (499998 ∷ 499999 ∷ 500000 ∷ 500001 ∷ []) ≡ 500000 ∷ 500001 ∷ []
-  pub periods : periodsAt (caseJ .tasks) 2 500000 ≡ 2 ∷ 2 ∷ []
+  pub periods : periodsAt 1 (caseJ .tasks) 2 500000 ≡ 2 ∷ 2 ∷ []
 
 -- "Steps 5 and 6 pass, 0 to 4 and 7 to 15 fail; full compression is 15. Answer: step 5, first period 4286, processors 1, 2, 2, 3, 1, 2, 3."
 pub record StepsOfK : Type 0 where
   pub full : fullCompression (caseK .tasks) 7 ≡ 15
   pub all : passing caseK (listTo (λ k. k) 16) ≡ 5 ∷ 6 ∷ []
   pub answer : leastStep (caseK .policy) (caseK .m) (caseK .tasks) 7 ≡ At 5
-  pub periods : periodsAt (caseK .tasks) 7 5 ≡ 4286 ∷ 1000 ∷ 1000 ∷ 1000 ∷ 1000 ∷ 1000 ∷ 1000 ∷ []
+  pub periods : periodsAt 1 (caseK .tasks) 7 5 ≡ 4286 ∷ 1000 ∷ 1000 ∷ 1000 ∷ 1000 ∷ 1000 ∷ 1000 ∷ []
   pub processors : processorsAt (caseK .policy) (caseK .m) (caseK .tasks) 7 5 ≡ 1 ∷ 2 ∷ 2 ∷ 3 ∷ 1 ∷ 2 ∷ 3 ∷ []

@@ -19,8 +19,8 @@ use Rattle.kinds.specs.Task.{at}
 use Rattle.kinds.proofs.Refusals.{refusal-numbered}
 use Rattle.share.specs.Share.{periodAt}
 use Rattle.share.specs.Table.{periodsAt}
-use Rattle.share.proofs.Tables.{all-good}
-use Rattle.share.proofs.Tasks.{shortest}
+use Rattle.share.proofs.Tables.{all-good, all-on}
+use Rattle.share.proofs.Tasks.{shortest-on}
 use Rattle.policy.specs.Under.{rowsUnder}
 use Rattle.plan.specs.Plan.{periodsUnder, found, Outcome, outcome, Meets}
 use Rattle.plan.proofs.Found.{accepting}
@@ -32,14 +32,14 @@ use Rattle.clock.proofs.Starts.{Whole, whole-started, clock-is}
 use Rattle.clock_plan.specs.declared.Planned.{Planned}
 use Rattle.clock_plan.specs.ClockPlan.{clockOf, PlanIs}
 
-periods-long : (rows : List Task) (n k : ℕ) → length (periodsAt rows n k) ≡ n
+periods-long : (q : ℕ) (rows : List Task) (n k : ℕ) → length (periodsAt q rows n k) ≡ n
 unfolding periodsAt
-periods-long rows n k = list-long (λ i. periodAt (at rows i) k) n
+periods-long q rows n k = list-long (λ i. periodAt q (at rows i) k) n
 
-period-of : (rows : List Task) (n k i : ℕ) → i < n → every (periodsAt rows n k) i ≡ periodAt (at rows i) k
+period-of : (q : ℕ) (rows : List Task) (n k i : ℕ) → i < n → every (periodsAt q rows n k) i ≡ periodAt q (at rows i) k
 unfolding periodsAt
-period-of rows n k i l =
-    list-in 0 (λ j. periodAt (at rows j) k) n i l
+period-of q rows n k i l =
+    list-in 0 (λ j. periodAt q (at rows j) k) n i l
 
 module _ (serves : Bool) (s : Settings) (rows : List Task) (n room k : ℕ) (e : accepted k ≡ found serves s rows n room) where
   -- an accepted plan has at most 32 periods, and each is 1 to 1,000,000,000
@@ -47,13 +47,14 @@ module _ (serves : Bool) (s : Settings) (rows : List Task) (n room k : ℕ) (e :
   accepted-whole =
       let r = accepting serves s rows n room k e .ready in
       let paid = rowsUnder s rows n in
-      let long = periods-long paid n k in
+      let q = s .notch in
+      let long = periods-long q paid n k in
       record {
         few = omega (arith, long, r .passed .few);
         fair = λ i l. let l′ : i < n = omega (arith, long) in
-            let g = all-good (s .swap) rows n (r .none-bad) i l′ in
-            let p = shortest (at paid i) g k in
-            rw (period-of paid n k i l′) (record { some = omega (arith, p .low, g .c-some, g .c-tmin); most = omega (arith, p .high, g .tmax-most) });
+            let g = all-good (s .swap) q rows n (r .none-bad) i l′ in
+            let p = shortest-on (at paid i) g q (all-on (s .swap) q rows n (r .none-bad) (r .notched) i l′) k in
+            rw (period-of q paid n k i l′) (record { some = omega (arith, p .low, g .c-some, g .c-tmin); most = omega (arith, p .high, g .tmax-most) });
       }
 
   -- so a start with them is accepted, at any tick
@@ -79,7 +80,7 @@ module _ (s : Settings) (rows : List Task) (n : ℕ) (old old′ : List ℕ) whe
   unfolding outcome
   in-front k new new′ m =
       let e : new ≡ periodsUnder s rows n k ++ drop n old = rw (← m .answers) at (m .grants) in
-      rw e (take-at (periodsUnder s rows n k) (drop n old) n (periods-long (rowsUnder s rows n) n k))
+      rw e (take-at (periodsUnder s rows n k) (drop n old) n (periods-long (s .notch) (rowsUnder s rows n) n k))
 
   pub planned-well : (tick : ℕ) (plan : Answer) (new new′ : List ℕ) (begun : Started) → Meets (outcome true s rows n old old′) plan new new′
       → isAccepted plan ≡ true → handedStart begun ≡ started (take n new) tick

@@ -19,8 +19,8 @@ use Rattle.kinds.specs.Answer.{accepted}
 use Rattle.kinds.proofs.Numbers.{numbers-back, fill-in-low}
 use Rattle.share.specs.Share.{periodAt}
 use Rattle.share.specs.Table.{shares, periodsAt}
-use Rattle.share.proofs.Tasks.{shortest}
-use Rattle.share.proofs.Tables.{all-good}
+use Rattle.share.proofs.Tasks.{shortest-on}
+use Rattle.share.proofs.Tables.{all-good, all-on}
 use Rattle.fit.proofs.Placing.{fits-placed}
 use Rattle.policy.specs.Under.{rowsUnder}
 use Rattle.policy.proofs.Demand.{step-at}
@@ -72,9 +72,13 @@ module _ (x : Sheet) (k : ℕ) (few : x .table .n ≤ mostTasks) (e : asked x �
   period-held : (i : ℕ) → i < x .table .n → getD (planPeriods x k) i 0 < limit 4
   unfolding periodsAt
   period-held i l =
-      let f : ℕ → ℕ = λ j. periodAt (at paid j) k in
-      let good = all-good (x .settings .swap) (x .table .rows) (x .table .n) (accepts .ready .none-bad) i l in
-      rw (list-in 0 f (x .table .n) i l) (omega (arith, good .tmax-most, shortest (at paid i) good k .high))
+      let f : ℕ → ℕ = λ j. periodAt (x .settings .notch) (at paid j) k in
+      let w = x .settings .swap in
+      let q = x .settings .notch in
+      let none-bad = accepts .ready .none-bad in
+      let good = all-good w q (x .table .rows) (x .table .n) none-bad i l in
+      let on = all-on w q (x .table .rows) (x .table .n) none-bad (accepts .ready .notched) i l in
+      rw (list-in 0 f (x .table .n) i l) (omega (arith, good .tmax-most, shortest-on (at paid i) good q on k .high))
 
   place-held : (i : ℕ) → i < x .table .n → processorAt (meant (x .settings .policy)) (x .settings .m) paid k i < limit 2
   place-held i l =

@@ -20,7 +20,7 @@ use Rattle.writer.specs.Canonical.{grantedIn}
 abbrev pub grantedAt : Sheet → ℕ → ℕ → Granted
 grantedAt x k i =
     let paid = rowsUnder (x .settings) (x .table .rows) (x .table .n) in
-    granted (periodAt (at paid i) k) (processorAt (meant (x .settings .policy)) (x .settings .m) paid k i)
+    granted (periodAt (x .settings .notch) (at paid i) k) (processorAt (meant (x .settings .policy)) (x .settings .m) paid k i)
 
 -- "accepts a sheet exactly when our plain finder accepts its settings and tasks, and every task has a stored result with the period and
 -- processor it would give"

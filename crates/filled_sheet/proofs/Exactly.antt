@@ -73,7 +73,7 @@ pub plan-at : (x : Sheet) (k i : ℕ) → x .table .n ≤ mostTasks → i < x .t
 unfolding periodsAt processorsAt
 plan-at x k i few l =
     let paid = rowsUnder (x .settings) (x .table .rows) (x .table .n) in
-    let period : ℕ → ℕ = λ j. periodAt (at paid j) k in
+    let period : ℕ → ℕ = λ j. periodAt (x .settings .notch) (at paid j) k in
     let processor = processorAt (meant (x .settings .policy)) (x .settings .m) paid k in
     planned-at x k i few l ∙ ap₂ granted (list-in 0 period (x .table .n) i l) (list-in 0 processor (x .table .n) i l)
 

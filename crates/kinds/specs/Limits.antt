@@ -18,9 +18,9 @@ mostTasks = 32
 abbrev pub mostProcessors : ℕ
 mostProcessors = 16
 
--- Ask 2: a sheet has 2 or 3 settings
+-- Ask 5: a sheet has 2 to 4 settings
 abbrev pub fewestSettings : ℕ
 fewestSettings = 2
 
 abbrev pub mostSettings : ℕ
-mostSettings = 3
+mostSettings = 4

@@ -7,21 +7,21 @@ use Rattle.kinds.specs.declared.Policy.{Policy}
 use Rattle.kinds.specs.declared.Settings.{Settings}
 use Rattle.kinds.specs.Policy.{policyOf, policyNumber}
 
-abbrev pub settings : Policy → ℕ → ℕ → Settings
-settings policy m swap = record { policy = policy; m = m; swap = swap }
+abbrev pub settings : Policy → ℕ → ℕ → ℕ → Settings
+settings policy m swap notch = record { policy = policy; m = m; swap = swap; notch = notch }
 
--- what is filled in for each number that a sheet leaves out; Ask 2: "with w = 0"
+-- what is filled in for each number that a sheet leaves out; Ask 5: "filled in as w = 0 and q = 1"
 abbrev pub fillIns : List ℕ
-fillIns = 0 ∷ 0 ∷ 0 ∷ []
+fillIns = 0 ∷ 0 ∷ 0 ∷ 1 ∷ []
 
 -- number i of a list of settings
 abbrev pub setting : List ℕ → ℕ → ℕ
 setting numbers i = getD numbers i 0
 
--- the settings that numbers stand for: policy, m, w
+-- the settings that numbers stand for: policy, m, w, q
 abbrev pub settingsOf : List ℕ → Settings
-settingsOf numbers = settings (policyOf (setting numbers 0)) (setting numbers 1) (setting numbers 2)
+settingsOf numbers = settings (policyOf (setting numbers 0)) (setting numbers 1) (setting numbers 2) (setting numbers 3)
 
 -- the numbers that settings are written as
 abbrev pub numbersOf : Settings → List ℕ
-numbersOf s = policyNumber (s .policy) ∷ s .m ∷ s .swap ∷ []
+numbersOf s = policyNumber (s .policy) ∷ s .m ∷ s .swap ∷ s .notch ∷ []

@@ -1,9 +1,10 @@
 -- A task record, a list of them, and a table.
 -- Assumes nothing.
-use Prim.Native.Nat.{ℕ, _+_, _*_, _≤_}
+use Prim.Native.Nat.{ℕ, _+_, _*_, _%_, _≤_}
 use mathlib.Core.Bool.{Bool}
 use mathlib.Core.List.{List}
-use lib.Dec.{leb}
+use mathlib.Core.Path.{_≡_}
+use lib.Dec.{leb, eqb}
 use lib.ListN.{length, getD}
 use Rattle.ground.specs.Choice.{both}
 use Rattle.ground.specs.Padded.{padded}
@@ -45,12 +46,26 @@ pub record Good (t : Task) : Type 0 where
   pub tmax-most : t .tmax ≤ longestPeriod
   pub e-most : t .e ≤ greatestElasticity
 
--- a record is good where a swap costs w: 1 ≤ C, C + 2w ≤ Tmin ≤ Tmax, and the limits
-unfoldable pub isGood : ℕ → Task → Bool
-isGood w t =
+-- Ask 5: "Tmin and Tmax must be multiples of q", of a notch
+pub record OnNotch (q : ℕ) (t : Task) : Type 0 where
+  pub some : 1 ≤ q
+  pub tmin-on : t .tmin % q ≡ 0
+  pub tmax-on : t .tmax % q ≡ 0
+
+-- a record keeps its limits where a swap costs w: 1 ≤ C, C + 2w ≤ Tmin ≤ Tmax, and the limits
+unfoldable pub isWithin : ℕ → Task → Bool
+isWithin w t =
     both (both (both (both
     (leb 1 (t .c))
     (leb (t .c + 2 * w) (t .tmin)))
     (leb (t .tmin) (t .tmax)))
     (leb (t .tmax) longestPeriod))
     (leb (t .e) greatestElasticity)
+
+-- its Tmin and Tmax are multiples of q
+abbrev pub isOnNotch : ℕ → Task → Bool
+isOnNotch q t = both (eqb (t .tmin % q) 0) (eqb (t .tmax % q) 0)
+
+-- a record is good where a swap costs w and a notch is q
+unfoldable pub isGood : ℕ → ℕ → Task → Bool
+isGood w q t = both (isWithin w t) (isOnNotch q t)

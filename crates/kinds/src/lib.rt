@@ -3,7 +3,7 @@
 ghost use mathlib.Core.Path.{_≡_};
 ghost use Prim.Native.Nat.{_+_, _*_, _≤_};
 ghost use Rattle.kinds.specs.Limits.{scale, longestPeriod, greatestElasticity, mostTasks, mostProcessors, fewestSettings, mostSettings};
-ghost use Rattle.kinds.specs.Task.{isGood, priced, task, table};
+ghost use Rattle.kinds.specs.Task.{isWithin, isOnNotch, isGood, priced, task, table};
 ghost use Rattle.kinds.specs.Policy.{policyOf, policyNumber, meant, isFirstFit, isOneCore};
 ghost use Rattle.kinds.specs.Settings.{settings, settingsOf, numbersOf};
 ghost use Rattle.kinds.specs.Refusal.{numberOf, placeOf};
@@ -61,8 +61,8 @@ impl Task {
     }
 
     // Document 01: "A record is good when 1 ≤ C ≤ Tmin ≤ Tmax ≤ 1,000,000,000 and 0 ≤ E ≤ 1,000,000", where C ≤ Tmin is read with swaps.
-    pub fn good(self, swap: u16) -> bool
-        ensures { λ r. ⌜ r ≡ isGood swap self ⌝ }
+    pub fn within(self, swap: u16) -> bool
+        ensures { λ r. ⌜ r ≡ isWithin swap self ⌝ }
     {
         let cost = self.cost(swap);
         1 <= self.c
@@ -70,6 +70,23 @@ impl Task {
             && self.tmin <= self.tmax
             && self.tmax <= Task::LONGEST_PERIOD
             && self.e <= Task::GREATEST_ELASTICITY
+    }
+
+    // Ask 5: "Tmin and Tmax must be multiples of q".
+    pub fn on_notch(self, notch: u16) -> bool
+        requires { ⌜ 1 ≤ notch ⌝ }
+        ensures { λ r. ⌜ r ≡ isOnNotch notch self ⌝ }
+    {
+        let q = notch as u32;
+        self.tmin % q == 0 && self.tmax % q == 0
+    }
+
+    // Whether the record is good where a swap costs so much and a notch is so wide.
+    pub fn good(self, swap: u16, notch: u16) -> bool
+        requires { ⌜ 1 ≤ notch ⌝ }
+        ensures { λ r. ⌜ r ≡ isGood swap notch self ⌝ }
+    {
+        self.within(swap) && self.on_notch(notch)
     }
 
     // The record with its swaps paid for: its C is the whole cost of a job.
@@ -178,11 +195,12 @@ impl Policy {
     }
 }
 
-// The station settings: the policy, how many processors there are, and what a swap costs.
+// The station settings: the policy, how many processors there are, what a swap costs, and the notch of the timer wheel.
 pub struct Settings {
     pub policy: Policy,
     pub m: u16,
     pub swap: u16,
+    pub notch: u16,
 }
 
 impl Settings {
@@ -191,15 +209,20 @@ impl Settings {
     // How few numbers the settings section of a sheet may have, and how many.
     pub const FEWEST: usize = 2;
 
-    pub const MOST: usize = 3;
+    pub const MOST: usize = 4;
 
     // What is filled in for each number that a sheet leaves out.
-    pub const FILL_INS: [u16; Settings::MOST] = [0, 0, 0];
+    pub const FILL_INS: [u16; Settings::MOST] = [0, 0, 0, 1];
 
-    pub fn new(policy: Policy, m: u16, swap: u16) -> Settings
-        ensures { λ r. ⌜ r ≡ settings policy m swap ⌝ }
+    pub fn new(policy: Policy, m: u16, swap: u16, notch: u16) -> Settings
+        ensures { λ r. ⌜ r ≡ settings policy m swap notch ⌝ }
     {
-        Settings { policy, m, swap }
+        Settings {
+            policy,
+            m,
+            swap,
+            notch,
+        }
     }
 
     // The settings that the numbers on a sheet stand for.
@@ -209,7 +232,13 @@ impl Settings {
         let policy = Policy::of(numbers[0]);
         let m = numbers[1];
         let swap = numbers[2];
-        Settings { policy, m, swap }
+        let notch = numbers[3];
+        Settings {
+            policy,
+            m,
+            swap,
+            notch,
+        }
     }
 
     // The numbers that settings are written as.
@@ -217,7 +246,7 @@ impl Settings {
         ensures { λ r. ⌜ r ≡ numbersOf self ⌝ }
     {
         let policy = self.policy;
-        [policy.number(), self.m, self.swap]
+        [policy.number(), self.m, self.swap, self.notch]
     }
 }
 

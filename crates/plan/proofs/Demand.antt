@@ -1,4 +1,4 @@
--- An accepted call in the words of demand 2: the least passing step, each task's shortest period and its processor, and nothing past them;
+-- An accepted call in the words of demand 2: the least passing step, each task's shortest period on a notch and its processor, and nothing past them;
 -- and a call refused by 7: no step from 0 to K passes. For the finder that serves policy 4 and the one that does not.
 -- Assumes nothing.
 use Prim.Native.Nat.{ℕ, _+_, _≤_, _<_, min}
@@ -19,11 +19,11 @@ use Rattle.kinds.specs.declared.Verdict.the-variants as verdict
 use Rattle.kinds.specs.Limits.{scale}
 use Rattle.kinds.specs.Policy.{meant, isFirstFit}
 use Rattle.kinds.specs.Task.{at, Good}
-use Rattle.rule.specs.Rule.{Shortest}
+use Rattle.rule.specs.Rule.{ShortestOn}
 use Rattle.share.specs.Share.{costOf, shareAt, periodAt}
 use Rattle.share.specs.Table.{shares, fullCompression, periodsAt}
-use Rattle.share.proofs.Tasks.{shortest}
-use Rattle.share.proofs.Tables.{all-good}
+use Rattle.share.proofs.Tasks.{shortest-on}
+use Rattle.share.proofs.Tables.{all-good, all-on}
 use Rattle.fit.specs.Fit.{loadsAfter, placeAt, fits}
 use Rattle.fit.proofs.Placing.{lowest, fits-placed}
 use Rattle.policy.specs.Passing.{passesAt, leastStep}
@@ -51,7 +51,7 @@ pub record Granted (s : Settings) (rows : List Task) (n k : ℕ) (oldPeriods old
   pub good : (i : ℕ) → i < n → Good (at (rowsUnder s rows n) i)
   pub step : LeastAt (passesAt (meant (s .policy)) (s .m) (rowsUnder s rows n) n) (fullCompression (rowsUnder s rows n) n) k
   pub each-period : (i : ℕ) → i < n → let task = at (rowsUnder s rows n) i in
-      Shortest (costOf task) (task .tmin) (task .tmax) (shareAt task k) (getD periods i 0)
+      ShortestOn (s .notch) (costOf task) (task .tmin) (task .tmax) (shareAt task k) (getD periods i 0)
   pub each-processor : (i : ℕ) → i < n → Assigned (meant (s .policy)) (s .m) (shares (rowsUnder s rows n) k) i (getD processors i 0)
   pub periods-past : (i : ℕ) → n ≤ i → getD periods i 0 ≡ getD oldPeriods i 0
   pub processors-past : (i : ℕ) → n ≤ i → getD processors i 0 ≡ getD oldProcessors i 0
@@ -85,16 +85,17 @@ accepted-granted serves s rows n k oldPeriods oldProcessors periods processors x
     let p = meant (s .policy) in
     let paid = rowsUnder s rows n in
     let g = accepting serves s rows n room k (x .answers) in
-    let good = all-good (s .swap) rows n (g .ready .none-bad) in
+    let good = all-good (s .swap) (s .notch) rows n (g .ready .none-bad) in
+    let on = all-on (s .swap) (s .notch) rows n (g .ready .none-bad) (g .ready .notched) in
     let step = step-at p (s .m) paid n k (g .step) in
     let ps = rw (← x .answers) at (x .grants) in
     let qs = rw (← x .answers) at (x .places) in
     record {
       good = good;
       step = step;
-      each-period = λ i l. rw (ps, list-at 0 (λ j. periodAt (at paid j) k) n i _ l) (shortest (at paid i) (good i l) k);
+      each-period = λ i l. rw (ps, list-at 0 (λ j. periodAt (s .notch) (at paid j) k) n i _ l) (shortest-on (at paid i) (good i l) (s .notch) (on i l) k);
       each-processor = λ i l. rw (qs, list-at 0 (processorAt p (s .m) paid k) n i _ l) (assigned p (s .m) paid n k i (step .passes) l);
-      periods-past = λ i l. rw ps (list-past (λ j. periodAt (at paid j) k) n i oldPeriods l);
+      periods-past = λ i l. rw ps (list-past (λ j. periodAt (s .notch) (at paid j) k) n i oldPeriods l);
       processors-past = λ i l. rw qs (list-past (processorAt p (s .m) paid k) n i oldProcessors l);
     }
 

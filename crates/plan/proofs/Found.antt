@@ -19,7 +19,7 @@ use Rattle.kinds.specs.declared.Refusal.the-variants.{NoStepPasses}
 use Rattle.kinds.specs.Answer.{Handed, accepted, handed, isAccepted, stepOf, after}
 use Rattle.kinds.specs.Policy.{meant}
 use Rattle.kinds.proofs.Answers.{not-refused}
-use Rattle.share.proofs.Tables.{all-good}
+use Rattle.share.proofs.Tables.{all-good, all-on}
 use Rattle.springs.specs.Columns.{periodIn}
 use Rattle.springs.proofs.Columns.{held-allowed, held-periods}
 use Rattle.fit.specs.Fit.{loadIn}
@@ -81,10 +81,11 @@ may-grant serves (Accepted k) s rows n a b cost tmin shares f t =
     let g = accepting serves s rows n (min a b) k (f .answers) in
     let p = g .ready .passed in
     let paid = rowsUnder s rows n in
-    let good = all-good (s .swap) rows n (g .ready .none-bad) in
+    let good = all-good (s .swap) (s .notch) rows n (g .ready .none-bad) in
+    let on = all-on (s .swap) (s .notch) rows n (g .ready .none-bad) (g .ready .notched) in
     let passing = step-at (meant (s .policy)) (s .m) paid n k (g .step) .passes in
     record {
-      allowed = held-allowed paid n k cost tmin shares (f .held t) good;
+      allowed = held-allowed paid n k cost tmin shares (f .held t) (s .notch) (g .ready .notched) good on;
       roomy = omega (arith, p .roomy);
       placeable =
           placeable (meant (s .policy)) (s .m) paid n k shares (f .held t .shares-are) b good (p .few) (p .m-most) (omega (arith, p .roomy)) passing;
@@ -103,10 +104,11 @@ module _ (serves : Bool) (s : Settings) (rows : List Task) (n room : ℕ) (a : v
 -- an answer that is found, with what it leaves in the outputs, meets the outcome
 module _ (serves : Bool) (answer : Answer) (s : Settings) (rows : List Task) (n : ℕ) (cost tmin shares periods processors : List ℕ)
     (f : FoundHeld serves s rows n (min (length periods) (length processors)) answer cost tmin shares) where
-  periods-left : after (handed answer) (listTo (periodIn cost tmin shares) n) n periods ≡ periodsAfter (handed answer) s rows n periods
+  periods-left : after (handed answer) (listTo (periodIn (s .notch) cost tmin shares) n) n periods ≡ periodsAfter (handed answer) s rows n periods
   periods-left =
       written-same answer _ _ n periods
-      (λ t. held-periods (rowsUnder s rows n) n (stepOf answer) cost tmin shares (f .held t) ∙ ap (periodsUnder s rows n) (step-handed answer))
+      (λ t. held-periods (rowsUnder s rows n) n (stepOf answer) cost tmin shares (f .held t) (s .notch)
+      ∙ ap (periodsUnder s rows n) (step-handed answer))
 
   processors-left : after (handed answer) (listTo (processorOn (meant (s .policy)) (s .m) (loadIn shares)) n) n processors
       ≡ processorsAfter (handed answer) s rows n processors

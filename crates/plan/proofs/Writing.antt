@@ -45,7 +45,7 @@ step-handed (Refused r) = refl
 
 module _ (a : Answer) (s : Settings) (cost tmin shares : List ℕ) (n : ℕ) (periods processors : List ℕ) where
   abbrev periods-front : List ℕ
-  periods-front = listTo (periodIn cost tmin shares) n
+  periods-front = listTo (periodIn (s .notch) cost tmin shares) n
 
   abbrev processors-front : List ℕ
   processors-front = listTo (processorOn (meant (s .policy)) (s .m) (loadIn shares)) n

@@ -33,16 +33,16 @@ pub record Placeable (p : Policy) (m : ℕ) (loads : List ℕ) (n room : ℕ) : 
   pub passing : passes p m (loadIn loads) n ≡ true
 
 -- what the writing of a plan relies on
-pub record Grantable (p : Policy) (m : ℕ) (cost tmin shares : List ℕ) (n periods processors : ℕ) : Type 0 where
-  pub allowed : Allowed cost tmin shares n
+pub record Grantable (p : Policy) (m q : ℕ) (cost tmin shares : List ℕ) (n periods processors : ℕ) : Type 0 where
+  pub allowed : Allowed q cost tmin shares n
   pub roomy : n ≤ periods
   pub placeable : Placeable p m shares n processors
 
 abbrev pub MayGrant : Answer → Settings → List ℕ → List ℕ → List ℕ → ℕ → ℕ → ℕ → Type 0
 MayGrant answer s cost tmin shares n periods processors =
-    isAccepted answer ≡ true → Grantable (meant (s .policy)) (s .m) cost tmin shares n periods processors
+    isAccepted answer ≡ true → Grantable (meant (s .policy)) (s .m) (s .notch) cost tmin shares n periods processors
 
 -- what the writing of a plan leaves in the two outputs
 pub record Leaves (h : Handed ℕ) (s : Settings) (cost tmin shares : List ℕ) (n : ℕ) (oldPeriods oldProcessors periods processors : List ℕ) : Type 0 where
-  pub periods-are : periods ≡ after h (listTo (periodIn cost tmin shares) n) n oldPeriods
+  pub periods-are : periods ≡ after h (listTo (periodIn (s .notch) cost tmin shares) n) n oldPeriods
   pub processors-are : processors ≡ after h (listTo (processorOn (meant (s .policy)) (s .m) (loadIn shares)) n) n oldProcessors

@@ -42,7 +42,7 @@ decided Accepted Nothing = refused 0 NoStepPasses
 
 -- the periods and the processors at step k, of the first n of some records
 abbrev pub periodsUnder : Settings → List Task → ℕ → ℕ → List ℕ
-periodsUnder s rows n k = periodsAt (rowsUnder s rows n) n k
+periodsUnder s rows n k = periodsAt (s .notch) (rowsUnder s rows n) n k
 
 abbrev pub processorsUnder : Settings → List Task → ℕ → ℕ → List ℕ
 processorsUnder s rows n k = processorsAt (meant (s .policy)) (s .m) (rowsUnder s rows n) n k

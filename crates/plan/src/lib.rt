@@ -40,20 +40,21 @@ fn stepped(step: Step) -> Answer
     }
 }
 
-// Writes the period that its share allows each of n tasks with these costs and shortest periods, and nothing past them.
+// Writes the period, on a notch, that its share allows each of n tasks with these costs and shortest periods, and nothing past them.
 fn write_periods(
+    notch: u16,
     cost: &[u32; Table::MOST_TASKS],
     tmin: &[u32; Table::MOST_TASKS],
     shares: &[u32; Table::MOST_TASKS],
     n: usize,
     out: &mut [u32],
 )
-    requires { ⌜ (n ≤ mostTasks) × (n ≤ length (now out)) × Allowed (now cost) (now tmin) (now shares) n ⌝ }
+    requires { ⌜ (n ≤ mostTasks) × (n ≤ length (now out)) × Allowed notch (now cost) (now tmin) (now shares) n ⌝ }
     ensures { λ _. ⌜ now (out .exit)
-        ≡ listTo (periodIn (now (cost .entry)) (now (tmin .entry)) (now (shares .entry))) n ++ drop n (now (out .entry)) ⌝ }
+        ≡ listTo (periodIn notch (now (cost .entry)) (now (tmin .entry)) (now (shares .entry))) n ++ drop n (now (out .entry)) ⌝ }
 {
     for i in 0..n {
-        out[i] = springs::period_on(cost[i], tmin[i], shares[i]);
+        out[i] = springs::period_on(notch, cost[i], tmin[i], shares[i]);
     }
 }
 
@@ -105,7 +106,7 @@ pub fn grant(
 {
     if answer.accepted() {
         let asked = settings.policy;
-        write_periods(cost, tmin, shares, n, periods);
+        write_periods(settings.notch, cost, tmin, shares, n, periods);
         write_processors(asked.meant(), settings.m, shares, n, processors);
     }
 }

@@ -1,12 +1,13 @@
--- The period of a share is the shortest in its range that the share allows.
+-- The period of a share is the shortest in its range that the share allows, and moved on to the next notch the shortest on a notch.
 -- Assumes nothing.
-use Prim.Native.Nat.{ℕ, _*_, _≤_}
-use native.Mathlib.Nat.{mul-comm, mul-le-mul-left, mul-le-mul-right, le-trans, le-max-right, max-le}
+use Prim.Native.Nat.{ℕ, _+_, _-_, _*_, _/_, _%_, _≤_, _<_}
+use mathlib.Core.Path.{_≡_}
+use native.Mathlib.Nat.{mul-comm, mul-le-mul-left, mul-le-mul-right, le-trans, le-max-right, max-le, div-add-mod', div-mul-le-self, mul-mod-left}
 use native.Mathlib.Omega.{arith}
 use Rattle.ground.specs.Rounding.{ceilDiv}
 use Rattle.ground.proofs.Rounding.{ceil-enough, ceil-least, ceil-falls}
 use Rattle.kinds.specs.Limits.{scale}
-use Rattle.rule.specs.Rule.{partOf, periodOf, Shortest}
+use Rattle.rule.specs.Rule.{partOf, periodOf, Shortest, notchedUp, ShortestOn}
 
 -- a smaller share has no shorter period
 pub period-rises : (cost tmin s s′ : ℕ) → 1 ≤ s′ → s′ ≤ s → periodOf cost tmin s ≤ periodOf cost tmin s′
@@ -26,3 +27,37 @@ period-shortest cost tmin tmax s ht hm p h =
       enough = le-trans v (mul-le-mul-left s (le-max-right tmin q));
       only = λ x l e. max-le l (ceil-least (cost * scale) s x p (omega (arith, mul-comm s x)));
     }
+
+-- a multiple of q is so many times q
+whole : (q t : ℕ) → t % q ≡ 0 → t ≡ t / q * q
+whole q t e = omega (arith, div-add-mod' t q)
+
+module _ (q : ℕ) (some : 1 ≤ q) where
+  -- the next notch is not before t, and no multiple of q from t on is before it
+  pub notched-from : (t : ℕ) → t ≤ notchedUp q t
+  notched-from t = ceil-enough t q some
+
+  pub notched-least : (t x : ℕ) → x % q ≡ 0 → t ≤ x → notchedUp q t ≤ x
+  notched-least t x e h =
+      let w = whole q x e in
+      let l : ceilDiv t q ≤ x / q = ceil-least t q (x / q) some (omega arith) in
+      omega (arith, mul-le-mul-right q l)
+
+  pub notched-near : (t : ℕ) → notchedUp q t < t + q
+  notched-near t = omega (arith, div-mul-le-self (t + (q - 1)) q)
+
+  -- the shortest period, moved on to the next notch, is the shortest on a notch; where Tmax is on one, one always exists
+  pub notched-shortest : (cost tmin tmax share t : ℕ) → tmax % q ≡ 0 → Shortest cost tmin tmax share t
+      → ShortestOn q cost tmin tmax share (notchedUp q t)
+  notched-shortest cost tmin tmax share t e s =
+      record {
+        on = mul-mod-left (ceilDiv t q) q;
+        low = le-trans (s .low) (notched-from t);
+        high = notched-least t tmax e (s .high);
+        enough = le-trans (s .enough) (mul-le-mul-left share (notched-from t));
+        only = λ x m l h. notched-least t x m (s .only x l h);
+      }
+
+-- notches of one tick are document 01's whole numbers
+pub notched-one : (t : ℕ) → notchedUp 1 t ≡ t
+notched-one t = omega arith

@@ -1,6 +1,7 @@
 -- Document 01, "Numbers on a task": its rules on plain numbers.
 -- Assumes nothing.
-use Prim.Native.Nat.{ℕ, _-_, _*_, _≤_, max}
+use Prim.Native.Nat.{ℕ, _-_, _*_, _%_, _≤_, max}
+use mathlib.Core.Path.{_≡_}
 use lib.Dec.{eqb}
 use Rattle.ground.specs.Choice.{pick}
 use Rattle.ground.specs.Rounding.{ceilDiv}
@@ -28,3 +29,15 @@ pub record Shortest (cost tmin tmax share t : ℕ) : Type 0 where
   pub high : t ≤ tmax
   pub enough : cost * scale ≤ share * t
   pub only : (x : ℕ) → tmin ≤ x → cost * scale ≤ share * x → t ≤ x
+
+-- the smallest multiple of q from t on
+abbrev pub notchedUp : ℕ → ℕ → ℕ
+notchedUp q t = ceilDiv t q * q
+
+-- Ask 5, in words: the smallest multiple of q from Tmin to Tmax with cost × S ≤ share × T
+pub record ShortestOn (q cost tmin tmax share t : ℕ) : Type 0 where
+  pub on : t % q ≡ 0
+  pub low : tmin ≤ t
+  pub high : t ≤ tmax
+  pub enough : cost * scale ≤ share * t
+  pub only : (x : ℕ) → x % q ≡ 0 → tmin ≤ x → cost * scale ≤ share * x → t ≤ x

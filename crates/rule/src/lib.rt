@@ -2,7 +2,7 @@
 use kinds::Share;
 ghost use mathlib.Core.Path.{_≡_};
 ghost use Prim.Native.Nat.{_≤_};
-ghost use Rattle.rule.specs.Rule.{partOf, shareOf, saturationOf, periodOf};
+ghost use Rattle.rule.specs.Rule.{partOf, shareOf, saturationOf, periodOf, notchedUp};
 
 // The share of a processor that a job of this cost takes when it comes every `period` ticks.
 pub fn part(cost: u64, period: u32) -> u64
@@ -36,4 +36,12 @@ pub fn period(cost: u64, tmin: u32, share: u64) -> u64
     ensures { λ r. ⌜ r ≡ periodOf cost tmin share ⌝ }
 {
     ground::larger(tmin as u64, ground::ceil_div(cost * Share::SCALE, share))
+}
+
+// The smallest multiple of a notch from t on.
+pub fn notched_up(notch: u16, t: u64) -> u64
+    requires { ⌜ (1 ≤ notch) × (t ≤ 1000000000000000000) ⌝ }
+    ensures { λ r. ⌜ r ≡ notchedUp notch t ⌝ }
+{
+    ground::ceil_div(t, notch as u64) * notch as u64
 }

@@ -11,8 +11,8 @@ use Rattle.ground.proofs.First.{first-is, first-cong}
 use Rattle.ground.proofs.Folds.{le-max-to, max-to-le}
 use Rattle.ground.proofs.Buffer.{list-in, list-cong}
 use Rattle.kinds.specs.declared.Task.{Task}
-use Rattle.kinds.specs.Task.{noTask, at, priced, Good, isGood}
-use Rattle.kinds.proofs.Records.{good-is}
+use Rattle.kinds.specs.Task.{noTask, at, priced, Good, OnNotch, isGood}
+use Rattle.kinds.proofs.Records.{good-is, notch-is}
 use Rattle.share.specs.Share.{saturationAt}
 use Rattle.share.specs.Table.{fullCompression, firstBad, pricedRows}
 use Rattle.share.proofs.Tasks.{saturation-most}
@@ -47,18 +47,26 @@ pub priced-free : (rows : List Task) (n i : ℕ) → i < n → at (pricedRows 0 
 priced-free rows n i l = let e : at rows i .c + 2 * 0 ≡ at rows i .c = omega arith in rw (priced-at 0 rows n i l, e)
 
 -- the first bad record in words: those before it are good, and it is not
-pub first-bad-is : (w : ℕ) (rows : List Task) (n : ℕ) → IsFirst (λ i. not (isGood w (at rows i))) n (firstBad w rows n)
+pub first-bad-is : (w q : ℕ) (rows : List Task) (n : ℕ) → IsFirst (λ i. not (isGood w q (at rows i))) n (firstBad w q rows n)
 unfolding firstBad
-first-bad-is w rows n = first-is (λ i. not (isGood w (at rows i))) n
+first-bad-is w q rows n = first-is (λ i. not (isGood w q (at rows i))) n
 
-not-bad : (w : ℕ) (t : Task) → not (isGood w t) ≡ false → Good (priced w t)
-not-bad w t e = good-is w t (by-bool (isGood w t) (λ g. g) (λ g. true-false (rw g) e))
+-- where there is none, each record is good once its swaps are paid for, and stands on notches
+module _ (w q : ℕ) (rows : List Task) (n : ℕ) (none : n ≤ firstBad w q rows n) where
+  not-bad : (i : ℕ) → i < n → isGood w q (at rows i) ≡ true
+  not-bad i l =
+      let e : not (isGood w q (at rows i)) ≡ false = first-bad-is w q rows n .before i (omega arith) in
+      by-bool (isGood w q (at rows i)) (λ g. g) (λ g. true-false (rw g) e)
 
-pub all-good : (w : ℕ) (rows : List Task) (n : ℕ) → n ≤ firstBad w rows n → (i : ℕ) → i < n → Good (at (pricedRows w rows n) i)
-all-good w rows n h i l = rw (priced-at w rows n i l) (not-bad w (at rows i) (first-bad-is w rows n .before i (omega arith)))
+  pub all-good : (i : ℕ) → i < n → Good (at (pricedRows w rows n) i)
+  all-good i l = rw (priced-at w rows n i l) (good-is w q (at rows i) (not-bad i l))
+
+  pub all-on : 1 ≤ q → (i : ℕ) → i < n → OnNotch q (at (pricedRows w rows n) i)
+  all-on some i l = rw (priced-at w rows n i l) (notch-is w q (at rows i) some (not-bad i l))
 
 -- it depends on the first n records only
-pub bad-same : (w : ℕ) (xs ys : List Task) (n : ℕ) → ((i : ℕ) → i < n → at xs i ≡ at ys i) → firstBad w xs n ≡ firstBad w ys n
+pub bad-same : (w q : ℕ) (xs ys : List Task) (n : ℕ) → ((i : ℕ) → i < n → at xs i ≡ at ys i) → firstBad w q xs n ≡ firstBad w q ys n
 unfolding firstBad
-bad-same w xs ys n same =
-    first-cong (λ i. not (isGood w (at xs i))) (λ i. not (isGood w (at ys i))) n (λ i l. ap (λ (t : Task). not (isGood w t)) (same i l))
+bad-same w q xs ys n same =
+    first-cong (λ i. not (isGood w q (at xs i))) (λ i. not (isGood w q (at ys i))) n
+    (λ i l. ap (λ (t : Task). not (isGood w q t)) (same i l))

@@ -1,4 +1,4 @@
--- What document 01 says of the shares, the saturation step and the periods of a good task.
+-- What document 01 says of the shares, the saturation step and the periods of a good task, and Ask 5 of its periods on notches.
 -- Assumes nothing.
 use Prim.Native.Nat.{ℕ, _*_, _≤_, _<_}
 use mathlib.Core.Path.{_≡_}
@@ -6,10 +6,10 @@ use native.Mathlib.Omega.{arith}
 use Rattle.ground.proofs.Rounding.{ceil-enough}
 use Rattle.kinds.specs.declared.Task.{Task}
 use Rattle.kinds.specs.Limits.{scale}
-use Rattle.kinds.specs.Task.{Good}
-use Rattle.rule.specs.Rule.{Shortest}
+use Rattle.kinds.specs.Task.{Good, OnNotch}
+use Rattle.rule.specs.Rule.{periodOf, Shortest, ShortestOn}
 use Rattle.rule.proofs.Shares.{part-high, part-low, part-falls, share-falls, share-least, share-zero, share-rigid, share-high, share-saturated, share-above, saturation-high}
-use Rattle.rule.proofs.Periods.{period-shortest}
+use Rattle.rule.proofs.Periods.{period-shortest, notched-shortest, notched-one}
 use Rattle.share.specs.Share.{costOf, largestOf, leastOf, shareAt, saturationAt, periodAt}
 use Rattle.share.specs.Handover.{ShareIs}
 
@@ -66,17 +66,27 @@ module _ (t : Task) (g : Good t) where
       omega (arith, saturation-high (largestOf t) (leastOf t) (t .e), largest-most, least-some)
 
   -- document 01: "the smallest whole T from Tmin to Tmax with C × S ≤ share × T. One always exists."
-  pub shortest : (k : ℕ) → Shortest (costOf t) (t .tmin) (t .tmax) (shareAt t k) (periodAt t k)
-  unfolding periodAt
+  pub shortest : (k : ℕ) → Shortest (costOf t) (t .tmin) (t .tmax) (shareAt t k) (periodOf (costOf t) (t .tmin) (shareAt t k))
   shortest k =
       period-shortest (costOf t) (t .tmin) (t .tmax) (shareAt t k) (omega arith) (g .tmin-tmax) (share-some k) (at-least t k)
 
-  -- document 01: "At step 0 it is Tmin."
-  pub shortest-at-zero : periodAt t 0 ≡ t .tmin
-  shortest-at-zero =
-      let s = shortest 0 in
-      let e : costOf t * scale ≤ shareAt t 0 * t .tmin = rw at-zero (ceil-enough (costOf t * scale) (t .tmin) (omega arith)) in
-      omega (arith, s .low, s .only (t .tmin) (omega arith) e)
+  -- with notches of one tick the period is document 01's
+  pub shortest-of-one : (k : ℕ) → Shortest (costOf t) (t .tmin) (t .tmax) (shareAt t k) (periodAt 1 t k)
+  unfolding periodAt
+  shortest-of-one k = rw (notched-one (periodOf (costOf t) (t .tmin) (shareAt t k))) (shortest k)
+
+  module _ (q : ℕ) (on : OnNotch q t) where
+    -- Ask 5: "the smallest multiple of q from Tmin to Tmax with (C + 2w) × S ≤ share × T"; one always exists
+    pub shortest-on : (k : ℕ) → ShortestOn q (costOf t) (t .tmin) (t .tmax) (shareAt t k) (periodAt q t k)
+    unfolding periodAt
+    shortest-on k = notched-shortest q (on .some) (costOf t) (t .tmin) (t .tmax) (shareAt t k) _ (on .tmax-on) (shortest k)
+
+    -- document 01: "At step 0 it is Tmin."
+    pub shortest-at-zero : periodAt q t 0 ≡ t .tmin
+    shortest-at-zero =
+        let s = shortest-on 0 in
+        let e : costOf t * scale ≤ shareAt t 0 * t .tmin = rw at-zero (ceil-enough (costOf t * scale) (t .tmin) (omega arith)) in
+        omega (arith, s .low, s .only (t .tmin) (on .tmin-on) (omega arith) e)
 
   -- what the functions hand back
   pub largest-is : (r : ℕ) → r ≡ largestOf t → ShareIs (largestOf t) r

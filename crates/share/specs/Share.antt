@@ -2,7 +2,7 @@
 -- Assumes nothing.
 use Prim.Native.Nat.{ℕ}
 use Rattle.kinds.specs.declared.Task.{Task}
-use Rattle.rule.specs.Rule.{partOf, shareOf, saturationOf, periodOf}
+use Rattle.rule.specs.Rule.{partOf, shareOf, saturationOf, periodOf, notchedUp}
 
 -- the whole cost of a job, of a record whose swaps are paid for
 abbrev pub costOf : Task → ℕ
@@ -20,5 +20,6 @@ shareAt t k = shareOf (largestOf t) (leastOf t) (t .e) k
 unfoldable pub saturationAt : Task → ℕ
 saturationAt t = saturationOf (largestOf t) (leastOf t) (t .e)
 
-unfoldable pub periodAt : Task → ℕ → ℕ
-periodAt t k = periodOf (costOf t) (t .tmin) (shareAt t k)
+-- document 01's period, moved on to the next notch of q
+unfoldable pub periodAt : ℕ → Task → ℕ → ℕ
+periodAt q t k = notchedUp q (periodOf (costOf t) (t .tmin) (shareAt t k))

@@ -17,13 +17,13 @@ shares rows k i = shareAt (at rows i) k
 unfoldable pub fullCompression : List Task → ℕ → ℕ
 fullCompression rows n = maxTo (λ i. saturationAt (at rows i)) n
 
--- the first record that is not good where a swap costs w; n where each is
-unfoldable pub firstBad : ℕ → List Task → ℕ → ℕ
-firstBad w rows n = firstBelow (λ i. not (isGood w (at rows i))) n
+-- the first record that is not good where a swap costs w and a notch is q; n where each is
+unfoldable pub firstBad : ℕ → ℕ → List Task → ℕ → ℕ
+firstBad w q rows n = firstBelow (λ i. not (isGood w q (at rows i))) n
 
--- the periods at step k
-unfoldable pub periodsAt : List Task → ℕ → ℕ → List ℕ
-periodsAt rows n k = listTo (λ i. periodAt (at rows i) k) n
+-- the periods at step k, on notches of q
+unfoldable pub periodsAt : ℕ → List Task → ℕ → ℕ → List ℕ
+periodsAt q rows n k = listTo (λ i. periodAt q (at rows i) k) n
 
 -- the first n records with their swaps paid for: the rules of document 01 are asked of these
 unfoldable pub pricedRows : ℕ → List Task → ℕ → List Task

@@ -12,10 +12,10 @@ use Rattle.ground.proofs.Buffer.{list-cong}
 use Rattle.ground.proofs.Cases.{by-eq, by-bool, true-false}
 use Rattle.kinds.specs.declared.Task.{Task}
 use Rattle.kinds.specs.Limits.{scale, longestPeriod, mostTasks}
-use Rattle.kinds.specs.Task.{at, priced, Good, isGood}
+use Rattle.kinds.specs.Task.{at, priced, Good, OnNotch, isGood}
 use Rattle.kinds.proofs.Records.{good-is}
-use Rattle.rule.specs.Rule.{periodOf}
-use Rattle.rule.proofs.Periods.{period-shortest}
+use Rattle.rule.specs.Rule.{periodOf, notchedUp}
+use Rattle.rule.proofs.Periods.{period-shortest, notched-least}
 use Rattle.share.specs.Share.{costOf, leastOf, shareAt, saturationAt, periodAt}
 use Rattle.share.specs.Table.{periodsAt}
 use Rattle.share.proofs.Tasks.{at-least, least-some, largest-most, least-largest}
@@ -47,8 +47,8 @@ sprung-front rows r n s h w =
     }
 
 -- a record whose test was not failed is good once its swaps are paid for
-pub found-good : (w : ℕ) (t : Task) (b : Bool) → b ≡ isGood w t → not b ≡ false → Good (priced w t)
-found-good w t b e f = good-is w t (by-bool (isGood w t) (λ g. g) (λ g. true-false (rw (e, g)) f))
+pub found-good : (w q : ℕ) (t : Task) (b : Bool) → b ≡ isGood w q t → not b ≡ false → Good (priced w t)
+found-good w q t b e f = good-is w q t (by-bool (isGood w q t) (λ g. g) (λ g. true-false (rw (e, g)) f))
 
 -- a task's share and saturation step are its spring's
 pub share-on : (t : Task) (k : ℕ) → shareOn (springOf t) k ≡ shareAt t k
@@ -154,26 +154,27 @@ held-most rows n k shares good held i l = omega (arith, held i l, tasks.share-mo
 
 -- the periods of a step from columns
 module _ (rows : List Task) (n k : ℕ) (cost tmin shares : List ℕ) (h : Held rows n k cost tmin shares) where
-  pub held-periods : listTo (periodIn cost tmin shares) n ≡ periodsAt rows n k
+  pub held-periods : (q : ℕ) → listTo (periodIn q cost tmin shares) n ≡ periodsAt q rows n k
   unfolding periodsAt periodAt
-  held-periods =
-      list-cong (periodIn cost tmin shares) (λ i. periodAt (at rows i) k) n
+  held-periods q =
+      list-cong (periodIn q cost tmin shares) (λ i. periodAt q (at rows i) k) n
       (λ i l. rw (h .costs i l, h .tmins i l, h .shares-are i l))
 
-  module _ (good : (i : ℕ) → i < n → Good (at rows i)) where
+  module _ (q : ℕ) (some : 1 ≤ q) (good : (i : ℕ) → i < n → Good (at rows i)) (on : (i : ℕ) → i < n → OnNotch q (at rows i)) where
     least-held : (i : ℕ) → i < n → leastOf (at rows i) ≤ getD shares i 0
     least-held i l = omega (arith, h .shares-are i l, at-least (at rows i) k)
 
     some-held : (i : ℕ) → i < n → 1 ≤ getD shares i 0
     some-held i l = omega (arith, least-held i l, least-some (at rows i) (good i l))
 
-    period-high : (i : ℕ) → i < n → periodOf (costOf (at rows i)) (at rows i .tmin) (getD shares i 0) ≤ longestPeriod
+    period-high : (i : ℕ) → i < n → notchedUp q (periodOf (costOf (at rows i)) (at rows i .tmin) (getD shares i 0)) ≤ longestPeriod
     period-high i l =
         let t = at rows i in
         let g = good i l in
         let short = period-shortest (costOf t) (t .tmin) (t .tmax) (getD shares i 0)
         (omega (arith, g .c-some, g .c-tmin, g .tmin-tmax)) (g .tmin-tmax) (some-held i l) (least-held i l) in
-        omega (arith, short .high, g .tmax-most)
+        let period = periodOf (costOf t) (t .tmin) (getD shares i 0) in
+        omega (arith, notched-least q some period (t .tmax) (on i l .tmax-on) (short .high), g .tmax-most)
 
-    pub held-allowed : Allowed cost tmin shares n
-    held-allowed = record { some = some-held; most = λ i l. rw (h .costs i l, h .tmins i l) (period-high i l) }
+    pub held-allowed : Allowed q cost tmin shares n
+    held-allowed = record { notch = some; some = some-held; most = λ i l. rw (h .costs i l, h .tmins i l) (period-high i l) }

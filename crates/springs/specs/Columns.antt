@@ -3,7 +3,7 @@
 use Prim.Native.Nat.{ℕ}
 use mathlib.Core.List.{List}
 use lib.ListN.{getD}
-use Rattle.rule.specs.Rule.{periodOf}
+use Rattle.rule.specs.Rule.{periodOf, notchedUp}
 use Rattle.springs.specs.declared.Spring.{Spring}
 use Rattle.springs.specs.Spring.{spring}
 
@@ -26,6 +26,7 @@ springIn largest least elasticity i = spring (getD largest i 0) (getD least i 0)
 abbrev pub springsIn : Columns → ℕ → Spring
 springsIn s = springIn (s .largest) (s .least) (s .elasticity)
 
--- the period that the share number i of a column allows the task of that number, whose cost and shortest period two columns hold
-abbrev pub periodIn : List ℕ → List ℕ → List ℕ → ℕ → ℕ
-periodIn cost tmin shares i = periodOf (getD cost i 0) (getD tmin i 0) (getD shares i 0)
+-- the period, on notches of q, that the share number i of a column allows the task of that number, whose cost and shortest period two
+-- columns hold
+abbrev pub periodIn : ℕ → List ℕ → List ℕ → List ℕ → ℕ → ℕ
+periodIn q cost tmin shares i = notchedUp q (periodOf (getD cost i 0) (getD tmin i 0) (getD shares i 0))

@@ -47,10 +47,11 @@ pub record Held (rows : List Task) (n k : ℕ) (cost tmin shares : List ℕ) : T
   pub tmins : (i : ℕ) → i < n → getD tmin i 0 ≡ at rows i .tmin
   pub shares-are : SharesOf rows n k shares
 
--- each of the first n has a share, and a period within the limit
-pub record Allowed (cost tmin shares : List ℕ) (n : ℕ) : Type 0 where
+-- there is a notch, and each of the first n has a share, and a period on a notch within the limit
+pub record Allowed (q : ℕ) (cost tmin shares : List ℕ) (n : ℕ) : Type 0 where
+  pub notch : 1 ≤ q
   pub some : (i : ℕ) → i < n → 1 ≤ getD shares i 0
-  pub most : (i : ℕ) → i < n → periodIn cost tmin shares i ≤ longestPeriod
+  pub most : (i : ℕ) → i < n → periodIn q cost tmin shares i ≤ longestPeriod
 
 -- each column has room for the most tasks
 pub record Roomy (s : Columns) : Type 0 where
@@ -70,6 +71,6 @@ pub record Sprung (rows : List Task) (n : ℕ) (s : Columns) : Type 0 where
   pub tmins : (i : ℕ) → i < n → getD (s .tmin) i 0 ≡ at rows i .tmin
 
 -- those before the first record that is not good, which is number r; it is n where all are
-pub record SprungUntil (w : ℕ) (rows : List Task) (n r : ℕ) (s : Columns) : Type 0 where
-  pub first : r ≡ firstBad w rows n
+pub record SprungUntil (w q : ℕ) (rows : List Task) (n r : ℕ) (s : Columns) : Type 0 where
+  pub first : r ≡ firstBad w q rows n
   pub sprung : Sprung (pricedRows w rows n) r s

@@ -9,7 +9,7 @@ ghost use lib.ListN.{length, getD};
 ghost use Rattle.ground.specs.Folds.{maxTo};
 ghost use Rattle.kinds.specs.Limits.{scale, greatestElasticity, longestPeriod, mostTasks};
 ghost use Rattle.kinds.specs.Task.{Good};
-ghost use Rattle.rule.specs.Rule.{shareOf, periodOf};
+ghost use Rattle.rule.specs.Rule.{shareOf, periodOf, notchedUp};
 ghost use Rattle.springs.specs.Spring.{springOf, saturationOn};
 ghost use Rattle.springs.specs.Handover.{Within, AllWithin, SumIs, Roomy, SprungUntil, SharesAre};
 ghost use Rattle.springs.specs.Columns.{columns, springIn};
@@ -46,10 +46,12 @@ pub fn saturation_on(spring: Spring) -> u32
 }
 
 // The springs of a table, their saturation steps, the costs and the shortest periods, worked out once for a call into six lent columns, up
-// to the first record that is not good where a swap costs so much. Returns the number of that record, or how many there are.
+// to the first record that is not good where a swap costs so much and a notch is so wide. Returns the number of that record, or how many
+// there are.
 pub fn springs_of(
     table: Table,
     swap: u16,
+    notch: u16,
     largest: &mut [u32; Table::MOST_TASKS],
     least: &mut [u32; Table::MOST_TASKS],
     elasticity: &mut [u32; Table::MOST_TASKS],
@@ -57,16 +59,16 @@ pub fn springs_of(
     cost: &mut [u32; Table::MOST_TASKS],
     tmin: &mut [u32; Table::MOST_TASKS],
 ) -> usize
-    requires { ⌜ (table .n ≤ mostTasks)
+    requires { ⌜ (table .n ≤ mostTasks) × (1 ≤ notch)
         × Roomy (columns (now largest) (now least) (now elasticity) (now saturation) (now cost) (now tmin)) ⌝ }
-    ensures { λ r. ⌜ SprungUntil swap (table .rows) (table .n) r
+    ensures { λ r. ⌜ SprungUntil swap notch (table .rows) (table .n) r
         (columns (now (largest .exit)) (now (least .exit)) (now (elasticity .exit)) (now (saturation .exit))
         (now (cost .exit)) (now (tmin .exit))) ⌝ }
 {
     let n = table.n;
     for i in 0..n {
         let task = table.rows[i];
-        if !task.good(swap) {
+        if !task.good(swap, notch) {
             return i;
         }
         let priced = task.priced(swap);
@@ -143,12 +145,13 @@ pub fn shares_at(
     }
 }
 
-// The period that a share allows a task with this cost and this shortest period.
-pub fn period_on(cost: u32, tmin: u32, share: u32) -> u32
-    requires { ⌜ (1 ≤ share) × (periodOf cost tmin share ≤ longestPeriod) ⌝ }
-    ensures { λ r. ⌜ r ≡ periodOf cost tmin share ⌝ }
+// The period that a share allows a task with this cost and this shortest period, on a notch.
+pub fn period_on(notch: u16, cost: u32, tmin: u32, share: u32) -> u32
+    requires { ⌜ (1 ≤ notch) × (1 ≤ share) × (notchedUp notch (periodOf cost tmin share) ≤ longestPeriod) ⌝ }
+    ensures { λ r. ⌜ r ≡ notchedUp notch (periodOf cost tmin share) ⌝ }
 {
-    rule::period(ground::widened(cost), tmin, ground::widened(share)) as u32
+    let period = rule::period(ground::widened(cost), tmin, ground::widened(share));
+    rule::notched_up(notch, period) as u32
 }
 
 // Document 01: "Full compression K: the greatest saturation step, 0 if there is none."

@@ -18,7 +18,7 @@ use Rattle.told.specs.declared.Told.{Told}
 use Rattle.told.specs.declared.ToldMargin.{ToldMargin}
 
 abbrev pub settingsOf : Station → Settings
-settingsOf s = settings (policyOf (s .policy)) (s .m) (s .w)
+settingsOf s = settings (policyOf (s .policy)) (s .m) (s .w) (s .q)
 
 abbrev pub toldHanded : Told → Handed ℕ
 toldHanded r = record { number = r .number; place = r .place; value = r .step }

@@ -22,6 +22,7 @@ pub struct Station {
     pub policy: u16,
     pub m: u16,
     pub w: u16,
+    pub q: u16,
 }
 
 // Number, step, looks and place. A refusal's step is 0; the plain finder makes no looks.
@@ -45,7 +46,7 @@ pub struct ToldMargin {
 pub fn settings_of(station: Station) -> Settings
     ensures { λ r. ⌜ r ≡ settingsOf station ⌝ }
 {
-    Settings::new(Policy::of(station.policy), station.m, station.w)
+    Settings::new(Policy::of(station.policy), station.m, station.w, station.q)
 }
 
 // An answer in numbers, with its looks.

@@ -25,7 +25,7 @@ abbrev pub numbersOf : Sheet → StationSheet
 numbersOf x =
     record {
       count = x .count;
-      station = record { policy = policyNumber (x .settings .policy); m = x .settings .m; w = x .settings .swap };
+      station = record { policy = policyNumber (x .settings .policy); m = x .settings .m; w = x .settings .swap; q = x .settings .notch };
       table = x .table;
       results = x .results;
     }

@@ -86,6 +86,7 @@ fn numbers_of(sheet: Sheet) -> StationSheet
         policy: policy.number(),
         m: settings.m,
         w: settings.swap,
+        q: settings.notch,
     };
     StationSheet {
         count: sheet.count,

@@ -12,7 +12,7 @@ use Rattle.writer.specs.Encode.{taskBytes, grantedBytes, rowsBytes, sett
 whole-case : encode
     (record {
       count = 2;
-      settings = record { policy = Pooled; m = 1; swap = 0 };
+      settings = record { policy = Pooled; m = 1; swap = 0; notch = 1 };
       table = record { rows = task 6 10 20 1000 ∷ []; n = 1 };
       results = record { rows = granted 10 0 ∷ []; n = 1 };
     })
@@ -22,13 +22,17 @@ unfolding encode settingsBytes rowsBytes taskBytes grantedBytes bytesOf
 whole-case = refl
 
 -- Ask 2: the writer "leaves out numbers past" the settings count
-swap : Settings
-swap = record { policy = Pooled; m = 1; swap = 7 }
+four : Settings
+four = record { policy = Pooled; m = 1; swap = 7; notch = 5 }
 
-two-of-three : settingsBytes 2 swap ≡ 2 ∷ 0 ∷ 1 ∷ 0 ∷ 1 ∷ 0 ∷ []
-unfolding swap settingsBytes rowsBytes bytesOf
-two-of-three = refl
+two-of-four : settingsBytes 2 four ≡ 2 ∷ 0 ∷ 1 ∷ 0 ∷ 1 ∷ 0 ∷ []
+unfolding four settingsBytes rowsBytes bytesOf
+two-of-four = refl
 
-all-three : settingsBytes 3 swap ≡ 3 ∷ 0 ∷ 1 ∷ 0 ∷ 1 ∷ 0 ∷ 7 ∷ 0 ∷ []
-unfolding swap settingsBytes rowsBytes bytesOf
-all-three = refl
+three-of-four : settingsBytes 3 four ≡ 3 ∷ 0 ∷ 1 ∷ 0 ∷ 1 ∷ 0 ∷ 7 ∷ 0 ∷ []
+unfolding four settingsBytes rowsBytes bytesOf
+three-of-four = refl
+
+all-four : settingsBytes 4 four ≡ 4 ∷ 0 ∷ 1 ∷ 0 ∷ 1 ∷ 0 ∷ 7 ∷ 0 ∷ 5 ∷ 0 ∷ []
+unfolding four settingsBytes rowsBytes bytesOf
+all-four = refl

@@ -78,7 +78,7 @@ fn put_rows(bytes: &mut Vec<u8>, rows: &[Record]) {
 }
 
 fn put_sheet(bytes: &mut Vec<u8>, sheet: &Sheet) {
-    for number in [sheet.policy.number(), sheet.m, sheet.settings_count, sheet.w] {
+    for number in [sheet.policy.number(), sheet.m, sheet.settings_count, sheet.w, sheet.q] {
         bytes.extend(number.to_le_bytes());
     }
     for count in [sheet.task_count, sheet.result_count] {

@@ -18,6 +18,7 @@ pub struct Settings {
     /// The settings count, at which only the writer looks; a sheet in bytes has as many of the numbers.
     pub count: u16,
     pub w: u16,
+    pub q: u16,
 }
 
 /// Settings and a table; of more than 32 tasks the stream has 32 rows.
@@ -102,12 +103,17 @@ pub fn present(count: u16) -> usize {
 impl Settings {
     /// Two settings.
     pub const fn new(number: u16, m: u16) -> Settings {
-        Settings { number, further: false, m, count: 2, w: 0 }
+        Settings { number, further: false, m, count: 2, w: 0, q: 1 }
     }
 
-    /// Three settings.
+    /// Three settings, or four where there are four.
     pub fn with_swaps(self, w: u16) -> Settings {
-        Settings { count: 3, w, ..self }
+        Settings { count: self.count.max(3), w, ..self }
+    }
+
+    /// Four settings.
+    pub fn with_notches(self, q: u16) -> Settings {
+        Settings { count: 4, q, ..self }
     }
 
     pub fn policy(self) -> Policy {
@@ -121,7 +127,7 @@ impl Settings {
     fn put(self, bytes: &mut Vec<u8>) {
         bytes.extend(self.number.to_le_bytes());
         bytes.push(u8::from(self.further));
-        for number in [self.m, self.count, self.w] {
+        for number in [self.m, self.count, self.w, self.q] {
             bytes.extend(number.to_le_bytes());
         }
     }
@@ -133,18 +139,25 @@ impl Table {
         Table { settings: Settings::new(number, m), count: rows.len() as u16, rows: rows.to_vec() }
     }
 
-    /// The same table with three settings.
+    /// The same table with three settings, or four where it has four.
     pub fn with_swaps(mut self, w: u16) -> Table {
         self.settings = self.settings.with_swaps(w);
         self
     }
 
-    /// Ask 2's finders use w whatever the settings count says.
+    /// The same table with four settings.
+    pub fn with_notches(mut self, q: u16) -> Table {
+        self.settings = self.settings.with_notches(q);
+        self
+    }
+
+    /// The finders use w and q whatever the settings count says.
     pub fn question(&self) -> Question {
         Question {
             policy: self.settings.policy(),
             m: self.settings.m,
             w: self.settings.w,
+            q: self.settings.q,
             count: usize::from(self.count),
             rows: self.rows.clone(),
         }
@@ -182,6 +195,7 @@ impl Writing {
         sheet.policy = self.settings.policy();
         sheet.m = self.settings.m;
         sheet.w = self.settings.w;
+        sheet.q = self.settings.q;
         sheet.task_count = self.task_count;
         sheet.result_count = self.result_count;
         sheet.rows[..self.rows.len()].copy_from_slice(&self.rows);

@@ -6,6 +6,7 @@ mod clock_runs;
 mod edges_of_checked;
 pub mod edges_of_clock;
 mod edges_of_finders;
+mod edges_of_notches;
 pub mod edges_of_office;
 mod edges_of_sheets;
 mod edges_of_swaps;
@@ -29,6 +30,7 @@ impl Calls {
         let mut fixed = bench::calls();
         fixed.extend(edges_of_finders::calls());
         fixed.extend(edges_of_swaps::calls());
+        fixed.extend(edges_of_notches::calls());
         fixed.extend(edges_of_sheets::calls());
         fixed.extend(edges_of_wide::calls());
         fixed.extend(edges_of_checked::calls());

@@ -3,7 +3,7 @@ use mathlib.Core.Path.{refl, sym, _∙_}
 use borrow.Author.Tests.{lt-ltb, le-ltb}
 use Rattle.springs.proofs.Columns.{sprung-front}
 use Rattle.admission.specs.Admission.{admission}
-use Rattle.admission.proofs.Chain.{not-admitted, all-passed}
+use Rattle.admission.proofs.Chain.{not-admitted, all-passed, notch-passed}
 use borrow.Author.Needs.{needs}
 use Rattle.admission.proofs.admit.Statement.{statement}
 use Rattle.admission.proofs.admit.Tie as tie
@@ -32,7 +32,11 @@ springs-of-requires c κs =
     let t = half-lent .before .before .before in
     let g = t .before .before in
     let a = g .before .args in
-    (all-passed (a .serves) (a .settings) (a .table .n) (a .room) (sym (g .gate-of .ensures) ∙ t .enum-told .given .1) .few, g .before .pre)
+    let opens = sym (g .gate-of .ensures) ∙ t .enum-told .given .1 in (
+      all-passed (a .serves) (a .settings) (a .table .n) (a .room) opens .few,
+      notch-passed (a .serves) (a .settings) (a .table .n) (a .room) opens,
+      g .before .pre,
+    )
 
 returns-2 : tie.Need-returns-2
 unfolding admission

@@ -8,10 +8,10 @@ use Rattle.plan.proofs.write_periods.Statement.{statement}
 use Rattle.plan.proofs.write_periods.Tie as tie
 
 abbrev Inv-loop : tie.InvT-loop
-Inv-loop cost tmin shares n out₀ i₀ out i = (i ≤ n) × Front (periodIn cost tmin shares) out₀ out i
+Inv-loop notch cost tmin shares n out₀ i₀ out i = (i ≤ n) × Front (periodIn notch cost tmin shares) out₀ out i
 
 abbrev μ-loop : tie.MeasureT-loop
-μ-loop cost tmin shares n out₀ i₀ out i = n - i
+μ-loop notch cost tmin shares n out₀ i₀ out i = n - i
 
 loop-holds : tie.Need-loop-holds Inv-loop μ-loop
 loop-holds c = (omega arith, front-none _ _)
@@ -38,7 +38,7 @@ period-on-requires : tie.Need-period-on-requires Inv-loop μ-loop
 period-on-requires c κs =
     let t = c .before .before .before in
     let allowed = t .before .before .before .pre .2 in
-    (allowed .some _ (t .loop-test .taken), allowed .most _ (t .loop-test .taken))
+    (allowed .notch, allowed .some _ (t .loop-test .taken), allowed .most _ (t .loop-test .taken))
 
 mul-out : tie.Need-mul-out Inv-loop μ-loop
 mul-out c = omega arith
@@ -57,7 +57,8 @@ loop-again c =
     let t = c .before .before .before .before in
     let l = t .before in
     let a = l .before .before .args in
-    (omega arith, front-more (periodIn (a .cost .now) (a .tmin .now) (a .shares .now)) _ _ _ _ (omega arith) (c .period-on .ensures) (l .loop .inv .1))
+    let period = periodIn (a .notch) (a .cost .now) (a .tmin .now) (a .shares .now) in
+    (omega arith, front-more period _ _ _ _ (omega arith) (c .period-on .ensures) (l .loop .inv .1))
 
 same-length : tie.Need-same-length Inv-loop μ-loop
 same-length c = c .before .loop .inv .1 .long

@@ -16,15 +16,15 @@ use Rattle.springs.proofs.springs_of.Statement.{statement}
 use Rattle.springs.proofs.springs_of.Tie as tie
 
 abbrev Inv-loop : tie.InvT-loop
-Inv-loop swap largest₀ least₀ elasticity₀ saturation₀ cost₀ tmin₀ table n i₀ largest least elasticity saturation cost tmin i =
-    (i ≤ n) × ((j : ℕ) → j < i → not (isGood swap (at (table .rows) j)) ≡ false)
+Inv-loop swap notch largest₀ least₀ elasticity₀ saturation₀ cost₀ tmin₀ table n i₀ largest least elasticity saturation cost tmin i =
+    (i ≤ n) × ((j : ℕ) → j < i → not (isGood swap notch (at (table .rows) j)) ≡ false)
     × Sprung (pricedRows swap (table .rows) (table .n)) i (columns largest least elasticity saturation cost tmin)
 
 abbrev μ-loop : tie.MeasureT-loop
-μ-loop swap largest₀ least₀ elasticity₀ saturation₀ cost₀ tmin₀ table n i₀ largest least elasticity saturation cost tmin i = n - i
+μ-loop swap notch largest₀ least₀ elasticity₀ saturation₀ cost₀ tmin₀ table n i₀ largest least elasticity saturation cost tmin i = n - i
 
 loop-holds : tie.Need-loop-holds Inv-loop μ-loop
-loop-holds c = (omega arith, λ j l. absurd (omega arith), sprung-none _ _ (c .pre .1))
+loop-holds c = (omega arith, λ j l. absurd (omega arith), sprung-none _ _ (c .pre .2))
 
 mul-task : tie.Need-mul-task Inv-loop μ-loop
 mul-task c = omega arith
@@ -33,7 +33,7 @@ element-copy-out-task : tie.Need-element-copy-out-task Inv-loop μ-loop
 element-copy-out-task c = omega arith
 
 good-requires : tie.Need-good-requires Inv-loop μ-loop
-good-requires c κs = tt
+good-requires c κs = c .before .before .before .pre .1
 
 returns : tie.Need-returns Inv-loop μ-loop
 unfolding firstBad
@@ -43,14 +43,14 @@ returns c =
     let a = l .before .args in
     let rows = a .t1 .rows in
     record {
-      first = bad-here (λ j. isGood (a .swap) (at rows j)) _ _ (l .loop .inv .1) (t .loop-test .taken) _ (c .before .good2 .ensures) (c .if1 .taken);
+      first = bad-here (λ j. isGood (a .swap) (a .notch) (at rows j)) _ _ (l .loop .inv .1) (t .loop-test .taken) _ (c .before .good2 .ensures) (c .if1 .taken);
       sprung = l .loop .inv .2;
     }
 
 -- a record that was not found bad is good once its swaps are paid for
 good-priced : (c : tie.Else1 Inv-loop μ-loop) → let g = c .before in let l = g .before .before .before in let a = l .before .args in
     Good (priced (a .swap) (at (a .t1 .rows) (l .loop .i)))
-good-priced c = found-good _ _ _ (c .before .good2 .ensures) (c .if1 .left)
+good-priced c = found-good _ _ _ _ (c .before .good2 .ensures) (c .if1 .left)
 
 priced-requires : tie.Need-priced-requires Inv-loop μ-loop
 priced-requires c κs = let g = good-priced c in omega (arith, g .c-tmin, g .tmin-tmax, g .tmax-most)
@@ -117,7 +117,7 @@ loop-again c =
     let e : p .priced .result ≡ at (pricedRows (a .swap) (t .rows) (t .n)) (l .loop .i) =
     p .priced .ensures ∙ sym (priced-at (a .swap) (t .rows) (t .n) (l .loop .i) (omega arith)) in (
       omega arith,
-      bad-more (λ j. isGood (a .swap) (at (t .rows) j)) (t .n) _ (l .loop .inv .1) _ (g .good2 .ensures) (i .if1 .left),
+      bad-more (λ j. isGood (a .swap) (a .notch) (at (t .rows) j)) (t .n) _ (l .loop .inv .1) _ (g .good2 .ensures) (i .if1 .left),
       sprung-more _ _ _ _ _ _ _ (l .loop .inv .2) (omega arith) (f .spring-of .ensures ∙ ap springOf e) (c .saturation-on .ensures)
           (ap (λ (x : Task). x .c) e) (ap (λ (x : Task). x .tmin) e),
     )
@@ -128,7 +128,7 @@ returns-2 c =
     let a = c .before .before .args in
     let t = a .t1 in
     let e : c .before .loop .i ≡ t .n = omega arith in
-    record { first = bad-none (λ j. isGood (a .swap) (at (t .rows) j)) _ _ (c .before .loop .inv .1) e; sprung = rw e at (c .before .loop .inv .2) }
+    record { first = bad-none (λ j. isGood (a .swap) (a .notch) (at (t .rows) j)) _ _ (c .before .loop .inv .1) e; sprung = rw e at (c .before .loop .inv .2) }
 
 pub springs-of-spec : {M : Type 1} → statement M
 springs-of-spec =

@@ -9,6 +9,7 @@ pub struct Question {
     pub policy: Policy,
     pub m: u16,
     pub w: u16,
+    pub q: u16,
     pub count: usize,
     pub rows: Vec<Record>,
 }
@@ -42,6 +43,10 @@ pub fn admit(question: &Question, serves: Serves, rooms: &[usize]) -> Result<(),
     if question.m == 0 || question.m > most {
         return refuse(2, 0);
     }
+    // Ask 5: "q = 0 is refused by 2"
+    if question.q == 0 {
+        return refuse(2, 0);
+    }
     if question.count > MOST_TASKS {
         return refuse(3, question.count);
     }
@@ -51,7 +56,7 @@ pub fn admit(question: &Question, serves: Serves, rooms: &[usize]) -> Result<(),
     if rooms.iter().any(|room| *room < question.count) {
         return refuse(5, question.count);
     }
-    match question.rows.iter().position(|row| !row.is_good(question.w)) {
+    match question.rows.iter().position(|row| !row.is_good(question.w, question.q)) {
         Some(first) => refuse(6, first),
         None => Ok(()),
     }

@@ -27,7 +27,7 @@ pub fn least_passing_step(question: &Question) -> Option<u32> {
 fn write_plan(question: &Question, step: u32, periods: &mut [u32], processors: &mut [u16]) {
     let shares = shares_at(&question.springs(), step);
     for (index, row) in question.rows.iter().enumerate() {
-        periods[index] = period_with_share(*row, question.w, shares[index]);
+        periods[index] = period_with_share(*row, question.w, question.q, shares[index]);
     }
     let placed = match question.policy.meaning() {
         Policy::FirstFit => first_fit(question.m, &shares).expect("the step passes"),

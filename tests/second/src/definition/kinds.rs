@@ -33,14 +33,22 @@ impl Record {
         u64::from(self.c) + 2 * u64::from(w)
     }
 
-    /// "good when 1 ≤ C ≤ Tmin ≤ Tmax ≤ 1,000,000,000 and 0 ≤ E ≤ 1,000,000", where Ask 2 reads C + 2w in "C ≤ Tmin" alone
-    pub fn is_good(self, w: u16) -> bool {
+    /// "good when 1 ≤ C ≤ Tmin ≤ Tmax ≤ 1,000,000,000 and 0 ≤ E ≤ 1,000,000", where Ask 2 reads C + 2w in "C ≤ Tmin" alone;
+    /// Ask 5: "Tmin and Tmax must be multiples of q"
+    pub fn is_good(self, w: u16, q: u16) -> bool {
         1 <= self.c
             && self.cost(w) <= u64::from(self.tmin)
             && self.tmin <= self.tmax
             && self.tmax <= Record::GREATEST_PERIOD
             && self.e <= Record::GREATEST_ELASTICITY
+            && is_multiple(self.tmin, q)
+            && is_multiple(self.tmax, q)
     }
+}
+
+/// Whether a period is a whole number of notches; of none it is not.
+pub fn is_multiple(period: u32, q: u16) -> bool {
+    q != 0 && period % u32::from(q) == 0
 }
 
 /// "The policy travels inside the station settings as a choice of its own."
@@ -109,6 +117,8 @@ pub struct Sheet {
     pub m: u16,
     /// Ask 2: "a third number, the swap cost w"
     pub w: u16,
+    /// Ask 5: "a fourth number q, from 1 to 65,535"
+    pub q: u16,
     pub task_count: u16,
     pub result_count: u16,
     pub rows: [Record; MOST_TASKS],
@@ -116,19 +126,20 @@ pub struct Sheet {
 }
 
 impl Sheet {
-    /// Ask 2: 9 "now means neither 2 nor 3"
-    pub const SETTINGS_COUNTS: [u16; 2] = [2, 3];
+    /// Ask 5: "Settings counts 2 to 4 are read", and 9 "says so"
+    pub const SETTINGS_COUNTS: [u16; 3] = [2, 3, 4];
 
-    /// "at most 714"; since Ask 2 "the greatest length follows", that of three settings.
-    pub const MOST_BYTES: usize = Sheet::bytes_needed(3, MOST_TASKS, MOST_TASKS);
+    /// "at most 714"; since Ask 2 "the greatest length follows", with Ask 5 that of four settings.
+    pub const MOST_BYTES: usize = Sheet::bytes_needed(4, MOST_TASKS, MOST_TASKS);
 
-    /// "a sheet of zeros (policy: the further choice 0)"
+    /// "a sheet of zeros (policy: the further choice 0)", q = 0 too, though a missing q is 1
     pub fn zeros() -> Sheet {
         Sheet {
             settings_count: 0,
             policy: Policy::Further(0),
             m: 0,
             w: 0,
+            q: 0,
             task_count: 0,
             result_count: 0,
             rows: [Record::default(); MOST_TASKS],

@@ -41,7 +41,7 @@ impl Reader<'_> {
         Ok(Granted { period: self.four_bytes()?, processor: self.two_bytes()? })
     }
 
-    /// "settings (count 2: policy, m, 2 bytes each)"; Ask 2: "Sheets with settings count 2 are still read, with w = 0"
+    /// "settings (count 2: policy, m, 2 bytes each)"; Ask 5: "missing numbers filled in as w = 0 and q = 1"
     fn settings(&mut self, sheet: &mut Sheet) -> Result<(), Refusal> {
         sheet.settings_count = self.two_bytes()?;
         if !sheet.counts_its_settings() {
@@ -49,9 +49,8 @@ impl Reader<'_> {
         }
         sheet.policy = Policy::from_number(self.two_bytes()?);
         sheet.m = self.two_bytes()?;
-        if sheet.settings_count == 3 {
-            sheet.w = self.two_bytes()?;
-        }
+        sheet.w = if sheet.settings_count >= 3 { self.two_bytes()? } else { 0 };
+        sheet.q = if sheet.settings_count >= 4 { self.two_bytes()? } else { 1 };
         Ok(())
     }
 

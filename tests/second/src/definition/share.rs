@@ -1,6 +1,7 @@
 //! "Numbers on a task": shares, saturation steps, full compression and periods; "every C … is to be read as C + 2w" (Ask 2).
+//! Shares, saturation steps and full compression do not see the notch q (Ask 5); periods do.
 
-use super::kinds::{Record, SCALE};
+use super::kinds::{is_multiple, Record, SCALE};
 
 /// What the steps of a scan need of one task, worked out once.
 #[derive(Clone, Copy, Debug)]
@@ -49,39 +50,41 @@ pub fn full_compression(springs: &[Spring]) -> u32 {
     springs.iter().filter_map(Spring::saturation_step).max().unwrap_or(0)
 }
 
-/// The property of a period: C × S ≤ share × T.
+/// The property of a period: (C + 2w) × S ≤ share × T.
 fn share_allows(cost: u64, share: u64, period: u32) -> bool {
     u128::from(cost) * u128::from(SCALE) <= u128::from(share) * u128::from(period)
 }
 
-/// "the smallest whole T from Tmin to Tmax with C × S ≤ share × T. One always exists."
-pub fn period_with_share(record: Record, w: u16, share: u64) -> u32 {
+/// "the smallest multiple of q from Tmin to Tmax with (C + 2w) × S ≤ share × T" (Ask 5), of a record that is good. One always exists, since
+/// Tmax is one.
+pub fn period_with_share(record: Record, w: u16, q: u16, share: u64) -> u32 {
     const STEPPED_RANGE: u32 = 100_000;
     if record.tmax - record.tmin <= STEPPED_RANGE {
-        stepped_period(record, w, share)
+        stepped_period(record, w, q, share)
     } else {
-        halved_period(record, w, share)
+        halved_period(record, w, q, share)
     }
 }
 
 /// Tries every T of the range, the smallest first.
-pub fn stepped_period(record: Record, w: u16, share: u64) -> u32 {
+pub fn stepped_period(record: Record, w: u16, q: u16, share: u64) -> u32 {
     (record.tmin..=record.tmax)
-        .find(|period| share_allows(record.cost(w), share, *period))
-        .expect("document 01: one always exists")
+        .find(|period| is_multiple(*period, q) && share_allows(record.cost(w), share, *period))
+        .expect("one always exists")
 }
 
-/// Halves a range whose upper end has the property; the property never ends as T grows.
-pub fn halved_period(record: Record, w: u16, share: u64) -> u32 {
-    assert!(share_allows(record.cost(w), share, record.tmax), "document 01: one always exists");
-    let (mut low, mut high) = (record.tmin, record.tmax);
+/// Halves a range of notches whose upper end has the property; the property never ends as T grows.
+pub fn halved_period(record: Record, w: u16, q: u16, share: u64) -> u32 {
+    assert!(share_allows(record.cost(w), share, record.tmax), "one always exists");
+    let notch = u32::from(q);
+    let (mut low, mut high) = (record.tmin / notch, record.tmax / notch);
     while low < high {
         let middle = low + (high - low) / 2;
-        if share_allows(record.cost(w), share, middle) {
+        if share_allows(record.cost(w), share, middle * notch) {
             high = middle;
         } else {
             low = middle + 1;
         }
     }
-    low
+    low * notch
 }

@@ -1,4 +1,4 @@
-//! "Bench settings to try": the cases A to L, case B under policy 5 and with swaps, asked of every call that can be asked.
+//! "Bench settings to try": the cases A to L, case B under policy 5, with swaps and with notches, asked of every call that can be asked.
 
 use super::sheets::sheet_of;
 use crate::call::{Call, Rooms, Table};
@@ -17,8 +17,8 @@ pub fn case_k_rows() -> Vec<Record> {
     rows
 }
 
-/// The cases A to K by their letters, of which F, G and H are under the policy withdrawn, case B under Ask 1's, and with Ask 2's swap
-/// costs that its tasks can bear.
+/// The cases A to K by their letters, of which F, G and H are under the policy withdrawn, case B under Ask 1's, with Ask 2's swap
+/// costs that its tasks can bear, and with Ask 5's notches.
 pub fn cases() -> Vec<(&'static str, Table)> {
     vec![
         ("A", Table::new(1, 1, &[])),
@@ -35,6 +35,10 @@ pub fn cases() -> Vec<(&'static str, Table)> {
         ("B under 5", Table::new(5, 1, &[HALF_SPRING; 2])),
         ("B, w = 1", Table::new(1, 1, &[HALF_SPRING; 2]).with_swaps(1)),
         ("B, w = 2", Table::new(1, 1, &[HALF_SPRING; 2]).with_swaps(2)),
+        ("B, q = 5", Table::new(1, 1, &[HALF_SPRING; 2]).with_notches(5)),
+        ("B, q = 10", Table::new(1, 1, &[HALF_SPRING; 2]).with_notches(10)),
+        ("B, w = 1, q = 2", Table::new(1, 1, &[HALF_SPRING; 2]).with_swaps(1).with_notches(2)),
+        ("B, w = 1, q = 5", Table::new(1, 1, &[HALF_SPRING; 2]).with_swaps(1).with_notches(5)),
     ]
 }
 

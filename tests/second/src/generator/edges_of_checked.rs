@@ -63,6 +63,10 @@ fn refused_first() -> Vec<Call> {
         Table::new(1, 1, &[Record::new(10, 10, 10, 0), good]),
         Table::new(1, 1, &[good, Record::new(5, 10, 20, 0)]).with_swaps(3),
         Table::new(1, 1, &[Record::new(0, 10, 20, 0), good]).with_swaps(1),
+        Table::new(1, 1, &[good]).with_notches(0),
+        Table::new(3, 1, &[good]).with_notches(0),
+        Table::new(1, 1, &[good, Record::new(6, 10, 21, 0)]).with_notches(5),
+        Table::new(1, 1, &[Record::new(6, 11, 20, 0), good]).with_notches(5),
         Table::new(0, 0, &[]),
     ];
     let mut calls = Vec::new();
@@ -74,13 +78,14 @@ fn refused_first() -> Vec<Call> {
     calls
 }
 
-/// Inputs past the longest sheet of two and of three settings: a full one that agrees, then zeros.
+/// Inputs past the longest sheet of two, three and four settings: a full one that agrees, then zeros.
 fn overlong() -> Vec<Call> {
     let rows: Vec<Record> = (1..=32).map(|c| Record::new(c, 500, 1000, 100 * c)).collect();
     let two = Table::new(2, 3, &rows);
     let mut calls = Vec::new();
-    for whole in [filled(&two), filled(&two.with_swaps(1))] {
-        for more in [0, 1, 2, 3, 84] {
+    let (three, four) = (two.clone().with_swaps(1), two.clone().with_notches(250));
+    for whole in [two, three, four].map(|table| filled(&table)) {
+        for more in [0, 1, 2, 3, 4, 5, 82] {
             calls.push(Call::Check([&whole[..], &vec![0; more][..]].concat()));
         }
     }

@@ -26,15 +26,26 @@ fn two_tasks_with_swaps(w: u16) -> Raw {
     Raw::honest(&table, &made_up_results(2))
 }
 
+/// The same with a swap cost and notches: 58 bytes.
+fn two_tasks_with_notches(q: u16) -> Raw {
+    let table = Table::new(1, 1, &[Record::new(6, 10, 20, 1000); 2]).with_swaps(1).with_notches(q);
+    Raw::honest(&table, &made_up_results(2))
+}
+
 /// The longest sheet of two settings, 714 bytes.
 fn full() -> Raw {
     let rows: Vec<Record> = (1..=32).map(|c| Record::new(c, 500, 1000, 100 * c)).collect();
     Raw::honest(&Table::new(2, 3, &rows), &made_up_results(32))
 }
 
-/// The longest sheet, 716 bytes.
+/// The longest sheet of three settings, 716 bytes.
 fn full_with_swaps() -> Raw {
     Raw { settings_count: 3, settings: vec![2, 3, 1], ..full() }
+}
+
+/// The longest sheet, 718 bytes.
+fn full_with_notches() -> Raw {
+    Raw { settings_count: 4, settings: vec![2, 3, 1, 250], ..full() }
 }
 
 /// A case whose answers name processors: case K with older results.
@@ -47,14 +58,16 @@ fn cut_to(bytes: &[u8], length: usize) -> [Call; 2] {
     [Call::Read(bytes[..length].to_vec()), Call::Program(bytes[..length].to_vec())]
 }
 
-/// "every truncation of a sheet" of two settings and of three, and of the longest ones those around their sections.
+/// "every truncation of a sheet" of two, three and four settings, and of the longest ones those around their sections.
 fn truncations() -> Vec<Call> {
     let mut calls = Vec::new();
-    for small in [two_tasks().bytes(), two_tasks_with_swaps(1).bytes()] {
+    for small in [two_tasks(), two_tasks_with_swaps(1), two_tasks_with_notches(5)] {
+        let small = small.bytes();
         calls.extend((0..=small.len()).flat_map(|length| cut_to(&small, length)));
     }
     let telling = [7, 8, 9, 23, 24, 25, 504, 505, 519, 520, 521, 522, 523, 527, 528, 712, 713, 714];
-    for (long, more) in [(full().bytes(), 0), (full_with_swaps().bytes(), 2)] {
+    for (long, more) in [(full(), 0), (full_with_swaps(), 2), (full_with_notches(), 4)] {
+        let long = long.bytes();
         calls.extend(telling.into_iter().flat_map(|length| cut_to(&long, length + more)));
         let every = (0..=long.len()).step_by(31);
         calls.extend(every.map(|length| Call::Program(long[..length].to_vec())));
@@ -79,13 +92,16 @@ fn judged_at(raw: &Raw, place: usize) -> Vec<Call> {
 fn bad_counts() -> Vec<Call> {
     let mut calls = Vec::new();
     for settings_count in SETTINGS_COUNTS {
-        let mut honest = Table::new(1, 1, &[Record::new(6, 10, 20, 1000); 2]).with_swaps(1);
+        let rows = [Record::new(6, 10, 20, 1000); 2];
+        let mut honest = Table::new(1, 1, &rows).with_swaps(1).with_notches(5);
         honest.settings.count = settings_count;
         calls.extend(judged_at(&Raw::honest(&honest, &[]), 0));
         calls.extend(judged_at(&Raw { settings_count, ..two_tasks() }, 0));
         calls.extend(judged_at(&Raw { settings_count, ..two_tasks_with_swaps(1) }, 0));
+        calls.extend(judged_at(&Raw { settings_count, ..two_tasks_with_notches(5) }, 0));
     }
-    for (whole, place) in [(two_tasks(), 6), (two_tasks_with_swaps(1), 8)] {
+    let wholes = [(two_tasks(), 6), (two_tasks_with_swaps(1), 8), (two_tasks_with_notches(5), 10)];
+    for (whole, place) in wholes {
         for task_count in [0, 1, 3, 32, 33, 34, 40, 256, 65535] {
             calls.extend(judged_at(&Raw { task_count, ..whole.clone() }, place));
         }
@@ -105,7 +121,8 @@ fn trailing_bytes() -> Vec<Call> {
     let without = sheet_of(&Table::new(3, 2, &[Record::new(6, 10, 20, 1000); 3]));
     let empty = sheet_of(&Table::new(1, 1, &[]));
     let mut calls = Vec::new();
-    for sheet in [two_tasks().bytes(), two_tasks_with_swaps(2).bytes(), without, empty] {
+    let (swaps, notches) = (two_tasks_with_swaps(2).bytes(), two_tasks_with_notches(5).bytes());
+    for sheet in [two_tasks().bytes(), swaps, notches, without, empty] {
         for more in [1, 2, 6, 16] {
             let mut bytes = sheet.clone();
             bytes.extend(vec![0; more]);
@@ -119,21 +136,20 @@ fn trailing_bytes() -> Vec<Call> {
 /// Inputs of 714 to 800 bytes: behind the longest sheets, a shorter one, and damaged ones.
 fn over_the_limit() -> Vec<Call> {
     let mut starts = vec![two_tasks()];
-    for long in [full(), full_with_swaps()] {
-        let settings_count = long.settings_count;
+    for long in [full(), full_with_swaps(), full_with_notches()] {
+        for settings_count in [2, 3, 4, 5] {
+            starts.push(Raw { settings_count, ..long.clone() });
+        }
         starts.extend([
-            long.clone(),
             Raw { result_count: 0, results: vec![], ..long.clone() },
             Raw { result_count: 31, ..long.clone() },
-            Raw { settings_count: 5 - settings_count, ..long.clone() },
-            Raw { settings_count: 4, ..long.clone() },
             Raw { task_count: 33, ..long.clone() },
-            Raw { settings: vec![77; usize::from(settings_count)], ..long },
+            Raw { settings: vec![77; usize::from(long.settings_count)], ..long },
         ]);
     }
     let mut calls = Vec::new();
     for start in starts {
-        for length in [714, 715, 716, 717, 718, 730, 799, 800] {
+        for length in [714, 715, 716, 717, 718, 719, 720, 730, 799, 800] {
             let mut bytes = start.bytes();
             bytes.resize(length, 0);
             if length % 5 == 0 {
@@ -161,14 +177,16 @@ fn writing(settings: Settings, task_count: u16, result_count: u16, room: usize) 
 /// "The writer gives 3, 10, 5 in that order", and 9 before them: counts and rooms around each limit.
 fn writings() -> Vec<Call> {
     let mut calls = Vec::new();
+    let four = Settings::new(4, 3).with_swaps(7).with_notches(9);
     for task_count in [0, 1, 2, 32, 33, 40, 65535] {
         for result_count in [0, 1, 2, 3, 31, 32, 33, 40, 65535] {
             calls.push(writing(Settings::new(1, 1), task_count, result_count, 0));
-            calls.push(writing(Settings::new(4, 3).with_swaps(7), task_count, result_count, 720));
+            calls.push(writing(four, task_count, result_count, 720));
         }
     }
     for (task_count, result_count) in [(0, 0), (1, 0), (1, 1), (3, 3), (32, 0), (32, 32)] {
-        for settings in [Settings::new(2, 16), Settings::new(2, 16).with_swaps(0x4567)] {
+        let (two, three) = (Settings::new(2, 16), Settings::new(2, 16).with_swaps(0x4567));
+        for settings in [two, three, three.with_notches(0x89AB)] {
             let needed = Sheet::bytes_needed(
                 usize::from(settings.count),
                 usize::from(task_count),
@@ -194,7 +212,7 @@ fn writings() -> Vec<Call> {
 fn settings_counts() -> Vec<Call> {
     let mut calls = Vec::new();
     for count in SETTINGS_COUNTS {
-        let settings = Settings { count, w: 65535, ..Settings::new(1, 2) };
+        let settings = Settings { count, w: 65535, q: 0x1234, ..Settings::new(1, 2) };
         for (task_count, result_count) in [(0, 0), (2, 2), (33, 0), (2, 1)] {
             for room in [0, 80] {
                 calls.push(writing(settings, task_count, result_count, room));
@@ -216,6 +234,10 @@ fn change_over_sheets() -> Vec<Vec<u8>> {
         two_tasks_with_swaps(1).bytes(),
         two_tasks_with_swaps(3).bytes(),
         full_with_swaps().bytes(),
+        two_tasks_with_notches(5).bytes(),
+        two_tasks_with_notches(3).bytes(),
+        two_tasks_with_notches(0).bytes(),
+        full_with_notches().bytes(),
         case_k().bytes(),
         sheet_of(&Table::new(1, 1, &[])),
         full().bytes(),
@@ -234,6 +256,7 @@ fn change_over_sheets() -> Vec<Vec<u8>> {
         Raw { result_count: 1, ..two_tasks() }.bytes(),
         Raw { settings_count: 3, ..two_tasks() }.bytes(),
         Raw { settings_count: 4, ..two_tasks() }.bytes(),
+        Raw { settings_count: 5, ..two_tasks_with_notches(5) }.bytes(),
         [full().bytes(), vec![0; 80]].concat(),
     ]
 }
@@ -254,7 +277,8 @@ fn change_overs() -> Vec<Call> {
         }
     }
     let other = sheet_under(4, 2, 3);
-    for small in [two_tasks().bytes(), two_tasks_with_swaps(1).bytes()] {
+    for small in [two_tasks(), two_tasks_with_swaps(1), two_tasks_with_notches(5)] {
+        let small = small.bytes();
         for length in 0..=small.len() {
             let cut = small[..length].to_vec();
             calls.push(Call::ChangeOver { standing: other.clone(), proposed: cut.clone() });

@@ -4,8 +4,8 @@ use super::clock_runs::random_run;
 use super::office_texts;
 use super::sheets::{damaged, overlong, random_results, random_sheet, SETTINGS_COUNTS};
 use super::tables::{
-    crossing, exact, exact_first_fit, general, huge, pay_swaps, spoil, telling_step, tied,
-    turning_step, wavering, Aim,
+    crossing, exact, exact_first_fit, general, huge, pay_swaps, set_notches, spoil, telling_step,
+    tied, turning_step, wavering, Aim,
 };
 use super::wide_tables::random_wide;
 use crate::call::{present, Call, Rooms, Settings, Table, Writing};
@@ -69,8 +69,8 @@ fn several_cores(random: &mut Random) -> Call {
 
 fn margin(random: &mut Random) -> Call {
     let table = if random.one_in(6) { huge_table(random) } else { table(random, &FORMULAS) };
-    let w = table.settings.w;
-    let good = table.rows.iter().all(|row| row.is_good(w));
+    let Settings { w, q, .. } = table.settings;
+    let good = table.rows.iter().all(|row| row.is_good(w, q));
     let step = match random.between(0, 7) {
         0 => u32::MAX - random.small(0, 1),
         1 => random.of_any_size(u32::MAX),
@@ -84,7 +84,17 @@ fn margin(random: &mut Random) -> Call {
 fn huge_table(random: &mut Random) -> Table {
     let number = random.pick(&FORMULAS);
     let m = processors(random, number);
-    Table::new(number, m, &huge(random, 5))
+    let table = Table::new(number, m, &huge(random, 5));
+    with_notches(random, table)
+}
+
+/// The table, one time in three with notches.
+fn with_notches(random: &mut Random, mut table: Table) -> Table {
+    if !random.one_in(3) {
+        return table;
+    }
+    let q = set_notches(random, &mut table.rows, table.settings.w);
+    table.with_notches(q)
 }
 
 /// Mostly few processors; one comes often, and policy 5 seldom with more.
@@ -110,6 +120,10 @@ fn table(random: &mut Random, numbers: &[u16]) -> Table {
     if random.one_in(2) {
         let w = pay_swaps(random, &mut table.rows);
         table = table.with_swaps(w);
+    }
+    table = with_notches(random, table);
+    if random.one_in(40) {
+        table = table.with_notches(0);
     }
     if random.one_in(10) {
         table.settings.count = random.pick(&SETTINGS_COUNTS);
@@ -208,15 +222,17 @@ fn any_record(random: &mut Random) -> Record {
 fn writing(random: &mut Random) -> Writing {
     let task_count = if random.one_in(8) { random.small(7, 32) } else { random.small(0, 6) } as u16;
     let result_count = if random.one_in(3) { 0 } else { task_count };
+    let counts: &[u16] = if random.one_in(8) { &SETTINGS_COUNTS } else { &Sheet::SETTINGS_COUNTS };
     let settings = Settings {
         number: random.pick(&[0, 1, 2, 3, 4, 5, 6, 258, 65535]),
         further: random.one_in(2),
         m: random.pick(&[0, 1, 2, 16, 17, 65535]),
-        count: if random.one_in(8) { random.pick(&SETTINGS_COUNTS) } else { random.pick(&[2, 3]) },
+        count: random.pick(counts),
         w: random.pick(&[0, 1, 2, 255, 256, 65535]),
+        q: random.pick(&[0, 1, 2, 255, 256, 65535]),
     };
     let needed = Sheet::bytes_needed(
-        usize::from(settings.count.min(3)),
+        usize::from(settings.count.min(4)),
         usize::from(task_count),
         usize::from(result_count),
     ) as u32;

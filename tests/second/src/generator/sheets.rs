@@ -17,7 +17,7 @@ pub struct Raw {
 
 /// As many numbers of the settings section as its count says: those that there are, then some that nobody knows, six at the most.
 fn settings_section(settings: Settings) -> Vec<u16> {
-    let numbers = [settings.number, settings.m, settings.w, 1, 1, 1];
+    let numbers = [settings.number, settings.m, settings.w, settings.q, 1, 1];
     numbers.into_iter().take(usize::from(settings.count)).collect()
 }
 
@@ -79,7 +79,7 @@ pub fn random_sheet(random: &mut Random, table: &Table) -> Raw {
     Raw::honest(table, &results)
 }
 
-/// Settings counts, right and wrong; before other settings than they count even 2 and 3 are wrong.
+/// Settings counts, right and wrong; before other settings than they count even 2 to 4 are wrong.
 pub const SETTINGS_COUNTS: [u16; 11] = [0, 1, 2, 3, 4, 5, 6, 258, 259, 512, 65535];
 /// Task counts above 32.
 const BAD_TASK_COUNTS: [u16; 5] = [33, 34, 40, 256, 65535];

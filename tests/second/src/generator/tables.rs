@@ -1,10 +1,10 @@
-//! Random tables: general ones, exact fits, ties, first fits that waver, huge ranges. Each is made with a swap cost of 0, and the swaps
-//! are paid afterwards.
+//! Random tables: general ones, exact fits, ties, first fits that waver, huge ranges. Each is made with a swap cost of 0 and a notch
+//! of 1; the swaps are paid and the notches set afterwards.
 
 use super::bench::{case_k_rows, HUGE_RANGE};
 use crate::definition::bound::bound;
 use crate::definition::finder::shares_at;
-use crate::definition::kinds::{Policy, Record, MOST_TASKS, SCALE};
+use crate::definition::kinds::{is_multiple, Policy, Record, MOST_TASKS, SCALE};
 use crate::definition::policy::{passes, sides};
 use crate::definition::share::{full_compression, spring, springs, Spring};
 use crate::random::Random;
@@ -291,13 +291,64 @@ pub fn pay_swaps(random: &mut Random, rows: &mut [Record]) -> u16 {
     }
 }
 
-/// Makes one or two records bad, with that swap cost, by a single step over a limit, or far over it.
+/// A notch for a table that was made without one: mostly one with which every share and so every fit stays, else one to which the periods
+/// are drawn in, or any.
+pub fn set_notches(random: &mut Random, rows: &mut [Record], w: u16) -> u16 {
+    match random.between(0, 9) {
+        0 => random.pick(&[0, 1, 2, 3, 255, 256, 32_768, 65_535]),
+        1..=3 => common_notch(random, rows),
+        4..=6 => grow(random, rows, w),
+        _ => draw_in(random, rows),
+    }
+}
+
+fn greatest_common_divisor(a: u32, b: u32) -> u32 {
+    if b == 0 {
+        a
+    } else {
+        greatest_common_divisor(b, a % b)
+    }
+}
+
+/// A notch of which all periods are multiples already.
+fn common_notch(random: &mut Random, rows: &[Record]) -> u16 {
+    let periods = rows.iter().flat_map(|row| [row.tmin, row.tmax]);
+    let common = periods.fold(0, greatest_common_divisor);
+    let notches: Vec<u16> = (1..=u16::MAX).filter(|q| is_multiple(common, *q)).collect();
+    random.pick(&notches)
+}
+
+/// A notch that is the old tick: costs and periods grow by as much.
+fn grow(random: &mut Random, rows: &mut [Record], w: u16) -> u16 {
+    let longest = rows.iter().map(|row| row.tmax).max().unwrap_or(1);
+    let q = random.of_any_size((Record::GREATEST_PERIOD / longest).min(u32::from(u16::MAX)));
+    for row in rows {
+        let grown = row.cost(w) * u64::from(q) - 2 * u64::from(w);
+        row.c = grown.min(u64::from(u32::MAX)) as u32;
+        row.tmin *= q;
+        row.tmax *= q;
+    }
+    q as u16
+}
+
+/// A notch to whose multiples each Tmin is raised and each Tmax lowered, though not below Tmin.
+fn draw_in(random: &mut Random, rows: &mut [Record]) -> u16 {
+    let longest = rows.iter().map(|row| row.tmax).max().unwrap_or(1);
+    let q = random.of_any_size(longest.min(u32::from(u16::MAX)));
+    for row in rows {
+        row.tmin = row.tmin.next_multiple_of(q);
+        row.tmax = row.tmin.max(row.tmax - row.tmax % q);
+    }
+    q as u16
+}
+
+/// Makes one or two records bad, with that swap cost, by a single step over a limit or off a notch, or far over it.
 pub fn spoil(random: &mut Random, rows: &mut [Record], w: u16) {
     let swaps = 2 * u32::from(w);
     for _ in 0..random.between(1, 2) {
         let place = random.place(rows.len());
         let row = &mut rows[place];
-        match random.between(0, 9) {
+        match random.between(0, 11) {
             0 => row.c = 0,
             1 => row.c = row.tmin.wrapping_add(1),
             // C + 2w one above Tmin, and a sum that 32 bits would turn over
@@ -308,6 +359,8 @@ pub fn spoil(random: &mut Random, rows: &mut [Record], w: u16) {
             6 => row.e = Record::GREATEST_ELASTICITY + 1,
             7 => row.e = u32::MAX,
             8 => row.tmin = u32::MAX,
+            9 => row.tmin = row.tmin.saturating_add(1),
+            10 => row.tmax = row.tmax.saturating_add(1),
             _ => *row = Record::new(u32::MAX, u32::MAX, u32::MAX, 0),
         }
     }

@@ -1,4 +1,4 @@
-//! "Bench settings to try" with document 01's answers, and case B under policy 5 and with swaps.
+//! "Bench settings to try" with document 01's answers, and case B under policy 5, with swaps and with notches.
 
 use super::{plan_of, quick_of, refused, step_of, HALF_SPRING};
 use crate::call::{Settings, Table};
@@ -39,6 +39,11 @@ fn cases_with_steps_periods_and_looks() {
     // a job costs 8 of 10 ticks, then all 10
     expect("B, w = 1", 300, &[16, 16], 2);
     expect("B, w = 2", 500, &[20, 20], 2);
+    // 12 ticks are not whole notches of 5 or 10, nor are 16 of 5; shares and looks do not see them
+    expect("B, q = 5", 100, &[15, 15], 2);
+    expect("B, q = 10", 100, &[20, 20], 2);
+    expect("B, w = 1, q = 2", 300, &[16, 16], 2);
+    expect("B, w = 1, q = 5", 300, &[20, 20], 2);
 }
 
 #[test]
@@ -132,10 +137,10 @@ fn case_b_by_a_further_choice_is_the_same() {
 
 #[test]
 fn a_record_of_the_bench_is_good_and_one_over_is_not() {
-    assert!(Record::new(1, 1, 1_000_000_000, 1_000_000).is_good(0));
-    assert!(!Record::new(1, 1, 1_000_000_001, 1_000_000).is_good(0));
-    assert!(!Record::new(1, 1, 1_000_000_000, 1_000_001).is_good(0));
-    assert!(!Record::new(0, 1, 1, 0).is_good(0));
-    assert!(!Record::new(2, 1, 2, 0).is_good(0));
-    assert!(!Record::new(1, 2, 1, 0).is_good(0));
+    assert!(Record::new(1, 1, 1_000_000_000, 1_000_000).is_good(0, 1));
+    assert!(!Record::new(1, 1, 1_000_000_001, 1_000_000).is_good(0, 1));
+    assert!(!Record::new(1, 1, 1_000_000_000, 1_000_001).is_good(0, 1));
+    assert!(!Record::new(0, 1, 1, 0).is_good(0, 1));
+    assert!(!Record::new(2, 1, 2, 0).is_good(0, 1));
+    assert!(!Record::new(1, 2, 1, 0).is_good(0, 1));
 }

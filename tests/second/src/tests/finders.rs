@@ -7,7 +7,7 @@ use crate::definition::finder::{plain, quick};
 use crate::definition::kinds::{Policy, Record};
 use crate::definition::margin::margin;
 use crate::definition::policy::sides;
-use crate::definition::share::{halved_period, stepped_period};
+use crate::definition::share::{halved_period, springs, stepped_period};
 
 fn counted(number: u16, m: u16, count: u16) -> Table {
     let rows = vec![HALF_SPRING; usize::from(count).min(32)];
@@ -69,15 +69,15 @@ fn the_first_bad_record_is_the_place() {
 #[test]
 fn only_c_at_most_tmin_reads_c_plus_2w() {
     // 1 ≤ C is of C itself
-    assert!(!Record::new(0, 10, 20, 0).is_good(5) && !Record::new(0, 10, 20, 0).is_good(1));
+    assert!(!Record::new(0, 10, 20, 0).is_good(5, 1) && !Record::new(0, 10, 20, 0).is_good(1, 1));
     // C + 2w is Tmin, and one more
-    assert!(Record::new(6, 10, 20, 0).is_good(2) && !Record::new(7, 10, 20, 0).is_good(2));
+    assert!(Record::new(6, 10, 20, 0).is_good(2, 1) && !Record::new(7, 10, 20, 0).is_good(2, 1));
     let widest = Record::new(1, 131_071, 131_071, 0);
-    assert!(widest.is_good(65_535) && !Record { c: 2, ..widest }.is_good(65_535));
+    assert!(widest.is_good(65_535, 1) && !Record { c: 2, ..widest }.is_good(65_535, 1));
     // 32 bits would keep 7 of this sum
     let past = Record::new(u32::MAX - 131_070 + 8, 10, 20, 0);
     assert_eq!(past.cost(65_535), (1 << 32) + 7);
-    assert!(!past.is_good(65_535));
+    assert!(!past.is_good(65_535, 1));
 }
 
 #[test]
@@ -113,6 +113,71 @@ fn a_swap_cost_is_a_part_of_the_cost() {
         let none = Table::new(2, 3, &[priced; 5]);
         assert_eq!(quick_of(&swaps), quick_of(&none));
         assert_eq!(plan_of(&swaps), plan_of(&none));
+    }
+}
+
+#[test]
+fn tmin_and_tmax_are_whole_notches() {
+    let row = Record::new(6, 10, 20, 0);
+    assert!([1, 2, 5, 10].into_iter().all(|q| row.is_good(0, q)));
+    assert!(![0, 3, 4, 20, 65_535].into_iter().any(|q| row.is_good(0, q)));
+    let greatest = Record::new(65_535, 65_535, 65_535 * 15_259, 0);
+    assert!(greatest.is_good(0, 65_535) && !greatest.is_good(1, 65_535));
+    assert!(!Record { tmax: 65_535 * 15_260, ..greatest }.is_good(0, 65_535));
+    // the first bad record of any kind is the place
+    let (low, high) = (Record { tmin: 9, ..row }, Record { tmax: 21, ..row });
+    let dear = Record { c: 11, ..row };
+    let at = |rows: &[Record]| step_of(&Table::new(1, 2, rows).with_notches(5));
+    assert_eq!(at(&[row, low, dear]), refused(6, 1));
+    assert_eq!(at(&[row, row, high]), refused(6, 2));
+    assert_eq!(at(&[dear, high, low]), refused(6, 0));
+}
+
+#[test]
+fn no_notch_is_refused_by_2() {
+    for (number, m, count) in [(1, 1, 2), (2, 16, 33), (4, 2, 2), (5, 1, 40), (1, 17, 0)] {
+        let table = counted(number, m, count);
+        let table = Table { settings: table.settings.with_notches(0), ..table };
+        let question = table.question();
+        assert_eq!(plain(&question, &mut [], &mut []), refused(2, 0));
+        assert_eq!(quick(&question, &mut [], &mut []), (refused(2, 0), 0));
+        assert_eq!(margin(&question, 0), refused(2, 0));
+    }
+    for (number, first) in [(0, 1), (3, 15), (6, 1)] {
+        let table = Table::new(number, 1, &[HALF_SPRING]).with_notches(0);
+        assert_eq!(step_of(&table), refused(first, 0));
+        assert_eq!(quick_of(&table), (refused(first, 0), 0));
+        assert_eq!(margin(&table.question(), 0), refused(first, 0));
+    }
+}
+
+#[test]
+fn a_notch_counts_in_periods_alone() {
+    let rows = [Record::new(50, 360, 3_600, 77), Record::new(351, 720, 1_440, 1_000)];
+    let without = Table::new(1, 1, &[rows, rows].concat()).with_swaps(3);
+    let old = plan_of(&without).0;
+    for q in [2, 3, 8, 45, 120, 180, 360] {
+        let table = without.clone().with_notches(q);
+        assert_eq!(quick_of(&table), quick_of(&without));
+        for step in [0, 1, 77, 400] {
+            assert_eq!(margin(&table.question(), step), margin(&without.question(), step));
+        }
+        let up = |period: &u32| period.next_multiple_of(u32::from(q));
+        assert_eq!(plan_of(&table).0, old.iter().map(up).collect::<Vec<_>>());
+    }
+    // at step 0 a period is Tmin
+    for q in [1, 5, 10] {
+        let table = Table::new(1, 2, &[HALF_SPRING; 2]).with_notches(q);
+        assert_eq!((step_of(&table), plan_of(&table).0), (Ok(0), vec![10, 10]));
+    }
+}
+
+#[test]
+fn the_finders_use_q_whatever_the_settings_count_says() {
+    for count in [0, 1, 2, 3, 4, 5, 65535] {
+        let mut table = Table::new(1, 1, &[HALF_SPRING; 2]).with_notches(5);
+        table.settings.count = count;
+        assert_eq!((step_of(&table), plan_of(&table).0), (Ok(100), vec![15, 15]));
     }
 }
 
@@ -214,15 +279,29 @@ fn an_answer_on_a_saturation_step_counts_the_steps_below_it_only() {
 
 #[test]
 fn stepping_and_halving_find_the_same_period() {
-    for (c, tmin, tmax) in [(6, 10, 20), (1, 1, 100_000), (3000, 4000, 5000), (7, 7, 90_001)] {
+    for (c, tmin, tmax) in [(6, 10, 20), (1, 1, 100_000), (3000, 4000, 5000), (7, 7, 90_006)] {
         let record = Record::new(c, tmin, tmax, 1);
         for w in [0, 1, 1_000] {
-            let least = (record.cost(w) * 1_000_000).div_ceil(u64::from(tmax));
-            for share in [least, least + 1, (least + 1_000_000) / 2, 999_999, 1_000_000] {
-                if share >= least {
-                    assert_eq!(stepped_period(record, w, share), halved_period(record, w, share));
+            for q in [1, 2, 5, 7, 10, 500, 1_000] {
+                if record.is_good(w, q) {
+                    same_periods(record, w, q);
                 }
             }
+        }
+    }
+}
+
+/// Both, at shares from the least to the largest; and one notch less is not enough, or is under Tmin.
+fn same_periods(record: Record, w: u16, q: u16) {
+    let spring = springs(&[record], w)[0];
+    let between = (spring.least + spring.largest) / 2;
+    for share in [spring.least, spring.least + 1, between, spring.largest] {
+        if share <= spring.largest {
+            let period = stepped_period(record, w, q, share);
+            assert_eq!(halved_period(record, w, q, share), period);
+            let less = period - u32::from(q);
+            let enough = record.cost(w) * 1_000_000 <= share * u64::from(less);
+            assert!(period == record.tmin || !enough);
         }
     }
 }

@@ -25,15 +25,20 @@ fn full_with_swaps() -> Raw {
     Raw { settings_count: 3, settings: vec![1, 16, 9], ..full() }
 }
 
+fn full_with_notches() -> Raw {
+    Raw { settings_count: 4, settings: vec![1, 16, 9, 20], ..full() }
+}
+
 #[test]
 fn a_count_is_judged_as_soon_as_its_two_bytes_are_there() {
     assert_eq!(read(&[]), refused(8, 0));
-    assert_eq!(read(&[4]), refused(8, 1));
-    for count in [0, 1, 4, 5, 6, 255] {
+    assert_eq!(read(&[5]), refused(8, 1));
+    for count in [0, 1, 5, 6, 255] {
         assert_eq!(read(&[count, 0]), refused(9, 0));
     }
     assert_eq!(read(&[2, 1]), refused(9, 0));
     assert_eq!(read(&[3, 1]), refused(9, 0));
+    assert_eq!(read(&[4, 1]), refused(9, 0));
     assert_eq!(read(&[2, 0]), refused(8, 2));
     assert_eq!(read(&[3, 0]), refused(8, 2));
     assert_eq!(read(&[3, 0, 0, 0, 0, 0, 0]), refused(8, 7));
@@ -41,6 +46,11 @@ fn a_count_is_judged_as_soon_as_its_two_bytes_are_there() {
     assert_eq!(read(&[3, 0, 0, 0, 0, 0, 0, 0, 33, 0]), refused(3, 8));
     assert_eq!(read(&[3, 0, 0, 0, 0, 0, 0, 0, 0, 0, 1, 0]), refused(10, 10));
     assert_eq!(read(&[3, 0, 0, 0, 0, 0, 0, 0, 0, 0, 0, 0, 0]), refused(11, 12));
+    assert_eq!(read(&[4, 0, 0, 0, 0, 0, 0, 0]), refused(8, 8));
+    assert_eq!(read(&[4, 0, 0, 0, 0, 0, 0, 0, 0, 0, 33]), refused(8, 11));
+    assert_eq!(read(&[4, 0, 0, 0, 0, 0, 0, 0, 0, 0, 33, 0]), refused(3, 10));
+    assert_eq!(read(&[4, 0, 0, 0, 0, 0, 0, 0, 0, 0, 0, 0, 1, 0]), refused(10, 12));
+    assert_eq!(read(&[4, 0, 0, 0, 0, 0, 0, 0, 0, 0, 0, 0, 0, 0, 0]), refused(11, 14));
     assert_eq!(read(&[2, 0, 0, 0, 0, 0, 33]), refused(8, 7));
     assert_eq!(read(&[2, 0, 0, 0, 0, 0, 33, 0]), refused(3, 6));
     assert_eq!(read(&[2, 0, 0, 0, 0, 0, 0, 0, 1]), refused(8, 9));
@@ -50,9 +60,10 @@ fn a_count_is_judged_as_soon_as_its_two_bytes_are_there() {
 
 #[test]
 fn every_truncation_is_refused_8_at_its_length() {
-    assert_eq!((full().bytes().len(), Sheet::MOST_BYTES), (714, 716));
-    assert_eq!(full_with_swaps().bytes().len(), Sheet::MOST_BYTES);
-    for bytes in [full().bytes(), full_with_swaps().bytes()] {
+    let whole = [full().bytes(), full_with_swaps().bytes(), full_with_notches().bytes()];
+    assert_eq!([0, 1, 2].map(|index| whole[index].len()), [714, 716, Sheet::MOST_BYTES]);
+    assert_eq!(Sheet::MOST_BYTES, 718);
+    for bytes in whole {
         for length in 0..bytes.len() {
             assert_eq!(read(&bytes[..length]), refused(8, length as u32));
         }
@@ -61,28 +72,37 @@ fn every_truncation_is_refused_8_at_its_length() {
 }
 
 #[test]
-fn the_settings_count_is_kept_and_a_missing_w_is_0() {
+fn the_settings_count_is_kept_and_missing_are_w_0_and_q_1() {
+    let settings = |sheet: &Sheet| (sheet.settings_count, sheet.m, sheet.w, sheet.q);
     let two = read(&full().bytes()).expect("read");
     let three = read(&full_with_swaps().bytes()).expect("read");
-    assert_eq!((two.settings_count, two.m, two.w), (2, 16, 0));
-    assert_eq!((three.settings_count, three.m, three.w), (3, 16, 9));
-    assert_eq!(two.rows, three.rows);
-    // a refused reading is zeros
-    assert_eq!((Sheet::zeros().settings_count, Sheet::zeros().w), (0, 0));
+    let four = read(&full_with_notches().bytes()).expect("read");
+    assert_eq!(settings(&two), (2, 16, 0, 1));
+    assert_eq!(settings(&three), (3, 16, 9, 1));
+    assert_eq!(settings(&four), (4, 16, 9, 20));
+    assert!(two.rows == three.rows && three.rows == four.rows);
+    // the reader does not judge q, and a refused reading is zeros
+    let none = read(&sheet_of(&Table::new(1, 1, &[]).with_notches(0))).expect("read");
+    assert_eq!(settings(&none), (4, 1, 0, 0));
+    assert_eq!(settings(&Sheet::zeros()), (0, 0, 0, 0));
 }
 
 #[test]
 fn the_writer_leaves_out_the_numbers_past_the_count() {
-    let mut sheet = Sheet { m: 4, w: 77, ..Sheet::zeros() };
-    let mut buffer = [0xEE; 13];
+    let mut sheet = Sheet { m: 4, w: 77, q: 88, ..Sheet::zeros() };
+    let mut buffer = [0xEE; 15];
     sheet.settings_count = 2;
     assert_eq!(write(&sheet, &mut buffer), Ok(10));
-    assert_eq!(buffer, [2, 0, 0, 0, 4, 0, 0, 0, 0, 0, 0xEE, 0xEE, 0xEE]);
-    assert_eq!(read(&buffer[..10]), Ok(Sheet { w: 0, ..sheet.clone() }));
+    assert_eq!(buffer[..11], [2, 0, 0, 0, 4, 0, 0, 0, 0, 0, 0xEE]);
+    assert_eq!(read(&buffer[..10]), Ok(Sheet { w: 0, q: 1, ..sheet.clone() }));
     sheet.settings_count = 3;
     assert_eq!(write(&sheet, &mut buffer), Ok(12));
-    assert_eq!(buffer, [3, 0, 0, 0, 4, 0, 77, 0, 0, 0, 0, 0, 0xEE]);
-    assert_eq!(read(&buffer[..12]), Ok(sheet));
+    assert_eq!(buffer[..13], [3, 0, 0, 0, 4, 0, 77, 0, 0, 0, 0, 0, 0xEE]);
+    assert_eq!(read(&buffer[..12]), Ok(Sheet { q: 1, ..sheet.clone() }));
+    sheet.settings_count = 4;
+    assert_eq!(write(&sheet, &mut buffer), Ok(14));
+    assert_eq!(buffer, [4, 0, 0, 0, 4, 0, 77, 0, 88, 0, 0, 0, 0, 0, 0xEE]);
+    assert_eq!(read(&buffer[..14]), Ok(sheet));
 }
 
 #[test]
@@ -98,8 +118,8 @@ fn the_reader_keeps_a_strange_policy_and_judges_no_record() {
 fn what_is_read_is_written_back() {
     let withdrawn = Raw::honest(&Table::new(3, 2, &[HALF_SPRING; 3]), &made_up_results(3));
     let others = [(5, 2), (65535, 0)].map(|(number, m)| sheet_of(&Table::new(number, m, &[])));
-    let swaps = full_with_swaps().bytes();
-    for bytes in [two_tasks(), full().bytes(), swaps, withdrawn.bytes()].into_iter().chain(others) {
+    let full = [full(), full_with_swaps(), full_with_notches()].map(|raw| raw.bytes());
+    for bytes in [two_tasks(), withdrawn.bytes()].into_iter().chain(full).chain(others) {
         let mut buffer = vec![0xEE; bytes.len() + 3];
         let written = write(&read(&bytes).expect("read"), &mut buffer);
         assert_eq!(written, Ok(bytes.len() as u16));
@@ -111,7 +131,7 @@ fn what_is_read_is_written_back() {
 fn the_writer_gives_9_then_3_then_10_then_5() {
     let mut sheet = Sheet::zeros();
     (sheet.task_count, sheet.result_count) = (40, 7);
-    for count in [0, 1, 4, 5, 6, 258, 65535] {
+    for count in [0, 1, 5, 6, 258, 65535] {
         sheet.settings_count = count;
         assert_eq!(write(&sheet, &mut []), refused(9, 0));
     }
@@ -126,8 +146,10 @@ fn the_writer_gives_9_then_3_then_10_then_5() {
     assert_eq!(write(&sheet, &mut [0xEE; 120]), Ok(120));
     sheet.settings_count = 3;
     assert_eq!(write(&sheet, &mut [0xEE; 121]), refused(5, 122));
+    sheet.settings_count = 4;
+    assert_eq!(write(&sheet, &mut [0xEE; 123]), refused(5, 124));
     // what a refused reading hands back is not written
-    assert_eq!(write(&Sheet::zeros(), &mut [0; 12]), refused(9, 0));
+    assert_eq!(write(&Sheet::zeros(), &mut [0; 14]), refused(9, 0));
 }
 
 #[test]
@@ -152,6 +174,11 @@ fn a_change_over_is_a_part_of_a_lent_sheet() {
     assert_eq!(change_over(&good, &swaps(2)), part(Which::Proposed, 10, 32));
     assert_eq!(change_over(&swaps(2), &swaps(3)), part(Which::Standing, 10, 32));
     assert_eq!(change_over(&swaps(3), &swaps(3)), part(Which::Standing, 0, 0));
+    // Ask 5: with four settings two bytes more; no notch, and periods off it, are refused
+    let notches = |q| sheet_of(&Table::new(1, 1, &[HALF_SPRING; 2]).with_notches(q));
+    assert_eq!(change_over(&good, &notches(5)), part(Which::Proposed, 12, 32));
+    assert_eq!(change_over(&notches(10), &notches(0)), part(Which::Standing, 12, 32));
+    assert_eq!(change_over(&notches(0), &notches(3)), part(Which::Standing, 0, 0));
 }
 
 #[test]
@@ -164,23 +191,28 @@ fn the_program_refuses_in_a_line() {
 }
 
 #[test]
-fn the_program_and_more_than_716_bytes() {
+fn the_program_and_more_than_718_bytes() {
     let longer = |raw: Raw, length: usize| {
         let mut bytes = raw.bytes();
         bytes.resize(length, 0);
         program(&bytes)
     };
-    for length in [715, 716, 717, 718, 800, 70_000] {
+    for length in [715, 716, 717, 718, 719, 720, 800, 70_000] {
         assert_eq!(longer(full(), length), b"refused 11 at 714\n");
         let without_results = Raw { result_count: 0, results: vec![], ..full() };
         assert_eq!(longer(without_results, length), b"refused 11 at 522\n");
         assert_eq!(longer(Raw { task_count: 33, ..full() }, length), b"refused 3 at 6\n");
         assert_eq!(longer(Raw { result_count: 31, ..full() }, length), b"refused 10 at 520\n");
     }
-    for length in [717, 718, 800, 70_000] {
+    for length in [717, 718, 719, 720, 800, 70_000] {
         assert_eq!(longer(full_with_swaps(), length), b"refused 11 at 716\n");
         let wrong = Raw { task_count: 33, ..full_with_swaps() };
         assert_eq!(longer(wrong, length), b"refused 3 at 8\n");
+    }
+    for length in [719, 720, 800, 70_000] {
+        assert_eq!(longer(full_with_notches(), length), b"refused 11 at 718\n");
+        let wrong = Raw { task_count: 33, ..full_with_notches() };
+        assert_eq!(longer(wrong, length), b"refused 3 at 10\n");
     }
 }
 
@@ -197,6 +229,24 @@ fn the_program_keeps_the_settings_count() {
     let mut dearer = output;
     dearer[6] = 2;
     assert_eq!(told(&dearer), b"refused 19 at 0\n");
+}
+
+#[test]
+fn the_program_grants_whole_notches() {
+    let under = |q| program(&sheet_of(&Table::new(1, 1, &[HALF_SPRING; 2]).with_notches(q)));
+    let output = under(5);
+    assert_eq!(output[..10], [4, 0, 1, 0, 1, 0, 0, 0, 5, 0]);
+    assert_eq!(read(&output).expect("read").results[1].period, 15);
+    assert_eq!(told(&output), b"accepted\n");
+    assert_eq!(under(0), b"refused 2 at 0\n");
+    assert_eq!(under(3), b"refused 6 at 0\n");
+    // with another notch the results are others
+    for (q, line) in [(0, "refused 2 at 0\n"), (10, "refused 19 at 0\n"), (20, "refused 6 at 0\n")]
+    {
+        let mut other = output.clone();
+        other[8] = q;
+        assert_eq!(told(&other), line.as_bytes());
+    }
 }
 
 #[test]

@@ -11,15 +11,15 @@ use std::collections::BTreeSet;
 #[test]
 fn a_plain_call_and_its_answer_byte_by_byte() {
     let table = Table {
-        settings: Settings { number: 1, further: true, m: 1, count: 6, w: 1 },
+        settings: Settings { number: 1, further: true, m: 1, count: 6, w: 1, q: 5 },
         count: 2,
         rows: vec![Record { c: 4, ..HALF_SPRING }; 2],
     };
     let call = Call::Plain(table, Rooms { periods: 2, processors: 3 });
     let row = [4, 0, 0, 0, 10, 0, 0, 0, 20, 0, 0, 0, 0xE8, 3, 0, 0];
-    let head = [1, 1, 0, 1, 1, 0, 6, 0, 1, 0, 2, 0, 2, 3];
+    let head = [1, 1, 0, 1, 1, 0, 6, 0, 1, 0, 5, 0, 2, 0, 2, 3];
     assert_eq!(call.payload(), [&head[..], &row, &row].concat());
-    let expected = [0, 0, 0, 0, 0, 100, 0, 0, 0, 12, 0, 0, 0, 12, 0, 0, 0, 0, 0, 0, 0, 0x5A, 0x5A];
+    let expected = [0, 0, 0, 0, 0, 100, 0, 0, 0, 15, 0, 0, 0, 15, 0, 0, 0, 0, 0, 0, 0, 0x5A, 0x5A];
     assert_eq!(answer(&call), expected);
     assert_eq!(framed(&answer(&call))[..2], [23, 0]);
 }
@@ -34,33 +34,40 @@ fn a_margin_is_8_bytes_in_twos_complement() {
 #[test]
 fn a_written_sheet_stands_before_sentinels() {
     let mut writing = Writing {
-        settings: Settings { number: 3, further: true, m: 258, count: 2, w: 772 },
+        settings: Settings { number: 3, further: true, m: 258, count: 2, w: 772, q: 1286 },
         task_count: 0,
         result_count: 0,
-        room: 12,
+        room: 14,
         rows: vec![],
         results: vec![],
     };
-    let expected = [0, 0, 0, 0, 0, 10, 0, 2, 0, 3, 0, 2, 1, 0, 0, 0, 0, 0xEE, 0xEE];
+    let expected = [0, 0, 0, 0, 0, 10, 0, 2, 0, 3, 0, 2, 1, 0, 0, 0, 0, 0xEE, 0xEE, 0xEE, 0xEE];
     assert_eq!(answer(&Call::Write(writing.clone())), expected);
     writing.settings.count = 3;
-    let expected = [0, 0, 0, 0, 0, 12, 0, 3, 0, 3, 0, 2, 1, 4, 3, 0, 0, 0, 0];
+    let expected = [0, 0, 0, 0, 0, 12, 0, 3, 0, 3, 0, 2, 1, 4, 3, 0, 0, 0, 0, 0xEE, 0xEE];
+    assert_eq!(answer(&Call::Write(writing.clone())), expected);
+    writing.settings.count = 4;
+    let expected = [0, 0, 0, 0, 0, 14, 0, 4, 0, 3, 0, 2, 1, 4, 3, 6, 5, 0, 0, 0, 0];
     assert_eq!(answer(&Call::Write(writing)), expected);
 }
 
 #[test]
-fn a_reading_has_the_settings_count_and_w_after_m() {
-    let sheet = [3, 0, 3, 0, 2, 1, 4, 3, 0, 0, 0, 0];
-    let front = |sheet: &[u8]| answer(&Call::Read(sheet.to_vec()))[..17].to_vec();
-    assert_eq!(front(&sheet), [0, 0, 0, 0, 0, 3, 0, 2, 1, 3, 0, 4, 3, 0, 0, 0, 0]);
-    // a refused reading is zeros, the count included
-    assert_eq!(front(&sheet[..11]), [8, 11, 0, 0, 0, 0, 0, 0, 0, 0, 0, 0, 0, 0, 0, 0, 0]);
+fn a_reading_has_the_settings_count_w_and_q_after_m() {
+    let front = |sheet: &[u8]| answer(&Call::Read(sheet.to_vec()))[..19].to_vec();
+    let sheet = [4, 0, 3, 0, 2, 1, 4, 3, 6, 5, 0, 0, 0, 0];
+    assert_eq!(front(&sheet), [0, 0, 0, 0, 0, 3, 0, 2, 1, 4, 0, 4, 3, 6, 5, 0, 0, 0, 0]);
+    // a missing q is 1
+    let three = [3, 0, 3, 0, 2, 1, 4, 3, 0, 0, 0, 0];
+    assert_eq!(front(&three), [0, 0, 0, 0, 0, 3, 0, 2, 1, 3, 0, 4, 3, 1, 0, 0, 0, 0, 0]);
+    // a refused reading is zeros, the count and q included
+    assert_eq!(front(&sheet[..13]), [8, 13, 0, 0, 0, 0, 0, 0, 0, 0, 0, 0, 0, 0, 0, 0, 0, 0, 0]);
+    assert_eq!(front(&three[..11]), [8, 11, 0, 0, 0, 0, 0, 0, 0, 0, 0, 0, 0, 0, 0, 0, 0, 0, 0]);
 }
 
 #[test]
 fn the_rows_present_are_those_of_the_count_and_at_most_32() {
     let calls = Calls::of_seed(3);
-    for index in 0..8_000 {
+    for index in 0..10_000 {
         let call = calls.call(index);
         assert!(call.payload().len() <= MOST_PAYLOAD);
         match call {
@@ -127,10 +134,10 @@ fn random_calls_reach_every_answer_under_policy_5() {
 }
 
 #[test]
-fn the_first_8000_calls_reach_every_number_that_a_call_can_give() {
+fn the_first_10000_calls_reach_every_number_that_a_call_can_give() {
     let calls = Calls::of_seed(1);
     let mut reached = vec![BTreeSet::new(); 13];
-    for index in 0..8_000 {
+    for index in 0..10_000 {
         let call = calls.call(index);
         reached[usize::from(call.kind())].insert(number_of(&call, &answer(&call)));
     }

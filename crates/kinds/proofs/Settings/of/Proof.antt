@@ -15,8 +15,11 @@ array-read-m c = search needs
 array-read-swap : tie.Need-array-read-swap
 array-read-swap c = search needs
 
+array-read-notch : tie.Need-array-read-notch
+array-read-notch c = search needs
+
 returns : tie.Need-returns
 returns c = rw (c .of .ensures)
 
 pub of-spec : {M : Type 1} → statement M
-of-spec = tie.close (tie.spec array-read-of of-requires array-read-m array-read-swap returns)
+of-spec = tie.close (tie.spec array-read-of of-requires array-read-m array-read-swap array-read-notch returns)

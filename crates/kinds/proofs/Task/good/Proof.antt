@@ -1,53 +1,24 @@
--- `kinds::Task::good` meets its contract: each `&&` joins the tests so far with the next. Assumes nothing.
-use mathlib.Core.Path.{_≡_, refl, _∙_, sym}
-use mathlib.Core.Logic.{⊎-elim}
-use lib.Dec.{leb}
-use borrow.Author.Tests.{le-leb, lt-leb}
-use Rattle.ground.specs.Choice.{both}
+-- `kinds::Task::good` meets its contract. Assumes nothing.
+use mathlib.Core.Path.{sym, _∙_}
 use Rattle.ground.proofs.Cases.{both-taken, both-left}
-use Rattle.kinds.specs.Limits.{longestPeriod}
 use Rattle.kinds.specs.Task.{isGood}
 use borrow.Author.Needs.{needs}
 use Rattle.kinds.proofs.Task.good.Statement.{statement}
 use Rattle.kinds.proofs.Task.good.Tie as tie
 
-two : (c : tie.Joined1) → let k = c .before .before in let t = k .before .args .self in
-    c .if1 .if2 ≡ both (leb 1 (t .c)) (leb (k .cost .result) (t .tmin))
-two c =
-    ⊎-elim
-    (λ w. both-taken _ _ _ (le-leb _ _ (w .0 .taken)) (w .2))
-    (λ w. both-left _ _ _ (lt-leb _ _ (w .0 .left)) (w .1))
-    (c .if1 .came)
+within-requires : tie.Need-within-requires
+within-requires c κs = search needs
 
-three : (c : tie.Joined2) → let k = c .before .before .before in let t = k .before .args .self in
-    c .if2 .if3 ≡ both (both (leb 1 (t .c)) (leb (k .cost .result) (t .tmin))) (leb (t .tmin) (t .tmax))
-three c =
-    rw (← two (c .before))
-    (⊎-elim (λ w. both-taken _ _ _ (w .0 .taken) (w .2)) (λ w. both-left _ _ _ (w .0 .left) (w .1)) (c .if2 .came))
-
-four : (c : tie.Joined3) → let k = c .before .before .before .before in let t = k .before .args .self in
-    c .if3 .if4 ≡ both (both (both (leb 1 (t .c)) (leb (k .cost .result) (t .tmin))) (leb (t .tmin) (t .tmax))) (leb (t .tmax) longestPeriod)
-four c =
-    rw (← three (c .before))
-    (⊎-elim (λ w. both-taken _ _ _ (w .0 .taken) (w .2)) (λ w. both-left _ _ _ (w .0 .left) (w .1)) (c .if3 .came))
-
-cost-requires : tie.Need-cost-requires
-cost-requires c κs = tt
-
-cast-if2 : tie.Need-cast-if2
-cast-if2 c = search needs
+on-notch-requires : tie.Need-on-notch-requires
+on-notch-requires c κs = search needs
 
 returns : tie.Need-returns
 unfolding isGood
-returns c =
-    let j = c .before .before in
-    rw (← j .before .before .before .before .cost .ensures) (both-taken _ _ _ (sym (four j) ∙ c .before .if4 .taken) refl)
+returns c = both-taken _ _ _ (sym (c .before .before .within .ensures) ∙ c .before .if1 .taken) (c .on-notch .ensures)
 
 returns-2 : tie.Need-returns-2
 unfolding isGood
-returns-2 c =
-    let j = c .before in
-    rw (← j .before .before .before .before .cost .ensures) (both-left _ _ _ (sym (four j) ∙ c .if4 .left) (four j))
+returns-2 c = both-left _ _ _ (sym (c .before .within .ensures) ∙ c .if1 .left) (c .before .within .ensures)
 
 pub good-spec : {M : Type 1} → statement M
-good-spec = tie.close (tie.spec cost-requires cast-if2 returns returns-2)
+good-spec = tie.close (tie.spec within-requires on-notch-requires returns returns-2)
