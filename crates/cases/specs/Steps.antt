@@ -10,7 +10,7 @@ use Rattle.ground.specs.Folds.{listTo}
 use Rattle.kinds.specs.declared.Policy.the-variants.{Pooled, FirstFit}
 use Rattle.kinds.specs.declared.Task.{Task}
 use Rattle.kinds.specs.Task.{task}
-use Rattle.share.specs.Table.{fullCompression, periodsAt}
+use Rattle.share.specs.Table.{shares, fullCompression, periodsAt}
 use Rattle.policy.specs.Passing.{passesAt, leastStep}
 use Rattle.plan.specs.Plan.{processorsAt}
 use Rattle.cases.specs.Bench.{Setting}
@@ -32,7 +32,7 @@ caseK =
 -- those of some steps at which a setting passes
 unfoldable pub passing : Setting → List ℕ → List ℕ
 passing s [] = []
-passing s (k ∷ rest) = pick (passesAt (s .policy) (s .m) (s .tasks) (length (s .tasks)) k) (k ∷ passing s rest) (passing s rest)
+passing s (k ∷ rest) = pick (passesAt (s .policy) (s .m) (shares (s .tasks)) (length (s .tasks)) k) (k ∷ passing s rest) (passing s rest)
 
 -- J has a million steps, so those beside the answer are worked out, and not the least of all
 pub record StepsOfJ : Type 0 where
@@ -44,6 +44,6 @@ pub record StepsOfJ : Type 0 where
 pub record StepsOfK : Type 0 where
   pub full : fullCompression (caseK .tasks) 7 ≡ 15
   pub all : passing caseK (listTo (λ k. k) 16) ≡ 5 ∷ 6 ∷ []
-  pub answer : leastStep (caseK .policy) (caseK .m) (caseK .tasks) 7 ≡ At 5
+  pub answer : leastStep (caseK .policy) (caseK .m) (shares (caseK .tasks)) 7 15 ≡ At 5
   pub periods : periodsAt 1 (caseK .tasks) 7 5 ≡ 4286 ∷ 1000 ∷ 1000 ∷ 1000 ∷ 1000 ∷ 1000 ∷ 1000 ∷ []
-  pub processors : processorsAt (caseK .policy) (caseK .m) (caseK .tasks) 7 5 ≡ 1 ∷ 2 ∷ 2 ∷ 3 ∷ 1 ∷ 2 ∷ 3 ∷ []
+  pub processors : processorsAt (caseK .policy) (caseK .m) (shares (caseK .tasks)) 7 5 ≡ 1 ∷ 2 ∷ 2 ∷ 3 ∷ 1 ∷ 2 ∷ 3 ∷ []

@@ -18,11 +18,11 @@ use Rattle.kinds.specs.Settings.{fillIns, setting, settingsOf, numbersOf}
 use Rattle.kinds.specs.Answer.{accepted}
 use Rattle.kinds.proofs.Numbers.{numbers-back, fill-in-low}
 use Rattle.share.specs.Share.{periodAt}
-use Rattle.share.specs.Table.{shares, periodsAt}
+use Rattle.share.specs.Table.{periodsAt}
 use Rattle.share.proofs.Tasks.{shortest-on}
 use Rattle.share.proofs.Tables.{all-good, all-on}
 use Rattle.fit.proofs.Placing.{fits-placed}
-use Rattle.policy.specs.Under.{rowsUnder}
+use Rattle.policy.specs.Under.{rowsUnder, loadsUnder}
 use Rattle.policy.proofs.Demand.{step-at}
 use Rattle.policy.proofs.Tests.{first-fit-passes}
 use Rattle.plan.specs.Plan.{processorAt, processorsAt}
@@ -69,6 +69,9 @@ module _ (x : Sheet) (k : ℕ) (few : x .table .n ≤ mostTasks) (e : asked x �
   abbrev paid : List Task
   paid = rowsUnder (x .settings) (x .table .rows) (x .table .n)
 
+  abbrev loads : ℕ → ℕ → ℕ
+  loads = loadsUnder (x .settings) (x .table .rows) (x .table .n)
+
   period-held : (i : ℕ) → i < x .table .n → getD (planPeriods x k) i 0 < limit 4
   unfolding periodsAt
   period-held i l =
@@ -80,13 +83,13 @@ module _ (x : Sheet) (k : ℕ) (few : x .table .n ≤ mostTasks) (e : asked x �
       let on = all-on w q (x .table .rows) (x .table .n) none-bad (accepts .ready .notched) i l in
       rw (list-in 0 f (x .table .n) i l) (omega (arith, good .tmax-most, shortest-on (at paid i) good q on k .high))
 
-  place-held : (i : ℕ) → i < x .table .n → processorAt (meant (x .settings .policy)) (x .settings .m) paid k i < limit 2
+  place-held : (i : ℕ) → i < x .table .n → processorAt (meant (x .settings .policy)) (x .settings .m) loads k i < limit 2
   place-held i l =
       let p = meant (x .settings .policy) in
-      let load = shares paid k in
+      let load = loads k in
       by-bool (isFirstFit p)
       (λ first.
-      let passing = step-at p (x .settings .m) paid (x .table .n) k (accepts .step) .passes in
+      let passing = step-at p (x .settings .m) loads (x .table .n) _ k (accepts .step) .passes in
       let placed = fits-placed (x .settings .m) load (x .table .n) (sym (first-fit-passes p (x .settings .m) load (x .table .n) first) ∙ passing) i l in
       rw first (omega (arith, placed, accepts .ready .passed .m-most)))
       (λ other. rw other (omega arith))
@@ -94,7 +97,7 @@ module _ (x : Sheet) (k : ℕ) (few : x .table .n ≤ mostTasks) (e : asked x �
   processor-held : (i : ℕ) → i < x .table .n → getD (planProcessors x k) i 0 < limit 2
   unfolding processorsAt
   processor-held i l =
-      let f = processorAt (meant (x .settings .policy)) (x .settings .m) paid k in
+      let f = processorAt (meant (x .settings .policy)) (x .settings .m) loads k in
       rw (list-in 0 f (x .table .n) i l) (place-held i l)
 
   pub results-held : (i : ℕ) → GrantedHeld (grantedIn (withPlan x k) i)

@@ -9,7 +9,7 @@ use Rattle.kinds.specs.Task.{at}
 use Rattle.kinds.specs.Policy.{meant}
 use Rattle.kinds.specs.Answer.{accepted}
 use Rattle.share.specs.Share.{periodAt}
-use Rattle.policy.specs.Under.{rowsUnder}
+use Rattle.policy.specs.Under.{rowsUnder, loadsUnder}
 use Rattle.plan.specs.Plan.{processorAt}
 use Rattle.plain.specs.Asked.{asked}
 use Rattle.sheet.specs.Rows.{granted}
@@ -20,7 +20,8 @@ use Rattle.writer.specs.Canonical.{grantedIn}
 abbrev pub grantedAt : Sheet → ℕ → ℕ → Granted
 grantedAt x k i =
     let paid = rowsUnder (x .settings) (x .table .rows) (x .table .n) in
-    granted (periodAt (x .settings .notch) (at paid i) k) (processorAt (meant (x .settings .policy)) (x .settings .m) paid k i)
+    let loads = loadsUnder (x .settings) (x .table .rows) (x .table .n) in
+    granted (periodAt (x .settings .notch) (at paid i) k) (processorAt (meant (x .settings .policy)) (x .settings .m) loads k i)
 
 -- "accepts a sheet exactly when our plain finder accepts its settings and tasks, and every task has a stored result with the period and
 -- processor it would give"

@@ -28,7 +28,7 @@ use Rattle.kinds.proofs.Chain.{goes-on, both-accept, judged-passed}
 use Rattle.share.specs.Share.{periodAt}
 use Rattle.share.specs.Table.{periodsAt}
 use Rattle.admission.specs.Admission.{admission}
-use Rattle.policy.specs.Under.{rowsUnder, leastUnder}
+use Rattle.policy.specs.Under.{rowsUnder, loadsUnder, leastUnder}
 use Rattle.plan.specs.Plan.{processorAt, processorsAt, decided, found}
 use Rattle.plain.specs.Asked.{asked}
 use Rattle.sheet.specs.Rows.{granted}
@@ -74,7 +74,7 @@ unfolding periodsAt processorsAt
 plan-at x k i few l =
     let paid = rowsUnder (x .settings) (x .table .rows) (x .table .n) in
     let period : ℕ → ℕ = λ j. periodAt (x .settings .notch) (at paid j) k in
-    let processor = processorAt (meant (x .settings .policy)) (x .settings .m) paid k in
+    let processor = processorAt (meant (x .settings .policy)) (x .settings .m) (loadsUnder (x .settings) (x .table .rows) (x .table .n)) k in
     planned-at x k i few l ∙ ap₂ granted (list-in 0 period (x .table .n) i l) (list-in 0 processor (x .table .n) i l)
 
 -- "naming the first result that differs": it does, and none before it

@@ -12,13 +12,10 @@ use Rattle.kinds.specs.declared.Settings.{Settings}
 use Rattle.kinds.specs.declared.Margin.{Margin}
 use Rattle.kinds.specs.Answer.{handedMargin}
 use Rattle.kinds.specs.Limits.{mostTasks}
-use Rattle.kinds.specs.Policy.{meant}
 use Rattle.kinds.specs.Task.{at}
 use Rattle.kinds.proofs.Answers.{margin-one}
-use Rattle.share.specs.Table.{shares}
-use Rattle.policy.specs.Sides.{marginOf}
 use Rattle.policy.specs.Under.{marginUnder}
-use Rattle.share.proofs.Tables.{priced-same}
+use Rattle.policy.proofs.Under.{margin-under-same}
 use Rattle.kinds.specs.declared.Verdict.{Verdict}
 use Rattle.kinds.specs.declared.Verdict.the-variants.{Accepted, Refused}
 use Rattle.admission.specs.Admission.{admission}
@@ -39,8 +36,7 @@ pub margin-handed-same : (s : Settings) (xs ys : List Task) (n k : ℕ) → (n �
 unfolding marginHanded
 margin-handed-same s xs ys n k same =
     by-le n mostTasks
-    (λ few. ap₂ reported (admission-same false s xs ys n n (same few))
-    (ap (λ (paid : List Task). marginOf (meant (s .policy)) (s .m) (shares paid k) n) (priced-same (s .swap) xs ys n (same few))))
+    (λ few. ap₂ reported (admission-same false s xs ys n n (same few)) (margin-under-same s xs ys n (same few) k))
     (λ many.
     ap (λ (a : Verdict). reported a (marginUnder s xs n k)) (admission-many false s xs ys n n many)
     ∙ reported-apart (admission false s ys n n) _ _ (λ e. omega (arith, admitted false s ys n n e .passed .few)))

@@ -93,13 +93,13 @@ module _ (p : Policy) (m : ℕ) (largest least elasticity saturation : List ℕ)
 -- on the springs of a table it is the step that demand 2 asks for, and the column holds the table's shares
 module _ (p : Policy) (m : ℕ) (rows : List Task) (n : ℕ) (s : Columns) (w : Sprung rows n s) (r : Step) (column : List ℕ)
     (h : StepHeld p m (springsIn s) (s .saturation) n r column) where
-  pub step-found : r ≡ leastStep p m rows n
+  pub step-found : r ≡ leastStep p m (shares rows) n (fullCompression rows n)
   unfolding leastStep fullCompression
   step-found =
       h .least
-      ∙ (least-cong (passesOn p m (springsIn s) n) (passesAt p m rows n) _
+      ∙ (least-cong (passesOn p m (springsIn s) n) (passesAt p m (shares rows) n) _
       (λ k. passes-same p m (sharesOn (springsIn s) k) (shares rows k) n (shares-are rows n s w k))
-      ∙ ap (leastUpTo (passesAt p m rows n)) (max-cong (λ i. getD (s .saturation) i 0) (λ i. saturationAt (at rows i)) n (w .saturates)))
+      ∙ ap (leastUpTo (passesAt p m (shares rows) n)) (max-cong (λ i. getD (s .saturation) i 0) (λ i. saturationAt (at rows i)) n (w .saturates)))
 
   pub step-held : (k : ℕ) → r ≡ At k → SharesOf rows n k column
   step-held k e = shares-of rows n s w k column (h .held k e)

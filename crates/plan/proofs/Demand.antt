@@ -21,13 +21,13 @@ use Rattle.kinds.specs.Policy.{meant, isFirstFit}
 use Rattle.kinds.specs.Task.{at, Good}
 use Rattle.rule.specs.Rule.{ShortestOn}
 use Rattle.share.specs.Share.{costOf, shareAt, periodAt}
-use Rattle.share.specs.Table.{shares, fullCompression, periodsAt}
+use Rattle.share.specs.Table.{periodsAt}
 use Rattle.share.proofs.Tasks.{shortest-on}
 use Rattle.share.proofs.Tables.{all-good, all-on}
 use Rattle.fit.specs.Fit.{loadsAfter, placeAt, fits}
 use Rattle.fit.proofs.Placing.{lowest, fits-placed}
 use Rattle.policy.specs.Passing.{passesAt, leastStep}
-use Rattle.policy.specs.Under.{rowsUnder}
+use Rattle.policy.specs.Under.{rowsUnder, fullUnder, loadsUnder}
 use Rattle.policy.proofs.Demand.{step-at, step-nothing}
 use Rattle.policy.proofs.Tests.{first-fit-passes}
 use Rattle.admission.specs.Admission.{admission}
@@ -49,10 +49,10 @@ pub record Assigned (p : Policy) (m : ℕ) (load : ℕ → ℕ) (i processor : �
 -- entry i of the outputs is that of task i, with its swaps paid for, and what stands past the tasks is as it was
 pub record Granted (s : Settings) (rows : List Task) (n k : ℕ) (oldPeriods oldProcessors periods processors : List ℕ) : Type 0 where
   pub good : (i : ℕ) → i < n → Good (at (rowsUnder s rows n) i)
-  pub step : LeastAt (passesAt (meant (s .policy)) (s .m) (rowsUnder s rows n) n) (fullCompression (rowsUnder s rows n) n) k
+  pub step : LeastAt (passesAt (meant (s .policy)) (s .m) (loadsUnder s rows n) n) (fullUnder s rows n) k
   pub each-period : (i : ℕ) → i < n → let task = at (rowsUnder s rows n) i in
       ShortestOn (s .notch) (costOf task) (task .tmin) (task .tmax) (shareAt task k) (getD periods i 0)
-  pub each-processor : (i : ℕ) → i < n → Assigned (meant (s .policy)) (s .m) (shares (rowsUnder s rows n) k) i (getD processors i 0)
+  pub each-processor : (i : ℕ) → i < n → Assigned (meant (s .policy)) (s .m) (loadsUnder s rows n k) i (getD processors i 0)
   pub periods-past : (i : ℕ) → n ≤ i → getD periods i 0 ≡ getD oldPeriods i 0
   pub processors-past : (i : ℕ) → n ≤ i → getD processors i 0 ≡ getD oldProcessors i 0
 
@@ -66,13 +66,13 @@ lowest-place m load i placed =
       none-lower = λ j l. leb-false _ _ (first .before j (omega arith));
     }
 
-assigned : (p : Policy) (m : ℕ) (rows : List Task) (n k i : ℕ) → passesAt p m rows n k ≡ true → i < n
-    → Assigned p m (shares rows k) i (processorAt p m rows k i)
-assigned p m rows n k i passing l =
+assigned : (p : Policy) (m : ℕ) (load : ℕ → ℕ → ℕ) (n k i : ℕ) → passesAt p m load n k ≡ true → i < n
+    → Assigned p m (load k) i (processorAt p m load k i)
+assigned p m load n k i passing l =
     record {
       placed = λ first.
-          let all : fits m (shares rows k) n ≡ true = sym (first-fit-passes p m (shares rows k) n first) ∙ passing in
-          rw first (lowest-place m (shares rows k) i (fits-placed m (shares rows k) n all i l));
+          let all : fits m (load k) n ≡ true = sym (first-fit-passes p m (load k) n first) ∙ passing in
+          rw first (lowest-place m (load k) i (fits-placed m (load k) n all i l));
       any = λ other. rw other;
     }
 
@@ -87,31 +87,32 @@ accepted-granted serves s rows n k oldPeriods oldProcessors periods processors x
     let g = accepting serves s rows n room k (x .answers) in
     let good = all-good (s .swap) (s .notch) rows n (g .ready .none-bad) in
     let on = all-on (s .swap) (s .notch) rows n (g .ready .none-bad) (g .ready .notched) in
-    let step = step-at p (s .m) paid n k (g .step) in
+    let load = loadsUnder s rows n in
+    let step = step-at p (s .m) load n _ k (g .step) in
     let ps = rw (← x .answers) at (x .grants) in
     let qs = rw (← x .answers) at (x .places) in
     record {
       good = good;
       step = step;
       each-period = λ i l. rw (ps, list-at 0 (λ j. periodAt (s .notch) (at paid j) k) n i _ l) (shortest-on (at paid i) (good i l) (s .notch) (on i l) k);
-      each-processor = λ i l. rw (qs, list-at 0 (processorAt p (s .m) paid k) n i _ l) (assigned p (s .m) paid n k i (step .passes) l);
+      each-processor = λ i l. rw (qs, list-at 0 (processorAt p (s .m) load k) n i _ l) (assigned p (s .m) load n k i (step .passes) l);
       periods-past = λ i l. rw ps (list-past (λ j. periodAt (s .notch) (at paid j) k) n i oldPeriods l);
-      processors-past = λ i l. rw qs (list-past (processorAt p (s .m) paid k) n i oldProcessors l);
+      processors-past = λ i l. rw qs (list-past (processorAt p (s .m) load k) n i oldProcessors l);
     }
 
 -- refusal 7 is given exactly when the call is admitted and no step from 0 to K passes
 module _ (serves : Bool) (s : Settings) (rows : List Task) (n room : ℕ) where
   pub seven-none : found serves s rows n room .number ≡ 7
       → (admission serves s rows n room ≡ verdict.Accepted)
-      × ((k : ℕ) → k ≤ fullCompression (rowsUnder s rows n) n → passesAt (meant (s .policy)) (s .m) (rowsUnder s rows n) n k ≡ false)
-  seven-none e = let x = refused-seven serves s rows n room e in (x .0, step-nothing (meant (s .policy)) (s .m) (rowsUnder s rows n) n (x .1))
+      × ((k : ℕ) → k ≤ fullUnder s rows n → passesAt (meant (s .policy)) (s .m) (loadsUnder s rows n) n k ≡ false)
+  seven-none e = let x = refused-seven serves s rows n room e in (x .0, step-nothing (meant (s .policy)) (s .m) (loadsUnder s rows n) n _ (x .1))
 
   pub none-seven : admission serves s rows n room ≡ verdict.Accepted
-      → ((k : ℕ) → k ≤ fullCompression (rowsUnder s rows n) n → passesAt (meant (s .policy)) (s .m) (rowsUnder s rows n) n k ≡ false)
+      → ((k : ℕ) → k ≤ fullUnder s rows n → passesAt (meant (s .policy)) (s .m) (loadsUnder s rows n) n k ≡ false)
       → found serves s rows n room .number ≡ 7
   unfolding found leastStep
   none-seven a h =
-      let test = passesAt (meant (s .policy)) (s .m) (rowsUnder s rows n) n in
-      let K = fullCompression (rowsUnder s rows n) n in
+      let test = passesAt (meant (s .policy)) (s .m) (loadsUnder s rows n) n in
+      let K = fullUnder s rows n in
       let e = least-none test K (K + 1) (λ j l. h j (omega arith)) (omega arith) in
       rw (a, ← e)

@@ -21,9 +21,9 @@ use Rattle.kinds.specs.Policy.{meant}
 use Rattle.kinds.proofs.Answers.{not-refused}
 use Rattle.share.proofs.Tables.{all-good, all-on}
 use Rattle.springs.specs.Columns.{periodIn}
-use Rattle.springs.proofs.Columns.{held-allowed, held-periods}
+use Rattle.springs.proofs.Columns.{held-most, held-allowed, held-periods}
 use Rattle.fit.specs.Fit.{loadIn}
-use Rattle.policy.specs.Under.{rowsUnder, leastUnder}
+use Rattle.policy.specs.Under.{rowsUnder, loadsUnder, leastUnder}
 use Rattle.policy.proofs.Demand.{step-at}
 use Rattle.kinds.specs.declared.Verdict as verdict
 use Rattle.admission.specs.Admission.{admission}
@@ -83,12 +83,14 @@ may-grant serves (Accepted k) s rows n a b cost tmin shares f t =
     let paid = rowsUnder s rows n in
     let good = all-good (s .swap) (s .notch) rows n (g .ready .none-bad) in
     let on = all-on (s .swap) (s .notch) rows n (g .ready .none-bad) (g .ready .notched) in
-    let passing = step-at (meant (s .policy)) (s .m) paid n k (g .step) .passes in
+    let passing = step-at (meant (s .policy)) (s .m) (loadsUnder s rows n) n _ k (g .step) .passes in
+    let light = held-most paid n k shares good (f .held t .shares-are) in
     record {
       allowed = held-allowed paid n k cost tmin shares (f .held t) (s .notch) (g .ready .notched) good on;
       roomy = omega (arith, p .roomy);
       placeable =
-          placeable (meant (s .policy)) (s .m) paid n k shares (f .held t .shares-are) b good (p .few) (p .m-most) (omega (arith, p .roomy)) passing;
+          placeable (meant (s .policy)) (s .m) (loadsUnder s rows n) n k shares (f .held t .shares-are) b light (p .few) (p .m-most) (omega (arith, p .roomy))
+          passing;
     }
 
 -- as a finder works it out: without a step where the admission refuses, else with the least one
@@ -114,7 +116,7 @@ module _ (serves : Bool) (answer : Answer) (s : Settings) (rows : List Task) (n 
       ≡ processorsAfter (handed answer) s rows n processors
   processors-left =
       written-same answer _ _ n processors
-      (λ t. held-processors (meant (s .policy)) (s .m) (rowsUnder s rows n) n (stepOf answer) shares (f .held t .shares-are)
+      (λ t. held-processors (meant (s .policy)) (s .m) (loadsUnder s rows n) n (stepOf answer) shares (f .held t .shares-are)
       ∙ ap (processorsUnder s rows n) (step-handed answer))
 
   pub meets : (new-periods new-processors : List ℕ)

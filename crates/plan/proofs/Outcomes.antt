@@ -19,9 +19,8 @@ use Rattle.kinds.specs.Policy.{meant, isFirstFit}
 use Rattle.kinds.specs.Task.{at}
 use Rattle.kinds.proofs.Answers.{handed-one}
 use Rattle.kinds.proofs.Refusals.{refusal-numbered}
-use Rattle.share.proofs.Tables.{priced-same}
-use Rattle.policy.specs.Passing.{leastStep}
 use Rattle.policy.specs.Under.{leastUnder}
+use Rattle.policy.proofs.Under.{rows-same, loads-same, least-under-same}
 use Rattle.kinds.specs.declared.Verdict as verdict
 use Rattle.admission.specs.Admission.{admission}
 use Rattle.admission.proofs.Chain.{admitted, admission-same, admission-many, admission-serves}
@@ -77,14 +76,13 @@ module _ (serves : Bool) (s : Settings) (xs ys : List Task) (n : ℕ) where
     found-same : (room : ℕ) → found serves s xs n room ≡ found serves s ys n room
     unfolding found
     found-same room =
-        ap₂ decided (admission-same serves s xs ys n room same)
-        (ap (λ (paid : List Task). leastStep (meant (s .policy)) (s .m) paid n) (priced-same (s .swap) xs ys n same))
+        ap₂ decided (admission-same serves s xs ys n room same) (least-under-same s xs ys n same)
 
     outcome-agrees : (periods processors : List ℕ) → outcome serves s xs n periods processors ≡ outcome serves s ys n periods processors
     unfolding outcome
     outcome-agrees periods processors =
         let room = min (length periods) (length processors) in
-        rw (found-same room, priced-same (s .swap) xs ys n same)
+        rw (found-same room, rows-same s xs ys n same, loads-same s xs ys n same)
 
 -- two tables that agree on the first n records are answered alike; where n is too large, any two are
 pub outcome-same : (serves : Bool) (s : Settings) (xs ys : List Task) (n : ℕ) (periods processors : List ℕ)

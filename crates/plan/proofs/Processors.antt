@@ -10,14 +10,9 @@ use borrow.Author.Tests.{eqb-true}
 use Rattle.ground.specs.Choice.{pick}
 use Rattle.ground.specs.Folds.{listTo}
 use Rattle.ground.proofs.Buffer.{list-at, list-cong}
-use Rattle.kinds.specs.declared.Task.{Task}
 use Rattle.kinds.specs.declared.Policy.{Policy}
-use Rattle.kinds.specs.Limits.{mostTasks, mostProcessors}
+use Rattle.kinds.specs.Limits.{scale, mostTasks, mostProcessors}
 use Rattle.kinds.specs.Policy.{isFirstFit}
-use Rattle.kinds.specs.Task.{at, Good}
-use Rattle.share.specs.Share.{shareAt}
-use Rattle.springs.specs.Handover.{SharesOf}
-use Rattle.springs.proofs.Columns.{held-most}
 use Rattle.fit.specs.declared.Fit.{Fit}
 use Rattle.fit.specs.Fit.{loadIn, placeAt, stuckAt, fits, placesTo}
 use Rattle.fit.specs.Handover.{FitIs}
@@ -42,21 +37,21 @@ module _ (p : Policy) (m : ℕ) (load : ℕ → ℕ) (n : ℕ) where
       list-cong (λ i. getD (replicate mostTasks 0) i 0) (processorOn p m load) n
       (λ i l. rw other (getD-replicate {A = ℕ} mostTasks i 0 0 (omega arith)))
 
--- a column that holds the shares of step k: the processors of it are those of step k
-module _ (p : Policy) (m : ℕ) (rows : List Task) (n k : ℕ) (shares : List ℕ) (held : SharesOf rows n k shares) where
-  pub held-processors : listTo (processorOn p m (loadIn shares)) n ≡ processorsAt p m rows n k
+-- a column that holds the loads of step k: the processors of it are those of step k
+module _ (p : Policy) (m : ℕ) (load : ℕ → ℕ → ℕ) (n k : ℕ) (column : List ℕ) (held : (i : ℕ) → i < n → loadIn column i ≡ load k i) where
+  pub held-processors : listTo (processorOn p m (loadIn column)) n ≡ processorsAt p m load n k
   unfolding processorsAt
   held-processors =
-      list-cong (processorOn p m (loadIn shares)) (processorAt p m rows k) n
-      (λ i l. ap (λ (x : ℕ). pick (isFirstFit p) (x + 1) 0) (place-same m (loadIn shares) (λ j. shareAt (at rows j) k) n held i l))
+      list-cong (processorOn p m (loadIn column)) (processorAt p m load k) n
+      (λ i l. ap (λ (x : ℕ). pick (isFirstFit p) (x + 1) 0) (place-same m (loadIn column) (load k) n held i l))
 
   -- and they may be written where step k passes
-  pub placeable : (room : ℕ) → ((i : ℕ) → i < n → Good (at rows i)) → n ≤ mostTasks → m ≤ mostProcessors → n ≤ room
-      → passesAt p m rows n k ≡ true → Placeable p m shares n room
-  placeable room good few m-most roomy passing =
+  pub placeable : (room : ℕ) → ((i : ℕ) → i < n → loadIn column i ≤ scale) → n ≤ mostTasks → m ≤ mostProcessors → n ≤ room
+      → passesAt p m load n k ≡ true → Placeable p m column n room
+  placeable room most few m-most roomy passing =
       record {
-        light = record { few = few; most = held-most rows n k shares good held };
+        light = record { few = few; most = most };
         m-most = m-most;
         roomy = roomy;
-        passing = passes-same p m (loadIn shares) (λ i. shareAt (at rows i) k) n held ∙ passing;
+        passing = passes-same p m (loadIn column) (load k) n held ∙ passing;
       }

@@ -16,9 +16,9 @@ use Rattle.kinds.specs.declared.Refusal.the-variants.{NoStepPasses}
 use Rattle.kinds.specs.declared.Answer.{Answer}
 use Rattle.kinds.specs.Answer.{Handed, accepted, refused, after, handed}
 use Rattle.kinds.specs.Policy.{meant, isFirstFit}
-use Rattle.share.specs.Table.{shares, periodsAt}
+use Rattle.share.specs.Table.{periodsAt}
 use Rattle.fit.specs.Fit.{placeAt}
-use Rattle.policy.specs.Under.{rowsUnder, leastUnder}
+use Rattle.policy.specs.Under.{rowsUnder, loadsUnder, leastUnder}
 use Rattle.kinds.specs.declared.Verdict.{Verdict}
 use Rattle.kinds.specs.declared.Verdict.the-variants.{Accepted, Refused}
 use Rattle.admission.specs.Admission.{admission}
@@ -27,12 +27,12 @@ use Rattle.admission.specs.Admission.{admission}
 abbrev pub processorOn : Policy → ℕ → (ℕ → ℕ) → ℕ → ℕ
 processorOn p m load i = pick (isFirstFit p) (placeAt m load i + 1) 0
 
--- the processor of task i at step k: "1 to m under policy 4, and 0 ("any") under 1 to 3"
-abbrev pub processorAt : Policy → ℕ → List Task → ℕ → ℕ → ℕ
-processorAt p m rows k i = processorOn p m (shares rows k) i
+-- the processor of task i at step k, with loads by step and task: "1 to m under policy 4, and 0 ("any") under 1 to 3"
+abbrev pub processorAt : Policy → ℕ → (ℕ → ℕ → ℕ) → ℕ → ℕ → ℕ
+processorAt p m load k i = processorOn p m (load k) i
 
-unfoldable pub processorsAt : Policy → ℕ → List Task → ℕ → ℕ → List ℕ
-processorsAt p m rows n k = listTo (processorAt p m rows k) n
+unfoldable pub processorsAt : Policy → ℕ → (ℕ → ℕ → ℕ) → ℕ → ℕ → List ℕ
+processorsAt p m load n k = listTo (processorAt p m load k) n
 
 -- an admitted call is answered by the least passing step, or refused by 7
 abbrev pub decided : Verdict → Step → Handed ℕ
@@ -45,7 +45,7 @@ abbrev pub periodsUnder : Settings → List Task → ℕ → ℕ → List ℕ
 periodsUnder s rows n k = periodsAt (s .notch) (rowsUnder s rows n) n k
 
 abbrev pub processorsUnder : Settings → List Task → ℕ → ℕ → List ℕ
-processorsUnder s rows n k = processorsAt (meant (s .policy)) (s .m) (rowsUnder s rows n) n k
+processorsUnder s rows n k = processorsAt (meant (s .policy)) (s .m) (loadsUnder s rows n) n k
 
 -- what stands in the two outputs after a call
 abbrev pub periodsAfter : Handed ℕ → Settings → List Task → ℕ → List ℕ → List ℕ

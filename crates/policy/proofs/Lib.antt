@@ -4,3 +4,4 @@ pub mod Totals
 pub mod Tests
 pub mod Demand
 pub mod LookCount
+pub mod Under

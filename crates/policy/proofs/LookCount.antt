@@ -39,10 +39,11 @@ looks-few s n (At (suc k)) h =
 looks-few s n Nothing h = omega (arith, count-le (counts s) n)
 
 -- demand 3: "with the count of looks that document 01 defines, at most tasks + 1"
-pub looks-bound : (p : Policy) (m : ℕ) (rows : List Task) (n : ℕ) → looksOf rows n (leastStep p m rows n) ≤ n + 1
+pub looks-bound : (p : Policy) (m : ℕ) (load : ℕ → ℕ → ℕ) (rows : List Task) (n : ℕ)
+    → looksOf rows n (leastStep p m load n (fullCompression rows n)) ≤ n + 1
 unfolding looksOf fullCompression
-looks-bound p m rows n =
-    looks-few (λ i. saturationAt (at rows i)) n (leastStep p m rows n) (λ k e. step-at p m rows n k e .within)
+looks-bound p m load rows n =
+    looks-few (λ i. saturationAt (at rows i)) n (leastStep p m load n (fullCompression rows n)) (λ k e. step-at p m load n (fullCompression rows n) k e .within)
 
 -- the looks depend on the first n records only
 module _ (f g : ℕ → ℕ) where

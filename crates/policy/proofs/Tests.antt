@@ -2,7 +2,6 @@
 -- Assumes nothing.
 use Prim.Native.Nat.{ℕ, suc, _+_, _-_, _*_, _≤_, _<_}
 use mathlib.Core.Bool.{true, false}
-use mathlib.Core.List.{List}
 use mathlib.Core.Path.{_≡_, refl, sym, ap, ap₂, _∙_}
 use native.Mathlib.Nat.{mul-le-mul-left}
 use native.Mathlib.Omega.{arith}
@@ -13,14 +12,10 @@ use Rattle.ground.specs.Folds.{sumTo, maxTo}
 use Rattle.ground.specs.Least.{Rising}
 use Rattle.ground.proofs.Cases.{by-bool, true-false}
 use Rattle.ground.proofs.Folds.{sum-le, max-falls, sum-cong, max-cong}
-use Rattle.kinds.specs.declared.Task.{Task}
 use Rattle.kinds.specs.declared.Policy.{Policy}
 use Rattle.kinds.specs.declared.Policy.the-variants.{Pooled, GlobalEdf, GlobalRm, FirstFit, OneCoreRm, Further}
 use Rattle.kinds.specs.Limits.{scale, mostProcessors}
 use Rattle.kinds.specs.Policy.{isWeighed, isFirstFit, Served}
-use Rattle.kinds.specs.Task.{at}
-use Rattle.share.specs.Table.{shares}
-use Rattle.share.proofs.Tasks.{falls}
 use Rattle.bound.specs.Bound.{boundOf}
 use Rattle.fit.specs.Fit.{fits}
 use Rattle.fit.proofs.Placing.{fits-within, fits-same}
@@ -88,9 +83,10 @@ passes-less p m load less n f g t =
     (sum-le less load n g) (max-falls load less n g)
     (leb-true _ _ (sym (passes-weighed p m load n f) ∙ t)))
 
--- so passing of policies 1, 2 and 5 stays with the step, whatever m is
-pub passes-rising : (p : Policy) (m : ℕ) (rows : List Task) (n : ℕ) → isWeighed p ≡ true → Rising (passesAt p m rows n)
-passes-rising p m rows n f j k h t = passes-less p m (shares rows j) (shares rows k) n f (λ i l. falls (at rows i) j k h) t
+-- so passing of policies 1, 2 and 5 stays with the step, whatever m is, where no load rises
+pub passes-rising : (p : Policy) (m : ℕ) (load : ℕ → ℕ → ℕ) (n : ℕ) → isWeighed p ≡ true
+    → ((i : ℕ) → i < n → (j k : ℕ) → j ≤ k → load k i ≤ load j i) → Rising (passesAt p m load n)
+passes-rising p m load n f falls j k h t = passes-less p m (load j) (load k) n f (λ i l. falls i l j k h) t
 
 -- "It is negative when the step fails, zero at an exact fit."
 pub margin-passes : (p : Policy) (m : ℕ) (load : ℕ → ℕ) (n : ℕ) → isWeighed p ≡ true → passes p m load n ≡ true

@@ -2,15 +2,12 @@
 -- Assumes nothing.
 use Prim.Native.Nat.{ℕ}
 use mathlib.Core.Bool.{Bool, false}
-use mathlib.Core.List.{List}
 use lib.Dec.{leb}
 use Rattle.ground.specs.declared.Step.{Step}
 use Rattle.ground.specs.Folds.{sumTo, maxTo}
 use Rattle.ground.specs.Least.{leastUpTo}
-use Rattle.kinds.specs.declared.Task.{Task}
 use Rattle.kinds.specs.declared.Policy.{Policy}
 use Rattle.kinds.specs.declared.Policy.the-variants.{Pooled, GlobalEdf, GlobalRm, FirstFit, OneCoreRm, Further}
-use Rattle.share.specs.Table.{shares, fullCompression}
 use Rattle.fit.specs.Fit.{fits}
 use Rattle.policy.specs.Sides.{leftSide, rightSide}
 
@@ -27,10 +24,10 @@ passes FirstFit m load n = fits m load n
 passes OneCoreRm m load n = holds OneCoreRm m n (sumTo load n) (maxTo load n)
 passes (Further q) m load n = false
 
--- the test of demand 2: the first n tasks pass at step k on their shares
-abbrev pub passesAt : Policy → ℕ → List Task → ℕ → ℕ → Bool
-passesAt p m rows n k = passes p m (shares rows k) n
+-- the test of demand 2: n tasks pass at step k, with loads by step and task
+abbrev pub passesAt : Policy → ℕ → (ℕ → ℕ → ℕ) → ℕ → ℕ → Bool
+passesAt p m load n k = passes p m (load k) n
 
--- "the smallest whole compression step from 0 to full compression at which the policy's test holds"
-unfoldable pub leastStep : Policy → ℕ → List Task → ℕ → Step
-leastStep p m rows n = leastUpTo (passesAt p m rows n) (fullCompression rows n)
+-- "the smallest whole compression step from 0 to full compression", K, "at which the policy's test holds"
+unfoldable pub leastStep : Policy → ℕ → (ℕ → ℕ → ℕ) → ℕ → ℕ → Step
+leastStep p m load n K = leastUpTo (passesAt p m load n) K

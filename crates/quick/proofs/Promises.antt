@@ -15,10 +15,8 @@ use Rattle.kinds.specs.Limits.{mostTasks}
 use Rattle.kinds.specs.Policy.{meant, isFirstFit}
 use Rattle.kinds.specs.Task.{at}
 use Rattle.kinds.proofs.Answers.{handed-one}
-use Rattle.share.proofs.Tables.{priced-same}
-use Rattle.policy.specs.Looks.{looksOf}
-use Rattle.policy.specs.Passing.{leastStep}
 use Rattle.policy.specs.Under.{looksUnder}
+use Rattle.policy.proofs.Under.{looks-under-same}
 use Rattle.kinds.specs.declared.Verdict as verdict
 use Rattle.admission.specs.Admission.{admission}
 use Rattle.admission.proofs.Chain.{admitted, admission-same, admission-many}
@@ -60,8 +58,7 @@ module _ (s : Settings) (xs ys : List Task) (n : ℕ) (same : n ≤ mostTasks �
   unfolding looks
   looks-agree room =
       by-le n mostTasks
-      (λ few. ap₂ looksAfter (admission-same false s xs ys n room (same few))
-      (ap (λ (paid : List Task). looksOf paid n (leastStep (meant (s .policy)) (s .m) paid n)) (priced-same (s .swap) xs ys n (same few))))
+      (λ few. ap₂ looksAfter (admission-same false s xs ys n room (same few)) (looks-under-same s xs ys n (same few)))
       (λ many.
       ap (λ (a : verdict.Verdict). looksAfter a (looksUnder s xs n)) (admission-many false s xs ys n room many)
       ∙ after-apart (admission false s ys n room) _ _ (λ e. omega (arith, admitted false s ys n room e .passed .few)))

@@ -21,7 +21,7 @@ use Rattle.share.specs.Share.{saturationAt}
 use Rattle.share.specs.Table.{shares, fullCompression}
 use Rattle.policy.specs.Sides.{weightsOf}
 use Rattle.policy.specs.Looks.{looksFor, looksOf}
-use Rattle.policy.specs.Under.{rowsUnder, looksUnder}
+use Rattle.policy.specs.Under.{rowsUnder, loadsUnder, looksUnder}
 use Rattle.policy.specs.Passing.{passesAt, leastStep}
 use Rattle.policy.proofs.LookCount.{for-same, looks-bound}
 use Rattle.policy.proofs.Tests.{passes-weighed, passes-same}
@@ -38,12 +38,12 @@ use Rattle.quick.specs.Handover.{SearchEnds}
 
 -- a search of the first n of some records ends at the step that demand 2 asks for, with its looks
 pub record LeastFound (p : Policy) (m : ℕ) (rows : List Task) (n : ℕ) (r : Ended) : Type 0 where
-  pub least : r .step ≡ leastStep p m rows n
-  pub count : r .looks ≡ looksOf rows n (leastStep p m rows n)
+  pub least : r .step ≡ leastStep p m (shares rows) n (fullCompression rows n)
+  pub count : r .looks ≡ looksOf rows n (leastStep p m (shares rows) n (fullCompression rows n))
 
 module _ (p : Policy) (m : ℕ) (rows : List Task) (n : ℕ) (s : Columns) (w : Sprung rows n s) (f : isWeighed p ≡ true) where
   -- the test on the springs is the policy's on the shares
-  test-is : (k : ℕ) → weighedAt (weightsOf p m n) (springsIn s) n k ≡ passesAt p m rows n k
+  test-is : (k : ℕ) → weighedAt (weightsOf p m n) (springsIn s) n k ≡ passesAt p m (shares rows) n k
   unfolding weighed
   test-is k =
       sym (passes-weighed p m (sharesOn (springsIn s) k) n f)
@@ -60,8 +60,9 @@ module _ (p : Policy) (m : ℕ) (rows : List Task) (n : ℕ) (s : Columns) (w : 
   pub least-found : (r : Ended) → SearchEnds (weighedAt (weightsOf p m n) (springsIn s) n) (saturations (springsIn s)) n r → LeastFound p m rows n r
   unfolding leastStep
   least-found r e =
-      let step : r .step ≡ leastStep p m rows n =
-      e .least ∙ (least-cong (weighedAt (weightsOf p m n) (springsIn s) n) (passesAt p m rows n) _ test-is ∙ ap (leastUpTo (passesAt p m rows n)) full-is) in
+      let test = passesAt p m (shares rows) n in
+      let step : r .step ≡ leastStep p m (shares rows) n (fullCompression rows n) =
+      e .least ∙ (least-cong (weighedAt (weightsOf p m n) (springsIn s) n) test _ test-is ∙ ap (leastUpTo test) full-is) in
       record { least = step; count = e .count ∙ (looks-are (r .step) ∙ ap (looksOf rows n) step) }
 
 -- the looks of a call, as the code has them
@@ -81,4 +82,4 @@ after-few (verdict.the-variants.Refused r) k n h = omega arith
 
 pub looks-few : (s : Settings) (rows : List Task) (n room : ℕ) → looks s rows n room ≤ n + 1
 unfolding looks
-looks-few s rows n room = after-few (admission false s rows n room) _ n (looks-bound (meant (s .policy)) (s .m) (rowsUnder s rows n) n)
+looks-few s rows n room = after-few (admission false s rows n room) _ n (looks-bound (meant (s .policy)) (s .m) (loadsUnder s rows n) (rowsUnder s rows n) n)
