@@ -24,7 +24,7 @@ use Rattle.kinds.proofs.Policies.{known-served}
 use Rattle.kinds.specs.Task.{at}
 use Rattle.share.specs.Table.{firstBad}
 use Rattle.share.proofs.Tables.{bad-same}
-use Rattle.admission.specs.Admission.{andThen, knows, misset, unsuited, missetUnder, gate, served, roomy, gateOf, recordsGood, admission}
+use Rattle.admission.specs.Admission.{andThen, knows, misset, missetNumbers, missetUnder, gate, served, roomy, gateOf, recordsGood, admission}
 
 -- a verdict of a chain was refused nowhere
 pub unchecked : (test : Bool) (r : Refusal) (rest : Verdict) → check test (Refused r) rest ≡ Accepted → (test ≡ false) × (rest ≡ Accepted)
@@ -65,6 +65,15 @@ gate-passed m n e =
     let open-is = gate-opens (misset m) n e in
     set-few m n (open-is .0) (open-is .1)
 
+some-of : (x : ℕ) → eqb x 0 ≡ false → 1 ≤ x
+some-of x e = by-le x 0 (λ l. absurd (eqb-false x 0 e (omega arith))) (λ l. l)
+
+-- what 2 has checked of the settings' numbers: the processors, and that there is a notch
+pub numbers-set : (s : Settings) → missetNumbers s ≡ false → (misset (s .m) ≡ false) × (1 ≤ s .notch)
+numbers-set s e =
+    let set = neither (misset (s .m)) (eqb (s .notch) 0) e in
+    (set .0, some-of (s .notch) (set .1))
+
 -- and 5
 pub roomy-passed : (n room : ℕ) → roomy n room ≡ Accepted → n ≤ room
 roomy-passed n room e = ltb-false _ _ (unchecked _ _ _ e .0)
@@ -86,7 +95,7 @@ all-passed serves s n room e =
     let set = then-admitted _ _ (known .1) in
     let asked = then-admitted _ _ (set .1) in
     let opens = gate-opens (missetUnder s) n (set .0) in
-    let few = set-few (s .m) n (neither _ _ (opens .0) .0) (opens .1) in
+    let few = set-few (s .m) n (numbers-set s (neither _ _ (opens .0) .0) .0) (opens .1) in
     record {
       known = numbered .0;
       standing = unchecked _ _ _ (numbered .1) .0;
@@ -97,9 +106,6 @@ all-passed serves s n room e =
       roomy = roomy-passed n room (asked .1);
     }
 
-some-of : (x : ℕ) → eqb x 0 ≡ false → 1 ≤ x
-some-of x e = by-le x 0 (λ l. absurd (eqb-false x 0 e (omega arith))) (λ l. l)
-
 -- and that there is a notch
 pub notch-passed : (serves : Bool) (s : Settings) (n room : ℕ) → gateOf serves s n room ≡ Accepted → 1 ≤ s .notch
 notch-passed serves s n room e =
@@ -108,8 +114,7 @@ notch-passed serves s n room e =
     let known = then-admitted (knows p) (andThen (gate (missetUnder s) n) last) e in
     let set = then-admitted (gate (missetUnder s) n) last (known .1) in
     let opens = gate-opens (missetUnder s) n (set .0) in
-    let m-set = neither (misset (s .m)) (either (eqb (s .notch) 0) (unsuited p (s .m))) (opens .0) in
-    some-of (s .notch) (neither (eqb (s .notch) 0) (unsuited p (s .m)) (m-set .1) .0)
+    numbers-set s (neither _ _ (opens .0) .0) .1
 
 -- a verdict does not refuse by k
 abbrev pub Unlike : ℕ → Verdict → Type 0

@@ -33,9 +33,13 @@ misset m = either (ltb m 1) (ltb mostProcessors m)
 abbrev pub unsuited : Policy → ℕ → Bool
 unsuited p m = both (isOneCore p) (not (eqb m 1))
 
--- what 2 is given for in a call with settings; Ask 5: "q = 0 is refused by 2"
+-- what 2 is given for whatever the policy; Ask 5: "q = 0 is refused by 2"
+abbrev pub missetNumbers : Settings → Bool
+missetNumbers s = either (misset (s .m)) (eqb (s .notch) 0)
+
+-- what 2 is given for in a call that asks for a policy
 abbrev pub missetUnder : Settings → Bool
-missetUnder s = either (misset (s .m)) (either (eqb (s .notch) 0) (unsuited (meant (s .policy)) (s .m)))
+missetUnder s = either (missetNumbers s) (unsuited (meant (s .policy)) (s .m))
 
 -- 2 and 3, for any kind of table: something is misset, more tasks than there may be
 unfoldable pub gate : Bool → ℕ → Verdict

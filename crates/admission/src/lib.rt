@@ -11,7 +11,7 @@ ghost use Rattle.ground.specs.Choice.{both};
 ghost use Rattle.kinds.specs.Policy.{isFirstFit};
 ghost use Rattle.springs.specs.Columns.{columns};
 ghost use Rattle.springs.specs.Handover.{Roomy};
-ghost use Rattle.admission.specs.Admission.{andThen, knows, misset, unsuited, missetUnder, gate, served, roomy, gateOf};
+ghost use Rattle.admission.specs.Admission.{andThen, knows, misset, missetNumbers, unsuited, missetUnder, gate, served, roomy, gateOf};
 ghost use Rattle.admission.specs.Handover.{AdmittedSprung};
 
 // The policy's own refusal: 1 where it is none of those numbered, 15 where it is withdrawn.
@@ -38,6 +38,16 @@ pub fn misset(m: u16) -> bool
     Settings::MOST_PROCESSORS < m
 }
 
+// What refusal 2 is given for in a call with settings, whatever the policy.
+pub fn misset_numbers(settings: Settings) -> bool
+    ensures { λ r. ⌜ r ≡ missetNumbers settings ⌝ }
+{
+    if misset(settings.m) {
+        return true;
+    }
+    settings.notch == 0
+}
+
 // Whether policy 5, which needs one processor, is asked for on another number of them.
 fn unsuited(policy: Policy, m: u16) -> bool
     ensures { λ r. ⌜ r ≡ unsuited policy m ⌝ }
@@ -45,14 +55,11 @@ fn unsuited(policy: Policy, m: u16) -> bool
     policy.is_one_core() && m != 1
 }
 
-// What refusal 2 is given for in a call with settings.
+// What refusal 2 is given for in a call that asks for a policy.
 pub fn misset_under(settings: Settings) -> bool
     ensures { λ r. ⌜ r ≡ missetUnder settings ⌝ }
 {
-    if misset(settings.m) {
-        return true;
-    }
-    if settings.notch == 0 {
+    if misset_numbers(settings) {
         return true;
     }
     let asked = settings.policy;
