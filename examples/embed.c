@@ -1,4 +1,5 @@
-/* Fills in bench case K from C, seven tasks on three processors by first fit, and runs a release clock with its periods. */
+/* Fills in bench case K from C, seven tasks on three processors by first fit, checks its processors at other steps as a planner's proposal,
+   and runs a release clock with its periods. */
 #include <stdio.h>
 #include "eelbasket.h"
 
@@ -13,6 +14,16 @@ static struct eelbasket_clock release(struct eelbasket_clock clock, uint32_t tic
     }
     printf("\n");
     return clock;
+}
+
+/* Prints what the checker says of a proposal at a step. */
+static void check(const struct eelbasket_task *tasks, struct eelbasket_station station, uint32_t step, const uint16_t *proposal) {
+    uint32_t loads[3];
+    struct eelbasket_verdict told = eelbasket_check_proposal(tasks, 7, station, step, proposal, 7, loads, 3);
+    if (told.number != 0)
+        printf("at step %u these processors are refused by %u at %zu\n", step, told.number, told.place);
+    else
+        printf("at step %u these processors have loads %u, %u, %u\n", step, loads[0], loads[1], loads[2]);
 }
 
 int main(void) {
@@ -30,6 +41,9 @@ int main(void) {
     }
     printf("step %u\n", told.step);
     for (int i = 0; i < 7; i++) printf("task %d: period %u on processor %u\n", i, periods[i], processors[i]);
+    check(tasks, station, told.step, processors);
+    check(tasks, station, 7, processors);  /* where first fit fails */
+    check(tasks, station, 4, processors);
     told = eelbasket_quick(tasks, 7, station, periods, 7, processors, 7);
     printf("the quick finder is refused by %u: it does not serve policy 4\n", told.number);
     struct eelbasket_margin margin = eelbasket_margin(tasks, 7, (struct eelbasket_station){.policy = 1, .m = 3, .w = 0, .q = 1}, 0);

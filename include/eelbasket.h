@@ -6,11 +6,12 @@
  *
  *   No.  Given exactly when                                                Place
  *    1   the policy is not 1 to 5                                          0
- *    2   there are no processors, or more than 16 (policy 5: than 1),      0
- *        or q is 0 (where a station is asked)
+ *    2   there are no processors, or more than 16 (policy 5, asked of a    0
+ *        finder or the margin: than 1), or q is 0 (where a station is asked)
  *    3   there are more than 32 tasks                                      the count (reading s settings: 2 + 2s, import: 32)
  *    4   policy 4, asked of the quick finder or the margin                 0
- *    5   a lent output holds fewer entries, rows or bytes than needed      how many are needed
+ *    5   a lent output holds fewer entries, rows or bytes than needed,     how many are needed
+ *        or a proposal fewer entries
  *    6   a record is not good, such as one with C + 2w above Tmin,         the first such record, from 0
  *        or with a Tmin or Tmax that is no multiple of q
  *    7   no step from 0 to full compression passes                         0
@@ -18,6 +19,8 @@
  *    9   the settings count is not 2 to 4                                  0
  *   10   the result count is neither 0 nor the task count                  where it stands (writing: 0)
  *   11   there are bytes after the last section                            the first of them
+ *   13   a proposal's processor is not 1 to m                              the first such task, from 0
+ *   14   a proposal loads a processor above S, which is 1,000,000 parts    the lowest such processor, from 1
  *   15   policy 3, which is withdrawn: in the place of 1                   0
  *   16   a line of a text is bad                                           the first such line, from 0
  *   17   a clock's period is 0 or above 1,000,000,000                      the first such task, from 0
@@ -49,6 +52,9 @@ struct eelbasket_station { uint16_t policy, m, w, q; };
 /* What a finder tells. The plain finder makes no looks. */
 struct eelbasket_told { uint32_t number, step, looks; size_t place; };
 
+/* What a check tells. */
+struct eelbasket_verdict { uint32_t number; size_t place; };
+
 /* What the margin tells: the right side of the policy's test minus the left. */
 struct eelbasket_margin { uint32_t number; size_t place; int64_t margin; };
 
@@ -62,6 +68,16 @@ struct eelbasket_told eelbasket_quick(const struct eelbasket_task *rows, size_t 
 
 /* The margin at any step, for policies 1, 2 and 5. Refusals 1 or 15, 2, 3, 4, 6. */
 struct eelbasket_margin eelbasket_margin(const struct eelbasket_task *rows, size_t tasks, struct eelbasket_station station, uint32_t step);
+
+/* ---- A planner's proposal ---- */
+
+/* Whether a processor proposed for each task is from 1 to m, and the shares at any step load no processor above S, whoever made the
+ * proposal. The m loads, which add up to the sum of the shares, are written where it is accepted. The policy is not looked at, nor are
+ * entries of the proposal past the tasks. Refusals 2, 3, 5 (the proposal has fewer entries than there are tasks, then the output fewer
+ * than m), 6, 13, 14. */
+struct eelbasket_verdict eelbasket_check_proposal(const struct eelbasket_task *rows, size_t tasks, struct eelbasket_station station,
+                                                  uint32_t step, const uint16_t *proposal, size_t proposal_len,
+                                                  uint32_t *loads, size_t loads_len);
 
 /* ---- Jobs that need several cores ---- */
 
@@ -97,9 +113,6 @@ struct eelbasket_reading { uint32_t number; size_t place; struct eelbasket_sheet
 
 /* What a call tells that hands over rows or bytes: how many it wrote. */
 struct eelbasket_counted { uint32_t number; size_t place, count; };
-
-/* What a check tells. */
-struct eelbasket_verdict { uint32_t number; size_t place; };
 
 /* A part of one of two sheets: which (0 the standing, 1 the proposed one), from which place on, and how many bytes. */
 struct eelbasket_part { uint32_t which; size_t place, size; };

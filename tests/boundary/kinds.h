@@ -7,6 +7,7 @@ void answer_plain(void);
 void answer_quick(void);
 void answer_margin(void);
 void answer_wide(void);
+void answer_proposal(void);
 
 /* on sheets */
 void answer_read(void);

@@ -1,4 +1,4 @@
-/* The calls on tables: kinds 1 to 3 and 8. */
+/* The calls on tables: kinds 1 to 3, 8 and 13. */
 #include "answer.h"
 #include "eelbasket.h"
 #include "fault.h"
@@ -6,6 +6,8 @@
 #include "lend.h"
 #include "stream.h"
 #include "tasks.h"
+
+enum { MOST_PROPOSED = 255 };
 
 typedef struct eelbasket_told finder(const struct eelbasket_task *, size_t, struct eelbasket_station, uint32_t *, size_t, uint16_t *,
                                      size_t);
@@ -68,6 +70,26 @@ void answer_margin(void) {
     struct eelbasket_margin told = eelbasket_margin(lend_tasks(tasks), tasks, station, step);
     put_verdict(told.number, told.place);
     put_number((uint64_t)told.margin, 8);
+}
+
+static const uint16_t *lend_proposal(size_t entries) {
+    static uint16_t proposal[MOST_PROPOSED];
+    for (size_t i = 0; i < entries; i++) proposal[i] = (uint16_t)take_number(2);
+    return lend_to_read("the proposal", proposal, entries * sizeof *proposal);
+}
+
+void answer_proposal(void) {
+    struct eelbasket_station station = take_settings().station;
+    size_t tasks = (size_t)take_number(2);
+    uint32_t step = (uint32_t)take_number(4);
+    size_t proposal_len = (size_t)take_number(1);
+    size_t loads_len = (size_t)take_number(1);
+    const struct eelbasket_task *rows = lend_tasks(tasks);
+    const uint16_t *proposal = lend_proposal(proposal_len);
+    uint32_t *loads = lend_to_write("the loads", loads_len * sizeof *loads, NUMBER_BEFORE);
+    struct eelbasket_verdict told = eelbasket_check_proposal(rows, tasks, station, step, proposal, proposal_len, loads, loads_len);
+    put_verdict(told.number, told.place);
+    for (size_t i = 0; i < loads_len; i++) put_number(loads[i], 4);
 }
 
 static const struct eelbasket_wide_task *lend_wide_tasks(size_t count) {

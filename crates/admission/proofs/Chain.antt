@@ -55,7 +55,7 @@ gate-opens test n e =
     let set = unchecked _ _ _ e in
     (set .0, ltb-false _ _ (unchecked _ _ _ (set .1) .0))
 
-set-few : (m n : ℕ) → misset m ≡ false → n ≤ mostTasks → Few m n
+pub set-few : (m n : ℕ) → misset m ≡ false → n ≤ mostTasks → Few m n
 set-few m n set few =
     let m-is = neither _ _ set in
     record { m-some = ltb-false _ _ (m-is .0); m-most = ltb-false _ _ (m-is .1); few = few }

@@ -12,11 +12,14 @@ use Rattle.kinds.specs.Task.{at, tableOf}
 use Rattle.plan.specs.Plan.{outcome}
 use Rattle.quick.proofs.Promises.{looks-agree}
 use Rattle.kinds.proofs.Records.{table-at}
-use Rattle.rows.proofs.Bridge.{outcome-over}
+use Rattle.proposal.specs.Proposal as proposal
+use Rattle.rows.proofs.Bridge.{outcome-over, proposal-over}
 use Rattle.office.proofs.Answers.{handed-same, after-same}
 use Rattle.told.specs.declared.Told.{Told}
+use Rattle.told.specs.declared.verdicts.ToldVerdict.{ToldVerdict}
 use Rattle.told_sheets.specs.declared.ToldCount.{ToldCount}
 use Rattle.told.specs.Told.{ToldMeets, ToldLooked}
+use Rattle.told.specs.Verdicts.{ToldProposal}
 use Rattle.told_sheets.specs.Texts.{ToldExports}
 
 module _ (s : Settings) (rows : List Task) (periods processors : List ℕ) (r : Told) (ps qs : List ℕ) where
@@ -34,6 +37,11 @@ module _ (s : Settings) (rows : List Task) (periods processors : List ℕ) (r : 
         count = x .count ∙ looks-agree s (tableOf rows .rows) rows (length rows) (λ few i _. table-at rows few i) (min (length periods) (length processors));
         few = x .few;
       }
+
+pub told-proposal-over : (s : Settings) (rows : List Task) (k : ℕ) (proposed old : List ℕ) (r : ToldVerdict) (loads : List ℕ)
+    → ToldProposal (proposal.outcome s (tableOf rows .rows) (length rows) k proposed old) r loads
+    → ToldProposal (proposal.outcome s rows (length rows) k proposed old) r loads
+told-proposal-over s rows k proposed old r loads x = rw (← proposal-over s rows k proposed old) x
 
 pub told-exports-over : (rows : List Task) (old : List ℕ) (r : ToldCount) (new : List ℕ)
     → ToldExports (tableOf rows .rows) (length rows) old r new → ToldExports rows (length rows) old r new

@@ -8,6 +8,8 @@ use Rattle.told.proofs.Told as T
 use Rattle.told.proofs.Told.Laws as T′
 use Rattle.told.proofs.ToldMargin as M
 use Rattle.told.proofs.ToldMargin.Laws as M′
+use Rattle.told.proofs.verdicts.ToldVerdict as W
+use Rattle.told.proofs.verdicts.ToldVerdict.Laws as W′
 use Rattle.told_sheets.proofs.ToldCount as N
 use Rattle.told_sheets.proofs.ToldCount.Laws as N′
 
@@ -19,6 +21,9 @@ told = of-struct T.the-type T′.the-laws T′.lowers T′.the-plain (λ x f. re
 
 abbrev pub told-margin : Valued M.the-row
 told-margin = of-struct M.the-type M′.the-laws M′.lowers M′.the-plain (λ x f. refl)
+
+abbrev pub told-verdict : Valued W.the-row
+told-verdict = of-struct W.the-type W′.the-laws W′.lowers W′.the-plain (λ x f. refl)
 
 abbrev pub told-count : Valued N.the-row
 told-count = of-struct N.the-type N′.the-laws N′.lowers N′.the-plain (λ x f. refl)

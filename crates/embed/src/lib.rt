@@ -8,14 +8,17 @@ use kinds::Task;
 use told::Station;
 use told::Told;
 use told::ToldMargin;
+use told::verdicts::ToldVerdict;
 use wide_task::WideTask;
 ghost use mathlib.Core.Bool.{true};
 ghost use mathlib.Core.Path.{_≡_};
 ghost use lib.ListN.{length};
 ghost use Rattle.plan.specs.Plan.{outcome};
 ghost use Rattle.margin.specs.Margin.{marginHanded};
+ghost use Rattle.proposal.specs.Proposal as checker;
 ghost use Rattle.wide.specs.Wide as wide;
 ghost use Rattle.told.specs.Told.{settingsOf, toldMargin, ToldMeets, ToldLooked};
+ghost use Rattle.told.specs.Verdicts.{ToldProposal};
 
 // The plain finder over lent records.
 #[no_mangle]
@@ -52,6 +55,22 @@ pub extern "C" fn eelbasket_margin(rows: &[Task], station: Station, step: u32) -
     ensures { λ r. ⌜ toldMargin r ≡ marginHanded (settingsOf station) (now (rows .entry)) (length (now (rows .entry))) step ⌝ }
 {
     told::margin_told(rows::gather(rows), station, step)
+}
+
+// The checker of a proposal over lent records, at any step.
+#[no_mangle]
+pub extern "C" fn eelbasket_check_proposal(
+    rows: &[Task],
+    station: Station,
+    step: u32,
+    proposal: &[u16],
+    loads: &mut [u32],
+) -> ToldVerdict
+    ensures { λ r. ⌜ ToldProposal
+        (checker.outcome (settingsOf station) (now (rows .entry)) (length (now (rows .entry))) step (now (proposal .entry)) (now (loads .entry)))
+        r (now (loads .exit)) ⌝ }
+{
+    told::verdicts::check_proposal_told(rows::gather(rows), station, step, proposal, loads)
 }
 
 // The finder for tasks that need several cores, over lent records.

@@ -1,9 +1,9 @@
 // Station sheets, exported. Contracts cite the definitions of `told`.
+use told::verdicts::ToldVerdict;
 use told_sheets::StationSheet;
 use told_sheets::ToldCount;
 use told_sheets::ToldPart;
 use told_sheets::ToldReading;
-use told_sheets::ToldVerdict;
 ghost use mathlib.Core.Path.{_≡_};
 ghost use lib.ListN.{length};
 ghost use Rattle.sheet.specs.Reading.{readSheet};
@@ -11,7 +11,8 @@ ghost use Rattle.writer.specs.Writing.{writeSheet, afterWrite};
 ghost use Rattle.fill.specs.Fill.{planned, counted, afterFill};
 ghost use Rattle.filled_sheet.specs.Checked.{checked};
 ghost use Rattle.change_over.specs.ChangeOver.{changeOver};
-ghost use Rattle.told_sheets.specs.Sheets.{sheetOf, inNumbers, toldReading, ToldCounts, toldVerdict, toldPart};
+ghost use Rattle.told.specs.Verdicts.{toldVerdict};
+ghost use Rattle.told_sheets.specs.Sheets.{sheetOf, inNumbers, toldReading, ToldCounts, toldPart};
 
 // Reads a station sheet.
 #[no_mangle]

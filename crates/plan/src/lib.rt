@@ -59,7 +59,7 @@ fn write_periods(
 }
 
 // Writes the first n of some processors, and nothing past them.
-fn write_front(from: [u16; Table::MOST_TASKS], n: usize, out: &mut [u16])
+pub fn write_front(from: [u16; Table::MOST_TASKS], n: usize, out: &mut [u16])
     requires { ⌜ (n ≤ mostTasks) × (n ≤ length (now out)) ⌝ }
     ensures { λ _. ⌜ now (out .exit) ≡ listTo (λ (i : ℕ). getD from i 0) n ++ drop n (now (out .entry)) ⌝ }
 {

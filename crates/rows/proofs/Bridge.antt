@@ -13,6 +13,8 @@ use Rattle.plan.specs.Plan.{outcome}
 use Rattle.plan.proofs.Outcomes.{outcome-same}
 use Rattle.margin.specs.Margin.{marginHanded}
 use Rattle.margin.proofs.Margins.{margin-handed-same}
+use Rattle.proposal.specs.Proposal as proposal
+use Rattle.proposal.proofs.Calls as calls
 use Rattle.quick.specs.declared.Looked.{Looked}
 use Rattle.quick.specs.Looked.{MeetsLooked}
 use Rattle.quick.proofs.Promises.{meets-looked-same}
@@ -30,3 +32,8 @@ pub meets-looked-over : (s : Settings) (rows : List Task) (periods processors : 
     → MeetsLooked s (tableOf rows .rows) (length rows) periods processors r ps qs → MeetsLooked s rows (length rows) periods processors r ps qs
 meets-looked-over s rows periods processors r ps qs x =
     meets-looked-same s (tableOf rows .rows) rows (length rows) (λ few i _. table-at rows few i) periods processors r ps qs x
+
+pub proposal-over : (s : Settings) (rows : List Task) (k : ℕ) (proposed loads : List ℕ)
+    → proposal.outcome s (tableOf rows .rows) (length rows) k proposed loads ≡ proposal.outcome s rows (length rows) k proposed loads
+proposal-over s rows k proposed loads =
+    calls.outcome-same s (tableOf rows .rows) rows (length rows) k proposed loads (λ few i _. table-at rows few i)

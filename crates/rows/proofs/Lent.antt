@@ -3,12 +3,12 @@
 -- To add a thin call:
 --  1. Write it as `core(gather(rows), ..)`, the other parameters in the core's order, and nothing else in the body. The core has no `requires`, and one `ensures`.
 --     The call's `ensures` is the core's, with `length (now (rows .entry))` for `table .n` and `at (now (rows .entry))` for `at (table .rows)`.
---  2. Its shape has a letter for each parameter after the rows: v by value, m a `&mut` slice of numbers. `walk` has the law of a shape in a file of its own, as `ThinVmm`.
+--  2. Its shape has a letter for each parameter after the rows: v by value, s a `&` slice of numbers, m a `&mut` one. `walk` has the law of a shape in a file of its own, as `ThinVmm`.
 --  3. Copy `proofs/CALL/Proof.antt` of a call of that shape, and change
 --       the core: the three lines `use Rattle.CRATE.proofs.NAME ..`, and `code.calls-CRATE·NAME`, where `_` is written `-`
 --           (for a core of this very crate the three lines are `use Rattle.rows.proofs.NAME ..`);
 --       the call: the four lines `use Rattle.rows.proofs.CALL ..`, `CALL-spec` twice, and `CALL.clauses`;
---       the types, after `gathered ..`: the result's, then those of the values in their order (`of-uint w32` for a number), then the widths of the `&mut` slices;
+--       the types, after `gathered ..`: the result's, then those of the values in their order (`of-uint w32` for a number), then the widths of the slices;
 --       `tells`: `id⊢ 𝓤 _` where the core's promise names no record of the table, else `fact-to 𝓤` of `Bridge`'s `table-says` at each part that does.
 --  4. A type that `Values` does not have gets two `use` lines and one definition there: `of-struct` for a struct, as `looked`, or `of-enum`, as `answer`.
 --     A type of another crate is `Rattle.CRATE.proofs.TYPE`, one of this crate `Rattle.rows.proofs.TYPE`.

@@ -12,6 +12,8 @@ use Rattle.kinds.proofs.Table as T
 use Rattle.kinds.proofs.Table.Laws as T′
 use Rattle.kinds.proofs.Task as P
 use Rattle.kinds.proofs.Task.Laws as P′
+use Rattle.kinds.proofs.Verdict as W
+use Rattle.kinds.proofs.Verdict.Laws as W′
 use Rattle.quick.proofs.Looked as L
 use Rattle.quick.proofs.Looked.Laws as L′
 
@@ -29,6 +31,9 @@ answer = of-enum A.the-type A′.the-laws tt A′.lowers A′.the-plain (λ x f.
 
 abbrev pub margin : Valued M.the-row
 margin = of-enum M.the-type M′.the-laws tt M′.lowers M′.the-plain (λ x f. refl)
+
+abbrev pub verdict : Valued W.the-row
+verdict = of-enum W.the-type W′.the-laws tt W′.lowers W′.the-plain (λ x f. refl)
 
 abbrev pub looked : Valued L.the-row
 looked = of-struct L.the-type L′.the-laws L′.lowers L′.the-plain (λ x f. refl)

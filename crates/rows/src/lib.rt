@@ -12,11 +12,13 @@ ghost use Rattle.kinds.specs.Task.{tableOf, tableWith};
 ghost use Rattle.plan.specs.Plan.{outcome, Meets};
 ghost use Rattle.quick.specs.Looked.{MeetsLooked};
 ghost use Rattle.margin.specs.Margin.{marginHanded};
+ghost use Rattle.proposal.specs.Proposal as checker;
 use kinds::Answer;
 use kinds::Margin;
 use kinds::Settings;
 use kinds::Table;
 use kinds::Task;
+use kinds::Verdict;
 use quick::Looked;
 
 // How many of n rows a table takes.
@@ -83,4 +85,19 @@ pub fn margin_at(rows: &[Task], settings: Settings, step: u32) -> Margin
     ensures { λ r. ⌜ handedMargin r ≡ marginHanded settings (now (rows .entry)) (length (now (rows .entry))) step ⌝ }
 {
     margin::margin_at(gather(rows), settings, step)
+}
+
+// The checker of a proposal over lent rows, at any step.
+pub fn check_proposal(
+    rows: &[Task],
+    settings: Settings,
+    step: u32,
+    proposal: &[u16],
+    loads: &mut [u32],
+) -> Verdict
+    ensures { λ r. ⌜ checker.Meets
+        (checker.outcome settings (now (rows .entry)) (length (now (rows .entry))) step (now (proposal .entry)) (now (loads .entry)))
+        r (now (loads .exit)) ⌝ }
+{
+    proposal::check(gather(rows), settings, step, proposal, loads)
 }

@@ -35,20 +35,21 @@ pub fn answer(answer: Answer) {
     }
 }
 
-fn periods(n: usize, periods: &[u32; LENT]) {
-    words(b" periods");
+// Periods, or loads, after their name, up to entry n.
+pub fn amounts(name: &[u8], n: usize, amounts: &[u32; LENT]) {
+    words(name);
     let mut i: usize = 0;
     while i < LENT {
         if n < i {
             return;
         }
-        number(periods[i]);
+        number(amounts[i]);
         i += 1;
     }
 }
 
-// Processors, or core counts, after their name.
-fn counts(name: &[u8], n: usize, counts: &[u16; LENT]) {
+// Processors, or core counts, after their name, up to entry n.
+pub fn counts(name: &[u8], n: usize, counts: &[u16; LENT]) {
     words(name);
     let mut i: usize = 0;
     while i < LENT {
@@ -62,6 +63,6 @@ fn counts(name: &[u8], n: usize, counts: &[u16; LENT]) {
 
 // Both outputs of a finder asked of n tasks.
 pub fn outputs(name: &[u8], n: usize, granted: &[u32; LENT], placed: &[u16; LENT]) {
-    periods(n, granted);
+    amounts(b" periods", n, granted);
     counts(name, n, placed);
 }

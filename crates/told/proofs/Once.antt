@@ -6,13 +6,16 @@ use mathlib.Core.Path.{_≡_, sym, _∙_}
 use lib.IntN.{ℤ}
 use Rattle.kinds.specs.declared.Task.{Task}
 use Rattle.kinds.specs.declared.Settings.{Settings}
-use Rattle.kinds.specs.Answer.{Handed}
+use Rattle.kinds.specs.Answer.{Handed, NumberAndPlace}
 use Rattle.plan.specs.Plan.{Outcome}
+use Rattle.proposal.specs.Proposal as proposal
 use Rattle.told.specs.declared.Told.{Told}
 use Rattle.told.specs.declared.ToldMargin.{ToldMargin}
 use Rattle.told.specs.declared.clocked.ToldStart.{ToldStart}
 use Rattle.told.specs.Told.{toldHanded, toldMargin, ToldMeets, ToldLooked}
+use Rattle.told.specs.declared.verdicts.ToldVerdict.{ToldVerdict}
 use Rattle.told.specs.Clocked.{toldStart}
+use Rattle.told.specs.Verdicts.{toldVerdict, ToldProposal}
 use Rattle.clock.specs.declared.Clock.{Clock}
 
 -- number, place, step and looks
@@ -38,3 +41,11 @@ told-margin-one h r q a b = let e = a ∙ sym b in λ i. record { number = e i .
 
 pub told-start-one : (h : Handed Clock) (r q : ToldStart) → toldStart r ≡ h → toldStart q ≡ h → r ≡ q
 told-start-one h r q a b = let e = a ∙ sym b in λ i. record { number = e i .number; place = e i .place; clock = e i .value }
+
+pub told-verdict-one : (h : NumberAndPlace) (r q : ToldVerdict) → toldVerdict r ≡ h → toldVerdict q ≡ h → r ≡ q
+told-verdict-one h r q a b = let e = a ∙ sym b in λ i. record { number = e i .number; place = e i .place }
+
+-- the checker of a proposal
+pub told-proposal-one : (o : proposal.Outcome) (r q : ToldVerdict) (loads other : List ℕ) → ToldProposal o r loads → ToldProposal o q other
+    → (r ≡ q) × (loads ≡ other)
+told-proposal-one o r q loads other a b = (told-verdict-one (o .handed) r q (a .answers) (b .answers), a .leaves ∙ sym (b .leaves))

@@ -3,18 +3,14 @@
 use Prim.Native.Nat.{ℕ}
 use mathlib.Core.List.{List}
 use mathlib.Core.Path.{_≡_, sym, _∙_}
-use Rattle.kinds.specs.Answer.{Handed, NumberAndPlace}
+use Rattle.kinds.specs.Answer.{Handed}
 use Rattle.told_sheets.specs.declared.StationSheet.{StationSheet}
 use Rattle.told_sheets.specs.declared.ToldReading.{ToldReading}
 use Rattle.told_sheets.specs.declared.ToldCount.{ToldCount}
-use Rattle.told_sheets.specs.declared.ToldVerdict.{ToldVerdict}
-use Rattle.told_sheets.specs.Sheets.{toldReading, toldCount, ToldCounts, toldVerdict}
+use Rattle.told_sheets.specs.Sheets.{toldReading, toldCount, ToldCounts}
 
 pub told-reading-one : (h : Handed StationSheet) (r q : ToldReading) → toldReading r ≡ h → toldReading q ≡ h → r ≡ q
 told-reading-one h r q a b = let e = a ∙ sym b in λ i. record { number = e i .number; place = e i .place; sheet = e i .value }
-
-pub told-verdict-one : (h : NumberAndPlace) (r q : ToldVerdict) → toldVerdict r ≡ h → toldVerdict q ≡ h → r ≡ q
-told-verdict-one h r q a b = let e = a ∙ sym b in λ i. record { number = e i .number; place = e i .place }
 
 -- what is written, filled in, imported or exported, with its output
 pub told-count-one : {A : Type 0} (h : Handed ℕ) (after : List A) (r q : ToldCount) (new other : List A)

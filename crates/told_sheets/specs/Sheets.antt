@@ -5,14 +5,13 @@ use mathlib.Core.List.{List}
 use mathlib.Core.Path.{_≡_}
 use Rattle.kinds.specs.declared.Sheet.{Sheet}
 use Rattle.kinds.specs.Policy.{policyNumber}
-use Rattle.kinds.specs.Answer.{Handed, NumberAndPlace}
+use Rattle.kinds.specs.Answer.{Handed}
 use Rattle.change_over.specs.declared.Which.{Which}
 use Rattle.change_over.specs.declared.Which.the-variants.{Standing, Proposed}
 use Rattle.change_over.specs.declared.Part.{Part}
 use Rattle.told_sheets.specs.declared.StationSheet.{StationSheet}
 use Rattle.told_sheets.specs.declared.ToldReading.{ToldReading}
 use Rattle.told_sheets.specs.declared.ToldCount.{ToldCount}
-use Rattle.told_sheets.specs.declared.ToldVerdict.{ToldVerdict}
 use Rattle.told_sheets.specs.declared.ToldPart.{ToldPart}
 use Rattle.told.specs.Told.{settingsOf}
 
@@ -43,9 +42,6 @@ toldCount r = record { number = r .number; place = r .place; value = r .count }
 pub record ToldCounts {A : Type 0} (h : Handed ℕ) (after : List A) (r : ToldCount) (new : List A) : Type 0 where
   pub answers : toldCount r ≡ h
   pub leaves : new ≡ after
-
-abbrev pub toldVerdict : ToldVerdict → NumberAndPlace
-toldVerdict r = record { number = r .number; place = r .place; value = tt }
 
 -- the two lent sheets as numbers
 abbrev pub numberOfSheet : Which → ℕ

@@ -6,17 +6,18 @@ use kinds::Counted;
 use kinds::Results;
 use kinds::Sheet;
 use kinds::Table;
-use kinds::Verdict;
 use told::Station;
+use told::verdicts::ToldVerdict;
 ghost use mathlib.Core.Path.{_≡_};
 ghost use lib.ListN.{length};
-ghost use Rattle.kinds.specs.Answer.{handedVerdict, handedCount};
+ghost use Rattle.kinds.specs.Answer.{handedCount};
 ghost use Rattle.sheet.specs.Reading.{readSheet};
 ghost use Rattle.writer.specs.Writing.{writeSheet, afterWrite};
 ghost use Rattle.fill.specs.Fill.{planned, counted, afterFill};
 ghost use Rattle.filled_sheet.specs.Checked.{checked};
 ghost use Rattle.change_over.specs.ChangeOver.{changeOver};
-ghost use Rattle.told_sheets.specs.Sheets.{sheetOf, numbersOf, inNumbers, toldReading, toldCount, ToldCounts, toldVerdict, toldPart};
+ghost use Rattle.told.specs.Verdicts.{toldVerdict};
+ghost use Rattle.told_sheets.specs.Sheets.{sheetOf, numbersOf, inNumbers, toldReading, toldCount, ToldCounts, toldPart};
 
 // A sheet in numbers: how many numbers its settings section has, and its sections.
 #[repr(C)]
@@ -41,13 +42,6 @@ pub struct ToldCount {
     pub number: u32,
     pub place: usize,
     pub count: usize,
-}
-
-// Number and place.
-#[repr(C)]
-pub struct ToldVerdict {
-    pub number: u32,
-    pub place: usize,
 }
 
 // A part of the standing sheet, 0, or of the proposed one, 1: where it starts, and how many bytes it has.
@@ -114,22 +108,6 @@ pub fn tell_count(counted: Counted) -> ToldCount
     }
 }
 
-// A verdict in numbers.
-fn tell_verdict(verdict: Verdict) -> ToldVerdict
-    ensures { λ r. ⌜ toldVerdict r ≡ handedVerdict verdict ⌝ }
-{
-    match verdict {
-        Verdict::Accepted => ToldVerdict {
-            number: 0,
-            place: 0,
-        },
-        Verdict::Refused(refusal) => ToldVerdict {
-            number: refusal.number() as u32,
-            place: refusal.place(),
-        },
-    }
-}
-
 // Reads a station sheet.
 pub fn read_told(bytes: &[u8]) -> ToldReading
     ensures { λ r. ⌜ toldReading r ≡ inNumbers (readSheet (now (bytes .entry))) ⌝ }
@@ -137,7 +115,7 @@ pub fn read_told(bytes: &[u8]) -> ToldReading
     let reading = sheet::read(bytes);
     let verdict = reading.verdict;
     let x = reading.sheet;
-    let told = tell_verdict(verdict);
+    let told = told::verdicts::tell_verdict(verdict);
     let sheet = numbers_of(x);
     ToldReading {
         number: told.number,
@@ -164,7 +142,7 @@ pub fn fill_told(bytes: &[u8], out: &mut [u8; sheet::LONGEST]) -> ToldCount
 pub fn check_told(bytes: &[u8]) -> ToldVerdict
     ensures { λ r. ⌜ toldVerdict r ≡ checked (now (bytes .entry)) ⌝ }
 {
-    tell_verdict(filled_sheet::check(bytes))
+    told::verdicts::tell_verdict(filled_sheet::check(bytes))
 }
 
 // Which part of which sheet the change-over answers.

@@ -3,6 +3,7 @@ pub mod Thin
 pub mod ThinM
 pub mod ThinVmm
 pub mod ThinVv
+pub mod ThinVvsm
 pub mod Item
 pub mod Tabled
 pub mod GatherRows

@@ -2,7 +2,7 @@
 --     Valued R         what a walk asks of a type that is passed by value or returned.        of-struct, of-enum, of-uint     a declared struct, a declared enum, a number
 --     ends-with        how a walk ends, with the promise in front.        fact-to      from fact to fact, for a promise that is one
 --     Gather, Gathers, Gathered        the signature of `gather`, what is asked of its contract, and all that a thin call takes of it
--- The law for each list of parameters is a file of its own, as `ThinVmm`: v for a value, m for a `&mut` slice of numbers. `scripts/thin-law` prints it.
+-- The law for each list of parameters is a file of its own, as `ThinVmm`: v for a value, s for a `&` slice of numbers, m for a `&mut` one. `scripts/thin-law` prints it.
 -- Assumes `Given` where a model is named.
 -- names that a thin call's proof takes from here
 pub use base.Logic.{id⊢, emp}

@@ -1,6 +1,6 @@
 //! The answer that document 01 gives to a call, in the bytes of the answer stream.
 
-use crate::call::{Call, Exporting, Rooms, Table, WideTable, Writing};
+use crate::call::{Call, Exporting, Proposing, Rooms, Table, WideTable, Writing};
 use crate::definition::change_over::{change_over, Which};
 use crate::definition::checked::{check, told};
 use crate::definition::finder::{plain, quick};
@@ -8,6 +8,7 @@ use crate::definition::kinds::{Record, Refusal, Sheet};
 use crate::definition::margin::margin;
 use crate::definition::office::{export, import};
 use crate::definition::program::program;
+use crate::definition::proposal::check_proposal;
 use crate::definition::reader::read;
 use crate::definition::wide::find_wide;
 use crate::definition::writer::write;
@@ -159,6 +160,16 @@ fn export_answer(exporting: &Exporting) -> Vec<u8> {
     bytes
 }
 
+fn proposal_answer(proposing: &Proposing) -> Vec<u8> {
+    let Proposing { table, step, proposal, room } = proposing;
+    let mut loads = vec![PERIOD_SENTINEL; usize::from(*room)];
+    let answer = check_proposal(&table.question(), *step, proposal, &mut loads);
+    let mut bytes = Vec::new();
+    put_verdict(&mut bytes, &answer);
+    put_outputs(&mut bytes, &loads, &[]);
+    bytes
+}
+
 /// The answer's bytes, without their length.
 pub fn answer(call: &Call) -> Vec<u8> {
     match call {
@@ -174,5 +185,6 @@ pub fn answer(call: &Call) -> Vec<u8> {
         Call::Clock(run) => run.answer(),
         Call::Import { entries, text } => import_answer(*entries, text),
         Call::Export(exporting) => export_answer(exporting),
+        Call::Proposal(proposing) => proposal_answer(proposing),
     }
 }

@@ -63,6 +63,15 @@ pub struct Exporting {
     pub rows: Vec<Record>,
 }
 
+/// A planner's proposal, a processor for each task of a table at a step, and the entries of the lent output for the loads.
+#[derive(Clone, Debug, PartialEq, Eq)]
+pub struct Proposing {
+    pub table: Table,
+    pub step: u32,
+    pub proposal: Vec<u16>,
+    pub room: u8,
+}
+
 #[derive(Clone, Debug, PartialEq, Eq)]
 pub enum Call {
     Plain(Table, Rooms),
@@ -77,10 +86,11 @@ pub enum Call {
     Clock(Run),
     Import { entries: u8, text: Vec<u8> },
     Export(Exporting),
+    Proposal(Proposing),
 }
 
 /// The names of the kinds of call, from kind 1.
-pub const KIND_NAMES: [&str; 12] = [
+pub const KIND_NAMES: [&str; 13] = [
     "plain finder",
     "quick finder",
     "margin",
@@ -93,6 +103,7 @@ pub const KIND_NAMES: [&str; 12] = [
     "release clock",
     "import",
     "export",
+    "proposal",
 ];
 
 /// The rows or results that the stream has of a count.
@@ -246,6 +257,14 @@ fn put_writing(bytes: &mut Vec<u8>, writing: &Writing) {
     put_results(bytes, &writing.results);
 }
 
+fn put_proposing(bytes: &mut Vec<u8>, proposing: &Proposing) {
+    proposing.table.put_head(bytes);
+    bytes.extend(proposing.step.to_le_bytes());
+    bytes.extend([proposing.proposal.len() as u8, proposing.room]);
+    put_rows(bytes, &proposing.table.rows);
+    bytes.extend(proposing.proposal.iter().flat_map(|processor| processor.to_le_bytes()));
+}
+
 impl Call {
     pub fn kind(&self) -> u8 {
         match self {
@@ -261,6 +280,7 @@ impl Call {
             Call::Clock(..) => 10,
             Call::Import { .. } => 11,
             Call::Export(..) => 12,
+            Call::Proposal(..) => 13,
         }
     }
 
@@ -296,6 +316,7 @@ impl Call {
                 bytes.extend(exporting.room.to_le_bytes());
                 put_rows(&mut bytes, &exporting.rows);
             }
+            Call::Proposal(proposing) => put_proposing(&mut bytes, proposing),
         }
         bytes
     }

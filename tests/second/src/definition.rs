@@ -12,6 +12,7 @@ pub mod margin;
 pub mod office;
 pub mod policy;
 pub mod program;
+pub mod proposal;
 pub mod reader;
 pub mod share;
 pub mod wide;

@@ -8,13 +8,15 @@ pub mod edges_of_clock;
 mod edges_of_finders;
 mod edges_of_notches;
 pub mod edges_of_office;
+mod edges_of_proposals;
 mod edges_of_sheets;
 mod edges_of_swaps;
 pub mod edges_of_wide;
 mod mix;
 mod office_texts;
+pub mod proposals;
 pub mod sheets;
-mod tables;
+pub mod tables;
 mod wide_tables;
 
 use crate::call::Call;
@@ -36,6 +38,7 @@ impl Calls {
         fixed.extend(edges_of_checked::calls());
         fixed.extend(edges_of_clock::calls());
         fixed.extend(edges_of_office::calls());
+        fixed.extend(edges_of_proposals::calls());
         Calls { seed, fixed }
     }
 

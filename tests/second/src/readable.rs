@@ -102,6 +102,12 @@ pub fn call_text(call: &Call) -> String {
                 text.push_str(&record_line(index, row));
             }
         }
+        Call::Proposal(proposing) => {
+            text.push_str(&table_lines(&proposing.table));
+            let _ =
+                writeln!(text, "  at step {}, proposed {:?}", proposing.step, proposing.proposal);
+            let _ = writeln!(text, "  room: {} loads", proposing.room);
+        }
     }
     text
 }
@@ -241,6 +247,11 @@ fn fields_text(call: &Call, answer: &[u8]) -> Option<String> {
             let verdict = fields.verdict()?;
             let written = fields.number(2)?;
             format!("{verdict}  written {written} bytes\n{}", fields.buffer(exporting.room)?)
+        }
+        Call::Proposal(proposing) => {
+            let verdict = fields.verdict()?;
+            let loads = fields.entries(proposing.room, 4, u64::from(PERIOD_SENTINEL))?;
+            format!("{verdict}  loads: {loads}\n")
         }
         Call::Program(_) => program_text(fields.take(answer.len())?),
         Call::Check(_) => {

@@ -4,6 +4,7 @@ mod bench;
 mod clock;
 mod finders;
 mod office;
+mod proposals;
 mod sheets;
 mod stream;
 mod wide;

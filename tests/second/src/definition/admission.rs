@@ -1,4 +1,5 @@
-//! The checks 1 to 6 that stand before every search, "the lowest number first"; Ask 8's 15 stands in the place of 1.
+//! The checks 1 to 6 that stand before every search, "the lowest number first"; Ask 8's 15 stands in the place of 1. Those that Ask 7's
+//! checker has too stand by themselves.
 
 use super::kinds::{refuse, Policy, Record, Refusal, MOST_PROCESSORS, MOST_TASKS};
 use super::share::{springs, Spring};
@@ -28,6 +29,26 @@ pub enum Serves {
     FormulasOnly,
 }
 
+/// Refuses by 2 more than so many processors, none, and no notch.
+pub fn admit_settings(question: &Question, most: u16) -> Result<(), Refusal> {
+    if question.m == 0 || question.m > most {
+        return refuse(2, 0);
+    }
+    // Ask 5: "q = 0 is refused by 2"
+    if question.q == 0 {
+        return refuse(2, 0);
+    }
+    Ok(())
+}
+
+/// Refuses by 6 the first record that is not good.
+pub fn admit_rows(question: &Question) -> Result<(), Refusal> {
+    match question.rows.iter().position(|row| !row.is_good(question.w, question.q)) {
+        Some(first) => refuse(6, first),
+        None => Ok(()),
+    }
+}
+
 /// Refuses by 1 or 15, then by 2 to 6 in this order; `rooms` are the entries of the lent outputs.
 pub fn admit(question: &Question, serves: Serves, rooms: &[usize]) -> Result<(), Refusal> {
     let policy = question.policy.meaning();
@@ -40,13 +61,7 @@ pub fn admit(question: &Question, serves: Serves, rooms: &[usize]) -> Result<(),
     }
     // Ask 1's policy "needs m = 1 (otherwise refusal 2)"
     let most = if policy == Policy::OneCoreRm { 1 } else { MOST_PROCESSORS };
-    if question.m == 0 || question.m > most {
-        return refuse(2, 0);
-    }
-    // Ask 5: "q = 0 is refused by 2"
-    if question.q == 0 {
-        return refuse(2, 0);
-    }
+    admit_settings(question, most)?;
     if question.count > MOST_TASKS {
         return refuse(3, question.count);
     }
@@ -56,8 +71,5 @@ pub fn admit(question: &Question, serves: Serves, rooms: &[usize]) -> Result<(),
     if rooms.iter().any(|room| *room < question.count) {
         return refuse(5, question.count);
     }
-    match question.rows.iter().position(|row| !row.is_good(question.w, question.q)) {
-        Some(first) => refuse(6, first),
-        None => Ok(()),
-    }
+    admit_rows(question)
 }

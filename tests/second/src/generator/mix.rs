@@ -2,6 +2,7 @@
 
 use super::clock_runs::random_run;
 use super::office_texts;
+use super::proposals;
 use super::sheets::{damaged, overlong, random_results, random_sheet, SETTINGS_COUNTS};
 use super::tables::{
     crossing, exact, exact_first_fit, general, huge, pay_swaps, set_notches, spoil, telling_step,
@@ -26,18 +27,19 @@ pub fn random_call(random: &mut Random, index: usize) -> Call {
         return long_scan(random);
     }
     match random.between(0, 99) {
-        0..=20 => plain(random),
-        21..=41 => quick(random),
-        42..=53 => margin(random),
-        54..=59 => Call::Read(sheet(random)),
-        60..=65 => Call::Write(writing(random)),
-        66..=73 => Call::ChangeOver { standing: sheet(random), proposed: sheet(random) },
-        74..=79 => Call::Program(sheet(random)),
-        80..=84 => Call::Check(checked_sheet(random)),
-        85..=89 => Call::Clock(random_run(random)),
-        90..=93 => several_cores(random),
-        94..=97 => office_texts::import(random),
-        _ => office_texts::export(random),
+        0..=18 => plain(random),
+        19..=37 => quick(random),
+        38..=48 => margin(random),
+        49..=54 => Call::Read(sheet(random)),
+        55..=60 => Call::Write(writing(random)),
+        61..=67 => Call::ChangeOver { standing: sheet(random), proposed: sheet(random) },
+        68..=73 => Call::Program(sheet(random)),
+        74..=78 => Call::Check(checked_sheet(random)),
+        79..=83 => Call::Clock(random_run(random)),
+        84..=87 => several_cores(random),
+        88..=90 => office_texts::import(random),
+        91..=92 => office_texts::export(random),
+        _ => proposal(random),
     }
 }
 
@@ -65,6 +67,18 @@ fn several_cores(random: &mut Random) -> Call {
     let table = random_wide(random);
     let rooms = rooms(random, table.rows.len());
     Call::Wide(table, rooms)
+}
+
+/// A proposal for a table of any policy, at which the checker does not look; first-fit tables come often, since theirs nearly fit.
+fn proposal(random: &mut Random) -> Call {
+    let number = random.pick(&[0, 1, 2, 3, 4, 5, 65535]);
+    if random.one_in(4) {
+        return Call::Proposal(proposals::filled_up(random, number));
+    }
+    let numbers: &[u16] = if random.one_in(3) { &EVERY } else { &[4] };
+    let mut table = table(random, numbers);
+    table.settings.number = number;
+    Call::Proposal(proposals::for_table(random, table))
 }
 
 fn margin(random: &mut Random) -> Call {

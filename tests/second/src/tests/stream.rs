@@ -2,7 +2,7 @@
 
 use super::HALF_SPRING;
 use crate::answer::answer;
-use crate::call::{framed, Call, Rooms, Settings, Table, Writing, MOST_PAYLOAD};
+use crate::call::{framed, Call, Proposing, Rooms, Settings, Table, Writing, MOST_PAYLOAD};
 use crate::clock_run::MOST_CALLS;
 use crate::definition::kinds::Record;
 use crate::generator::Calls;
@@ -65,6 +65,25 @@ fn a_reading_has_the_settings_count_w_and_q_after_m() {
 }
 
 #[test]
+fn a_proposal_and_its_answer_byte_by_byte() {
+    let table = Table {
+        settings: Settings { number: 7, further: true, m: 2, count: 9, w: 1, q: 5 },
+        count: 2,
+        rows: vec![Record { c: 4, ..HALF_SPRING }; 2],
+    };
+    let proposing = Proposing { table, step: 258, proposal: vec![2, 2, 770], room: 3 };
+    let row = [4, 0, 0, 0, 10, 0, 0, 0, 20, 0, 0, 0, 0xE8, 3, 0, 0];
+    let head = [13, 7, 0, 1, 2, 0, 9, 0, 1, 0, 5, 0, 2, 0, 2, 1, 0, 0, 3, 3];
+    let call = Call::Proposal(proposing.clone());
+    assert_eq!(call.payload(), [&head[..], &row, &row, &[2, 0, 2, 0, 2, 3]].concat());
+    // 342,000 twice is 0xA6FE0 on the second processor
+    let loads = [0, 0, 0, 0, 0xE0, 0x6F, 0x0A, 0, 0xA5, 0xA5, 0xA5, 0xA5];
+    assert_eq!(answer(&call), [&[0; 5][..], &loads].concat());
+    let early = Call::Proposal(Proposing { step: 99, ..proposing });
+    assert_eq!(answer(&early), [&[14, 2, 0, 0, 0][..], &[0xA5; 12]].concat());
+}
+
+#[test]
 fn the_rows_present_are_those_of_the_count_and_at_most_32() {
     let calls = Calls::of_seed(3);
     for index in 0..10_000 {
@@ -93,6 +112,10 @@ fn the_rows_present_are_those_of_the_count_and_at_most_32() {
                 assert!(exporting.room <= 1_500);
             }
             Call::Import { entries, .. } => assert!(entries <= 40),
+            Call::Proposal(Proposing { table, proposal, room, .. }) => {
+                assert_eq!(table.rows.len(), usize::from(table.count).min(32));
+                assert!(proposal.len() <= 40 && room <= 40);
+            }
             Call::Read(_) | Call::ChangeOver { .. } => {}
         }
     }
@@ -136,12 +159,12 @@ fn random_calls_reach_every_answer_under_policy_5() {
 #[test]
 fn the_first_10000_calls_reach_every_number_that_a_call_can_give() {
     let calls = Calls::of_seed(1);
-    let mut reached = vec![BTreeSet::new(); 13];
+    let mut reached = vec![BTreeSet::new(); 14];
     for index in 0..10_000 {
         let call = calls.call(index);
         reached[usize::from(call.kind())].insert(number_of(&call, &answer(&call)));
     }
-    let expected: [&[u8]; 12] = [
+    let expected: [&[u8]; 13] = [
         &[0, 1, 2, 3, 5, 6, 7, 15],
         &[0, 1, 2, 3, 4, 5, 6, 7, 15],
         &[0, 1, 2, 3, 4, 6, 15],
@@ -154,6 +177,7 @@ fn the_first_10000_calls_reach_every_number_that_a_call_can_give() {
         &[0, 3, 17],
         &[0, 3, 5, 16],
         &[0, 3, 5],
+        &[0, 2, 3, 5, 6, 13, 14],
     ];
     for (index, numbers) in expected.iter().enumerate() {
         assert_eq!(reached[index + 1], numbers.iter().copied().collect(), "kind {}", index + 1);

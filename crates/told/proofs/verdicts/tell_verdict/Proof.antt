@@ -1,8 +1,8 @@
--- `told_sheets::tell_verdict` meets its contract. Assumes nothing.
+-- `told::verdicts::tell_verdict` meets its contract. Assumes nothing.
 use mathlib.Core.Path.{refl}
 use borrow.Author.Needs.{needs}
-use Rattle.told_sheets.proofs.tell_verdict.Statement.{statement}
-use Rattle.told_sheets.proofs.tell_verdict.Tie as tie
+use Rattle.told.proofs.verdicts.tell_verdict.Statement.{statement}
+use Rattle.told.proofs.verdicts.tell_verdict.Tie as tie
 
 enum-told : tie.Need-enum-told
 enum-told c = search needs

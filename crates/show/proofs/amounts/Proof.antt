@@ -1,18 +1,14 @@
--- `show::periods` meets its contract. Assumes nothing.
+-- `show::amounts` meets its contract. Assumes nothing.
 use Prim.Native.Nat.{_-_, _≤_}
-use mathlib.Core.Path.{refl}
 use native.Mathlib.Omega.{arith}
-use Rattle.show.proofs.periods.Statement.{statement}
-use Rattle.show.proofs.periods.Tie as tie
+use Rattle.show.proofs.amounts.Statement.{statement}
+use Rattle.show.proofs.amounts.Tie as tie
 
 abbrev Inv-loop : tie.InvT-loop
-Inv-loop n periods i₀ i = i ≤ 33
+Inv-loop n name amounts i₀ i = i ≤ 33
 
 abbrev μ-loop : tie.MeasureT-loop
-μ-loop n periods i₀ i = 33 - i
-
-slice-aggregate-words : tie.Need-slice-aggregate-words Inv-loop μ-loop
-slice-aggregate-words c = refl
+μ-loop n name amounts i₀ i = 33 - i
 
 words-requires : tie.Need-words-requires Inv-loop μ-loop
 words-requires c κs = tt
@@ -44,13 +40,12 @@ loop-again c = omega arith
 returns-2 : tie.Need-returns-2 Inv-loop μ-loop
 returns-2 c = tt
 
-pub periods-spec : {M : Type 1} → statement M
-periods-spec =
+pub amounts-spec : {M : Type 1} → statement M
+amounts-spec =
     tie.close
     (tie.spec
     Inv-loop
     μ-loop
-    slice-aggregate-words
     words-requires
     loop-holds
     returns

@@ -1,0 +1,66 @@
+-- What the admission of a proposal has checked, and the column of loads that it leaves.
+-- Assumes nothing.
+use Prim.Native.Nat.{ℕ, _≤_}
+use mathlib.Core.List.{List}
+use mathlib.Core.Path.{_≡_}
+use borrow.Author.Tests.{ltb-false}
+use Rattle.kinds.specs.declared.Task.{Task}
+use Rattle.kinds.specs.declared.Settings.{Settings}
+use Rattle.kinds.specs.declared.Verdict.the-variants.{Accepted}
+use Rattle.share.specs.Table.{firstBad}
+use Rattle.share.proofs.Tables.{all-good}
+use Rattle.springs.specs.Columns.{Columns, springsIn}
+use Rattle.springs.specs.Handover.{AllWithin, Sprung, SharesAre}
+use Rattle.springs.proofs.Columns.{sprung-within, shares-of, held-most}
+use Rattle.policy.specs.Under.{rowsUnder}
+use Rattle.admission.specs.Admission.{andThen, missetNumbers, gate, roomy, recordsGood}
+use Rattle.admission.proofs.Chain.{Few, unchecked, then-admitted, gate-opens, numbers-set, set-few, roomy-passed}
+use Rattle.proposal.specs.Proposal.{gateOf, admission}
+use Rattle.proposal.specs.Handover.{Loaded}
+
+-- what 2, 3 and 5 have checked
+pub record Passed (s : Settings) (n proposed room : ℕ) : Type 0 where
+  pub few : Few (s .m) n
+  pub notched : 1 ≤ s .notch
+  pub entries : n ≤ proposed
+  pub roomy : s .m ≤ room
+
+pub gate-passed : (s : Settings) (n proposed room : ℕ) → gateOf s n proposed room ≡ Accepted → Passed s n proposed room
+gate-passed s n proposed room e =
+    let last = andThen (roomy n proposed) (roomy (s .m) room) in
+    let set = then-admitted (gate (missetNumbers s) n) last e in
+    let opens = gate-opens (missetNumbers s) n (set .0) in
+    let numbers = numbers-set s (opens .0) in
+    let fives = then-admitted (roomy n proposed) (roomy (s .m) room) (set .1) in
+    record {
+      few = set-few (s .m) n (numbers .0) (opens .1);
+      notched = numbers .1;
+      entries = roomy-passed n proposed (fives .0);
+      roomy = roomy-passed (s .m) room (fives .1);
+    }
+
+-- and 6
+pub record Ready (s : Settings) (rows : List Task) (n proposed room : ℕ) : Type 0 where
+  pub passed : Passed s n proposed room
+  pub none-bad : n ≤ firstBad (s .swap) (s .notch) rows n
+
+pub admitted : (s : Settings) (rows : List Task) (n proposed room : ℕ) → admission s rows n proposed room ≡ Accepted → Ready s rows n proposed room
+unfolding admission
+admitted s rows n proposed room e =
+    let a = then-admitted (gateOf s n proposed room) (recordsGood (s .swap) (s .notch) rows n) e in
+    record { passed = gate-passed s n proposed room (a .0); none-bad = ltb-false _ _ (unchecked _ _ _ (a .1) .0) }
+
+-- the springs of good records are within their limits, and a column of their shares at step k is one of the loads
+module _ (s : Settings) (rows : List Task) (n k : ℕ) (few : Few (s .m) n) (none-bad : n ≤ firstBad (s .swap) (s .notch) rows n)
+    (springs : Columns) (sprung : Sprung (rowsUnder s rows n) n springs) where
+  pub springs-within : AllWithin (springsIn springs) n
+  springs-within = sprung-within (rowsUnder s rows n) n springs sprung (all-good (s .swap) (s .notch) rows n none-bad)
+
+  pub shares-loaded : (column : List ℕ) → SharesAre (springsIn springs) n k column → Loaded s rows n k column
+  shares-loaded column h =
+      let held = shares-of (rowsUnder s rows n) n springs sprung k column h in
+      record {
+        m-most = few .m-most;
+        light = record { few = few .few; most = held-most (rowsUnder s rows n) n k column (all-good (s .swap) (s .notch) rows n none-bad) held };
+        are = held;
+      }

@@ -1,0 +1,7 @@
+pub mod Loading
+pub mod Adding
+pub mod Judging
+pub mod Admitting
+pub mod Calls
+pub mod Fitting
+pub mod Examples
