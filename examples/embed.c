@@ -31,7 +31,7 @@ int main(void) {
         {3000, 4000, 5000, 10000}, {450, 1000, 1000, 0}, {320, 1000, 1000, 0}, {350, 1000, 1000, 0},
         {300, 1000, 1000, 0},      {230, 1000, 1000, 0}, {650, 1000, 1000, 0},
     };
-    const struct eelbasket_station station = {.policy = 4, .m = 3, .w = 0, .q = 1};
+    const struct eelbasket_station station = {.policy = 4, .m = 3, .w = 0, .q = 1, .edition = 1};
     uint32_t periods[7];
     uint16_t processors[7];
     struct eelbasket_told told = eelbasket_plain(tasks, 7, station, periods, 7, processors, 7);
@@ -46,7 +46,8 @@ int main(void) {
     check(tasks, station, 4, processors);
     told = eelbasket_quick(tasks, 7, station, periods, 7, processors, 7);
     printf("the quick finder is refused by %u: it does not serve policy 4\n", told.number);
-    struct eelbasket_margin margin = eelbasket_margin(tasks, 7, (struct eelbasket_station){.policy = 1, .m = 3, .w = 0, .q = 1}, 0);
+    const struct eelbasket_station pooled = {.policy = 1, .m = 3, .w = 0, .q = 1, .edition = 1};
+    struct eelbasket_margin margin = eelbasket_margin(tasks, 7, pooled, 0);
     printf("pooled, the same tasks have a margin of %lld parts at step 0\n", (long long)margin.margin);
     struct eelbasket_started started = eelbasket_clock_start(periods, 7, 4294967290u);
     struct eelbasket_clock clock = release(started.clock, 4294967290u);

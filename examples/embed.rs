@@ -16,6 +16,7 @@ struct Station {
     m: u16,
     w: u16,
     q: u16,
+    edition: u16,
 }
 
 #[repr(C)]
@@ -100,8 +101,8 @@ fn main() {
     let first = Task { c: 3000, tmin: 4000, tmax: 5000, e: 10000 };
     let tasks = [first, rigid(450), rigid(320), rigid(350), rigid(300), rigid(230), rigid(650)];
     let (mut periods, mut processors) = ([0u32; 7], [0u16; 7]);
-    let told =
-        plain(&tasks, Station { policy: 4, m: 3, w: 0, q: 1 }, &mut periods, &mut processors);
+    let station = Station { policy: 4, m: 3, w: 0, q: 1, edition: 1 };
+    let told = plain(&tasks, station, &mut periods, &mut processors);
     println!("number {} step {} looks {} place {}", told.number, told.step, told.looks, told.place);
     println!("periods {periods:?} processors {processors:?}");
     let tick = u32::MAX - 5;

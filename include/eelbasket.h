@@ -7,7 +7,8 @@
  *   No.  Given exactly when                                                Place
  *    1   the policy is not 1 to 5                                          0
  *    2   there are no processors, or more than 16 (policy 5, asked of a    0
- *        finder or the margin: than 1), or q is 0 (where a station is asked)
+ *        finder or the margin: than 1), or q is 0 or the edition neither
+ *        1 nor 2 (where a station is asked)
  *    3   there are more than 32 tasks                                      the count (reading s settings: 2 + 2s, import: 32)
  *    4   policy 4, asked of the quick finder or the margin                 0
  *    5   a lent output holds fewer entries, rows or bytes than needed,     how many are needed
@@ -16,7 +17,7 @@
  *        or with a Tmin or Tmax that is no multiple of q
  *    7   no step from 0 to full compression passes                         0
  *    8   the sheet ends before or inside a field that is due               its length
- *    9   the settings count is not 2 to 4                                  0
+ *    9   the settings count is not 2 to 5                                  0
  *   10   the result count is neither 0 nor the task count                  where it stands (writing: 0)
  *   11   there are bytes after the last section                            the first of them
  *   13   a proposal's processor is not 1 to m                              the first such task, from 0
@@ -36,16 +37,18 @@
 
 /* The most tasks of a table, and the bytes of the longest sheet. */
 #define EELBASKET_MOST_TASKS 32
-#define EELBASKET_LONGEST_SHEET 718
+#define EELBASKET_LONGEST_SHEET 720
 
 /* A task record: cost, shortest and longest period in ticks, elasticity. It is good with a swap cost w and a notch q when 1 <= C,
  * C + 2w <= Tmin, Tmin <= Tmax <= 1,000,000,000, E <= 1,000,000, and Tmin and Tmax are multiples of q. */
 struct eelbasket_task { uint32_t c, tmin, tmax, e; };
 
 /* The policy (1 pooled, 2 global EDF, 4 first fit, 5 one-core RM; 3, global RM, is withdrawn), how many processors there are, the swap cost
- * in ticks, and the notch in ticks. Each job pays for being swapped in and out, so every C in shares and periods is read as C + 2w. Each
- * period is a multiple of q, which is 1 where every tick can be timed, and never 0. */
-struct eelbasket_station { uint16_t policy, m, w, q; };
+ * in ticks, the notch in ticks, and the edition. Each job pays for being swapped in and out, so every C in shares and periods is read as
+ * C + 2w. Each period is a multiple of q, which is 1 where every tick can be timed, and never 0. Edition 1 tests and places tasks by their
+ * shares, edition 2 by what the period granted at the step charges them, (C + 2w) * S / period rounded up; the periods and full compression
+ * go by the shares in both. */
+struct eelbasket_station { uint16_t policy, m, w, q, edition; };
 
 /* ---- The finders and the margin ---- */
 
@@ -62,7 +65,8 @@ struct eelbasket_margin { uint32_t number; size_t place; int64_t margin; };
 struct eelbasket_told eelbasket_plain(const struct eelbasket_task *rows, size_t tasks, struct eelbasket_station station,
                                       uint32_t *periods, size_t periods_len, uint16_t *processors, size_t processors_len);
 
-/* The same for policies 1, 2 and 5 in at most tasks + 1 looks, counted also where 7 is given. Refusals 1 or 15, 2, 3, 4, 5, 6, 7. */
+/* The same for policies 1, 2 and 5, with its looks, counted also where 7 is given: in edition 1 at most tasks + 1, in edition 2, where it
+ * halves the range of steps, at most 20. Refusals 1 or 15, 2, 3, 4, 5, 6, 7. */
 struct eelbasket_told eelbasket_quick(const struct eelbasket_task *rows, size_t tasks, struct eelbasket_station station,
                                       uint32_t *periods, size_t periods_len, uint16_t *processors, size_t processors_len);
 
@@ -71,10 +75,10 @@ struct eelbasket_margin eelbasket_margin(const struct eelbasket_task *rows, size
 
 /* ---- A planner's proposal ---- */
 
-/* Whether a processor proposed for each task is from 1 to m, and the shares at any step load no processor above S, whoever made the
- * proposal. The m loads, which add up to the sum of the shares, are written where it is accepted. The policy is not looked at, nor are
- * entries of the proposal past the tasks. Refusals 2, 3, 5 (the proposal has fewer entries than there are tasks, then the output fewer
- * than m), 6, 13, 14. */
+/* Whether a processor proposed for each task is from 1 to m, and the shares at any step (edition 2: the charges) load no processor above
+ * S, whoever made the proposal. The m loads, which add up to the sum of the shares (or charges), are written where it is accepted. The
+ * policy is not looked at, nor are entries of the proposal past the tasks. Refusals 2, 3, 5 (the proposal has fewer entries than there are
+ * tasks, then the output fewer than m), 6, 13, 14. */
 struct eelbasket_verdict eelbasket_check_proposal(const struct eelbasket_task *rows, size_t tasks, struct eelbasket_station station,
                                                   uint32_t step, const uint16_t *proposal, size_t proposal_len,
                                                   uint32_t *loads, size_t loads_len);
@@ -84,7 +88,7 @@ struct eelbasket_verdict eelbasket_check_proposal(const struct eelbasket_task *r
 /* A task record with a span: cost, span, shortest and longest period in ticks, elasticity. */
 struct eelbasket_wide_task { uint64_t c; uint32_t l, tmin, tmax, e; };
 
-/* The least passing step on m processors, each task's period and how many cores it takes; no looks, and neither swap cost nor notch
+/* The least passing step on m processors, each task's period and how many cores it takes; no looks, and no swap cost, notch or edition
  * counts here. Refusals 2, 3, 5, 6, 7. */
 struct eelbasket_told eelbasket_wide(const struct eelbasket_wide_task *rows, size_t tasks, uint16_t m,
                                      uint32_t *periods, size_t periods_len, uint16_t *cores, size_t cores_len);
@@ -98,9 +102,9 @@ struct eelbasket_granted { uint32_t period; uint16_t processor; };
 struct eelbasket_table { struct eelbasket_task rows[EELBASKET_MOST_TASKS]; size_t n; };
 struct eelbasket_results { struct eelbasket_granted rows[EELBASKET_MOST_TASKS]; size_t n; };
 
-/* A station sheet in numbers. The settings count says how many numbers its settings section has: the first 2, 3 or 4 of policy, m, w, q. A
- * reading keeps it, and w is 0 and q is 1 where the sheet has none. Only eelbasket_write looks at it: the finders use w and q whatever the
- * count says. */
+/* A station sheet in numbers. The settings count says how many numbers its settings section has: the first 2 to 5 of policy, m, w, q,
+ * edition. A reading keeps it, and w is 0, q is 1 and the edition 1 where the sheet has none. Only eelbasket_write looks at it: the finders
+ * use w, q and the edition whatever the count says. */
 struct eelbasket_sheet {
     size_t settings_count;
     struct eelbasket_station station;
@@ -108,7 +112,7 @@ struct eelbasket_sheet {
     struct eelbasket_results results;
 };
 
-/* What a reading tells: the sheet is all zeros, q too, where it is refused. */
+/* What a reading tells: the sheet is all zeros, q and the edition too, where it is refused. */
 struct eelbasket_reading { uint32_t number; size_t place; struct eelbasket_sheet sheet; };
 
 /* What a call tells that hands over rows or bytes: how many it wrote. */

@@ -10,6 +10,7 @@ typedef struct eelbasket_told finder(const struct eelbasket_task *rows, size_t t
    before, in a select or a maximum. */
 finder reference_multiplied, reference_select, reference_max;
 
-/* The quick finder. */
+/* The quick finder. Each of them serves both editions: edition 2 tests charges, two divisions for a task and step, and the quick finder
+   halves the range of steps. */
 finder reference_quick;
 #endif

@@ -24,6 +24,7 @@ void answer_read(void) {
     put_number(sheet->settings_count, 2);
     put_number(sheet->station.w, 2);
     put_number(sheet->station.q, 2);
+    put_number(sheet->station.edition, 2);
     put_number(sheet->table.n, 2);
     put_number(sheet->results.n, 2);
     put_tasks(sheet->table.rows, EELBASKET_MOST_TASKS);

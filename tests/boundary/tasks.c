@@ -11,6 +11,7 @@ struct settings take_settings(void) {
     settings.count = (size_t)take_number(2);
     settings.station.w = (uint16_t)take_number(2);
     settings.station.q = (uint16_t)take_number(2);
+    settings.station.edition = (uint16_t)take_number(2);
     return settings;
 }
 

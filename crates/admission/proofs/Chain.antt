@@ -24,7 +24,7 @@ use Rattle.kinds.proofs.Policies.{known-served}
 use Rattle.kinds.specs.Task.{at}
 use Rattle.share.specs.Table.{firstBad}
 use Rattle.share.proofs.Tables.{bad-same}
-use Rattle.admission.specs.Admission.{andThen, knows, misset, missetNumbers, missetUnder, gate, served, roomy, gateOf, recordsGood, admission}
+use Rattle.admission.specs.Admission.{andThen, knows, misset, noEdition, missetNumbers, missetUnder, gate, served, roomy, gateOf, recordsGood, admission}
 
 -- a verdict of a chain was refused nowhere
 pub unchecked : (test : Bool) (r : Refusal) (rest : Verdict) → check test (Refused r) rest ≡ Accepted → (test ≡ false) × (rest ≡ Accepted)
@@ -71,8 +71,8 @@ some-of x e = by-le x 0 (λ l. absurd (eqb-false x 0 e (omega arith))) (λ l. l)
 -- what 2 has checked of the settings' numbers: the processors, and that there is a notch
 pub numbers-set : (s : Settings) → missetNumbers s ≡ false → (misset (s .m) ≡ false) × (1 ≤ s .notch)
 numbers-set s e =
-    let set = neither (misset (s .m)) (eqb (s .notch) 0) e in
-    (set .0, some-of (s .notch) (set .1))
+    let set = neither (misset (s .m)) (either (eqb (s .notch) 0) (noEdition (s .edition))) e in
+    (set .0, some-of (s .notch) (neither (eqb (s .notch) 0) (noEdition (s .edition)) (set .1) .0))
 
 -- and 5
 pub roomy-passed : (n room : ℕ) → roomy n room ≡ Accepted → n ≤ room

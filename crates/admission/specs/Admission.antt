@@ -11,7 +11,7 @@ use Rattle.kinds.specs.declared.Settings.{Settings}
 use Rattle.kinds.specs.declared.Refusal.the-variants.{NoSuchPolicy, PolicyWithdrawn, NoSuchProcessors, TooManyTasks, PolicyNotServed, OutputTooShort, BadRecord}
 use Rattle.kinds.specs.declared.Verdict.{Verdict}
 use Rattle.kinds.specs.declared.Verdict.the-variants.{Accepted, Refused}
-use Rattle.kinds.specs.Limits.{mostTasks, mostProcessors}
+use Rattle.kinds.specs.Limits.{mostTasks, mostProcessors, shareEdition, chargeEdition}
 use Rattle.kinds.specs.Policy.{meant, isFirstFit, isOneCore, isWithdrawn, isFurther}
 use Rattle.kinds.specs.Answer.{check}
 use Rattle.share.specs.Table.{firstBad}
@@ -33,9 +33,13 @@ misset m = either (ltb m 1) (ltb mostProcessors m)
 abbrev pub unsuited : Policy → ℕ → Bool
 unsuited p m = both (isOneCore p) (not (eqb m 1))
 
+-- Ask 10: "settings get a fifth number, 1 or 2 ..; another number is refused by 2"
+abbrev pub noEdition : ℕ → Bool
+noEdition edition = both (not (eqb edition shareEdition)) (not (eqb edition chargeEdition))
+
 -- what 2 is given for whatever the policy; Ask 5: "q = 0 is refused by 2"
 abbrev pub missetNumbers : Settings → Bool
-missetNumbers s = either (misset (s .m)) (eqb (s .notch) 0)
+missetNumbers s = either (misset (s .m)) (either (eqb (s .notch) 0) (noEdition (s .edition)))
 
 -- what 2 is given for in a call that asks for a policy
 abbrev pub missetUnder : Settings → Bool

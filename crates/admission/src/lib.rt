@@ -11,7 +11,8 @@ ghost use Rattle.ground.specs.Choice.{both};
 ghost use Rattle.kinds.specs.Policy.{isFirstFit};
 ghost use Rattle.springs.specs.Columns.{columns};
 ghost use Rattle.springs.specs.Handover.{Roomy};
-ghost use Rattle.admission.specs.Admission.{andThen, knows, misset, missetNumbers, unsuited, missetUnder, gate, served, roomy, gateOf};
+ghost use Rattle.admission.specs.Admission.{andThen, knows, misset, noEdition, missetNumbers, unsuited, missetUnder};
+ghost use Rattle.admission.specs.Admission.{gate, served, roomy, gateOf};
 ghost use Rattle.admission.specs.Handover.{AdmittedSprung};
 
 // The policy's own refusal: 1 where it is none of those numbered, 15 where it is withdrawn.
@@ -38,6 +39,13 @@ pub fn misset(m: u16) -> bool
     Settings::MOST_PROCESSORS < m
 }
 
+// Whether there is no such edition.
+fn no_edition(edition: u16) -> bool
+    ensures { λ r. ⌜ r ≡ noEdition edition ⌝ }
+{
+    edition != Settings::SHARE_EDITION && edition != Settings::CHARGE_EDITION
+}
+
 // What refusal 2 is given for in a call with settings, whatever the policy.
 pub fn misset_numbers(settings: Settings) -> bool
     ensures { λ r. ⌜ r ≡ missetNumbers settings ⌝ }
@@ -45,7 +53,10 @@ pub fn misset_numbers(settings: Settings) -> bool
     if misset(settings.m) {
         return true;
     }
-    settings.notch == 0
+    if settings.notch == 0 {
+        return true;
+    }
+    no_edition(settings.edition)
 }
 
 // Whether policy 5, which needs one processor, is asked for on another number of them.

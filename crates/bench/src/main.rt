@@ -1,5 +1,5 @@
-// Runs bench cases A to L, and B on one core, on the finders and the margin; `stdout` has what they must give. Both outputs are lent longer than the table
-// and filled with 7 and 9, so that the entry after the last task shows whether it was written.
+// Runs bench cases A to L, B on one core and some under edition 2 on the finders and the margin; `stdout` has what they must give. Both
+// outputs are lent longer than the table and filled with 7 and 9, so that the entry after the last task shows whether it was written.
 use kinds::Answer;
 use kinds::Margin;
 use kinds::Policy;
@@ -30,17 +30,31 @@ fn run_quick(table: Table, settings: Settings) {
     show::words(b"\n");
 }
 
-fn run(name: &[u8], policy: Policy, m: u16, table: Table) {
+fn run_under(name: &[u8], settings: Settings, table: Table) {
     show::words(name);
-    let settings = Settings::new(policy, m, 0, 1);
     run_plain(table, settings);
     run_quick(table, settings);
 }
 
-// Whether the margin at a step is negative, zero or positive.
+fn run(name: &[u8], policy: Policy, m: u16, table: Table) {
+    run_under(
+        name,
+        Settings::new(policy, m, 0, 1, Settings::SHARE_EDITION),
+        table,
+    );
+}
+
 fn run_margin(policy: Policy, m: u16, table: Table, step: u32) {
+    run_margin_under(
+        Settings::new(policy, m, 0, 1, Settings::SHARE_EDITION),
+        table,
+        step,
+    );
+}
+
+// Whether the margin at a step is negative, zero or positive.
+fn run_margin_under(settings: Settings, table: Table, step: u32) {
     show::words(b"margin");
-    let settings = Settings::new(policy, m, 0, 1);
     match margin::margin_at(table, settings, step) {
         Margin::Is(x) => {
             if x < 0 {
@@ -135,6 +149,53 @@ fn one_core() {
     run(b"A, one core\n", Policy::OneCoreRm, 1, same(rigid(1), 0));
 }
 
+fn run_charged(name: &[u8], policy: Policy, m: u16, table: Table) {
+    run_under(
+        name,
+        Settings::new(policy, m, 0, 1, Settings::CHARGE_EDITION),
+        table,
+    );
+}
+
+// Ask 10: the second edition of the charge.
+fn charged() {
+    let six = Task::new(6, 10, 20, 1000);
+    run_charged(b"B, edition 2\n", Policy::Pooled, 1, same(six, 2));
+    run_charged(
+        b"D, edition 2\n",
+        Policy::Pooled,
+        1,
+        two(Task::new(6, 10, 11, 1000), Task::new(6, 10, 30, 1000)),
+    );
+    run_charged(b"E, edition 2\n", Policy::GlobalEdf, 2, same(six, 3));
+    run_charged(
+        b"I, edition 2\n",
+        Policy::Pooled,
+        1,
+        same(Task::new(1, 3, 3, 0), 3),
+    );
+    run_charged(
+        b"J, edition 2\n",
+        Policy::Pooled,
+        1,
+        same(Task::new(1, 1, 1_000_000_000, 1), 2),
+    );
+    run_charged(b"K, edition 2\n", Policy::FirstFit, 3, case_k());
+}
+
+// Its margin, notches under it, and editions that there are not.
+fn editions() {
+    let b = same(Task::new(6, 10, 20, 1000), 2);
+    let one = Settings::new(Policy::Pooled, 1, 0, 1, Settings::CHARGE_EDITION);
+    run_margin_under(one, b, 55);
+    run_margin_under(one, b, 54);
+    let notched = Settings::new(Policy::Pooled, 1, 0, 5, Settings::CHARGE_EDITION);
+    run_under(b"B, edition 2, notches of 5\n", notched, b);
+    let none = Settings::new(Policy::Pooled, 1, 0, 1, 0);
+    run_under(b"B, edition 0\n", none, b);
+    run_margin_under(Settings::new(Policy::Pooled, 1, 0, 1, 3), b, 55);
+}
+
 // The cases without a star.
 fn others() {
     run(
@@ -193,5 +254,7 @@ fn main() {
     run(b"A\n", Policy::Pooled, 1, same(rigid(1), 0));
     starred();
     one_core();
+    charged();
+    editions();
     others();
 }

@@ -11,6 +11,7 @@ use Rattle.kinds.specs.declared.Policy.{Policy}
 use Rattle.kinds.specs.declared.Policy.the-variants.{Pooled, GlobalEdf, GlobalRm}
 use Rattle.kinds.specs.declared.Verdict.the-variants.{Accepted}
 use Rattle.kinds.specs.Answer.{Handed, accepted}
+use Rattle.kinds.specs.Limits.{shareEdition}
 use Rattle.kinds.specs.Settings.{settings}
 use Rattle.kinds.specs.Task.{task, at}
 use Rattle.share.specs.Share.{saturationAt}
@@ -41,10 +42,10 @@ lent n = replicate n 7
 
 -- by the definitions that the finders promise, for a call that is admitted, where a swap costs nothing and a notch is one tick: which
 -- policies are served is no part of the bench
-unfoldable pub workedOut : Setting → Outcome
-workedOut c =
+unfoldable pub workedOutOf : ℕ → Setting → Outcome
+workedOutOf edition c =
     let n = length (c .tasks) in
-    let s = settings (c .policy) (c .m) 0 1 in
+    let s = settings (c .policy) (c .m) 0 1 edition in
     let paid = rowsUnder s (c .tasks) n in
     let handed = decided Accepted (leastUnder s (c .tasks) n) in
     record {
@@ -56,6 +57,10 @@ workedOut c =
       sharesThere = listTo (shares paid (handed .value)) n;
       marginThere = marginUnder s (c .tasks) n (handed .value);
     }
+
+-- document 01 tests the shares, which is edition 1
+abbrev pub workedOut : Setting → Outcome
+workedOut c = workedOutOf shareEdition c
 
 -- a line of the bench
 pub record Case : Type 0 where

@@ -6,7 +6,7 @@ use Rattle.ground.specs.First.{firstFrom, firstBelow}
 use Rattle.ground.specs.Least.{leastUpTo}
 use Rattle.ground.specs.Folds.{sumTo, maxTo, listTo}
 use Rattle.kinds.specs.Task.{isWithin, isGood}
-use Rattle.share.specs.Share.{shareAt, saturationAt, periodAt}
+use Rattle.share.specs.Share.{shareAt, saturationAt, periodAt, loadAt}
 use Rattle.share.specs.Table.{fullCompression, firstBad, periodsAt, pricedRows}
 use Rattle.policy.specs.Passing.{passes, leastStep}
 use Rattle.admission.specs.Admission.{gate, admission}
@@ -28,7 +28,7 @@ whole-case : filled
     ≡ 2 ∷ 0 ∷ 1 ∷ 0 ∷ 1 ∷ 0 ∷ 1 ∷ 0 ∷ 6 ∷ 0 ∷ 0 ∷ 0 ∷ 10 ∷ 0 ∷ 0 ∷ 0 ∷ 20 ∷ 0 ∷ 0 ∷ 0 ∷ 232 ∷ 3 ∷ 0 ∷ 0
     ∷ 1 ∷ 0 ∷ 10 ∷ 0 ∷ 0 ∷ 0 ∷ 0 ∷ 0 ∷ []
 unfolding
-    filled planned plannedSheet withPlan resultsOf firstFrom firstBelow leastUpTo sumTo maxTo listTo isWithin isGood shareAt saturationAt periodAt
+    filled planned plannedSheet withPlan resultsOf firstFrom firstBelow leastUpTo sumTo maxTo listTo isWithin isGood shareAt saturationAt periodAt loadAt
     fullCompression firstBad periodsAt pricedRows passes leastStep gate admission processorsAt found asked numberAt bytesOf settingsFit resultsFit
     over settingsCount taskCount resultCount sheetIn readRows readSheet taskBytes grantedBytes rowsBytes settingsBytes encode
 whole-case = refl
@@ -50,6 +50,15 @@ unfolding
     filled planned plannedSheet firstFrom firstBelow isWithin isGood firstBad gate admission found asked numberAt settingsFit resultsFit over
     settingsCount taskCount resultCount sheetIn readRows readSheet
 notch-refused = refl
+
+-- Ask 10: "another number is refused by 2": the same case with five settings, w = 0, q = 1 and edition 3
+edition-refused : filled
+    (5 ∷ 0 ∷ 1 ∷ 0 ∷ 1 ∷ 0 ∷ 0 ∷ 0 ∷ 1 ∷ 0 ∷ 3 ∷ 0 ∷ 1 ∷ 0 ∷ 6 ∷ 0 ∷ 0 ∷ 0 ∷ 10 ∷ 0 ∷ 0 ∷ 0 ∷ 20 ∷ 0 ∷ 0 ∷ 0 ∷ 232 ∷ 3 ∷ 0 ∷ 0 ∷ 0 ∷ 0 ∷ [])
+    ≡ refusalLine 2 0
+unfolding
+    filled planned plannedSheet gate admission found asked numberAt settingsFit resultsFit over settingsCount taskCount resultCount sheetIn readRows
+    readSheet
+edition-refused = refl
 
 -- `refused 8 at 1` and a newline
 one-byte : filled (2 ∷ []) ≡ 114 ∷ 101 ∷ 102 ∷ 117 ∷ 115 ∷ 101 ∷ 100 ∷ 32 ∷ 56 ∷ 32 ∷ 97 ∷ 116 ∷ 32 ∷ 49 ∷ 10 ∷ []

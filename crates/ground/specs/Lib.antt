@@ -4,3 +4,4 @@ pub mod Folds
 pub mod Padded
 pub mod First
 pub mod Least
+pub mod Halving

@@ -9,6 +9,12 @@ pub enum Step {
     Nothing,
 }
 
+// How a search for a step ended: its answer, and the looks that it made.
+pub struct Ended {
+    pub step: Step,
+    pub looks: u32,
+}
+
 // The larger of two numbers.
 pub fn larger(a: u64, b: u64) -> u64
     ensures { λ r. ⌜ r ≡ max a b ⌝ }

@@ -30,7 +30,7 @@ numbers-back l long = rw (number-back (setting l 0)) (entries l mostSettings lon
 
 -- settings come back as they were, with the policy that is meant
 pub settings-back : (s : Settings) → meant (s .policy) ≡ s .policy → settingsOf (numbersOf s) ≡ s
-settings-back s e = ap (λ (p : Policy). record { policy = p; m = s .m; swap = s .swap; notch = s .notch }) e
+settings-back s e = ap (λ (p : Policy). record { policy = p; m = s .m; swap = s .swap; notch = s .notch; edition = s .edition }) e
 
 -- and a policy that was made of a number is the one that is meant
 pub meant-of : (l : List ℕ) → meant (settingsOf l .policy) ≡ settingsOf l .policy

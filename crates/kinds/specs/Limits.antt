@@ -18,9 +18,16 @@ mostTasks = 32
 abbrev pub mostProcessors : ℕ
 mostProcessors = 16
 
--- Ask 5: a sheet has 2 to 4 settings
+-- Ask 10: a sheet has 2 to 5 settings
 abbrev pub fewestSettings : ℕ
 fewestSettings = 2
 
 abbrev pub mostSettings : ℕ
-mostSettings = 4
+mostSettings = 5
+
+-- Ask 10: the editions of the charge, "1 or 2"
+abbrev pub shareEdition : ℕ
+shareEdition = 1
+
+abbrev pub chargeEdition : ℕ
+chargeEdition = 2

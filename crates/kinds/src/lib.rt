@@ -2,10 +2,11 @@
 // each kind.
 ghost use mathlib.Core.Path.{_≡_};
 ghost use Prim.Native.Nat.{_+_, _*_, _≤_};
-ghost use Rattle.kinds.specs.Limits.{scale, longestPeriod, greatestElasticity, mostTasks, mostProcessors, fewestSettings, mostSettings};
+ghost use Rattle.kinds.specs.Limits.{scale, longestPeriod, greatestElasticity, mostTasks, mostProcessors};
+ghost use Rattle.kinds.specs.Limits.{fewestSettings, mostSettings, shareEdition, chargeEdition};
 ghost use Rattle.kinds.specs.Task.{isWithin, isOnNotch, isGood, priced, task, table};
 ghost use Rattle.kinds.specs.Policy.{policyOf, policyNumber, meant, isFirstFit, isOneCore};
-ghost use Rattle.kinds.specs.Settings.{settings, settingsOf, numbersOf};
+ghost use Rattle.kinds.specs.Settings.{settings, settingsOf, numbersOf, testsCharge};
 ghost use Rattle.kinds.specs.Refusal.{numberOf, placeOf};
 ghost use Rattle.kinds.specs.Answer.{isAccepted, stepOf};
 
@@ -195,12 +196,14 @@ impl Policy {
     }
 }
 
-// The station settings: the policy, how many processors there are, what a swap costs, and the notch of the timer wheel.
+// The station settings: the policy, how many processors there are, what a swap costs, the notch of the timer wheel, and the edition of the
+// charge.
 pub struct Settings {
     pub policy: Policy,
     pub m: u16,
     pub swap: u16,
     pub notch: u16,
+    pub edition: u16,
 }
 
 impl Settings {
@@ -209,19 +212,25 @@ impl Settings {
     // How few numbers the settings section of a sheet may have, and how many.
     pub const FEWEST: usize = 2;
 
-    pub const MOST: usize = 4;
+    pub const MOST: usize = 5;
 
     // What is filled in for each number that a sheet leaves out.
-    pub const FILL_INS: [u16; Settings::MOST] = [0, 0, 0, 1];
+    pub const FILL_INS: [u16; Settings::MOST] = [0, 0, 0, 1, 1];
 
-    pub fn new(policy: Policy, m: u16, swap: u16, notch: u16) -> Settings
-        ensures { λ r. ⌜ r ≡ settings policy m swap notch ⌝ }
+    // The editions of the charge: the first tests shares, the second charges.
+    pub const SHARE_EDITION: u16 = 1;
+
+    pub const CHARGE_EDITION: u16 = 2;
+
+    pub fn new(policy: Policy, m: u16, swap: u16, notch: u16, edition: u16) -> Settings
+        ensures { λ r. ⌜ r ≡ settings policy m swap notch edition ⌝ }
     {
         Settings {
             policy,
             m,
             swap,
             notch,
+            edition,
         }
     }
 
@@ -233,11 +242,13 @@ impl Settings {
         let m = numbers[1];
         let swap = numbers[2];
         let notch = numbers[3];
+        let edition = numbers[4];
         Settings {
             policy,
             m,
             swap,
             notch,
+            edition,
         }
     }
 
@@ -246,7 +257,14 @@ impl Settings {
         ensures { λ r. ⌜ r ≡ numbersOf self ⌝ }
     {
         let policy = self.policy;
-        [policy.number(), self.m, self.swap, self.notch]
+        [policy.number(), self.m, self.swap, self.notch, self.edition]
+    }
+
+    // Ask 10: "Edition 2 tests each policy on the charge".
+    pub fn tests_charge(self) -> bool
+        ensures { λ r. ⌜ r ≡ testsCharge self ⌝ }
+    {
+        self.edition == Settings::CHARGE_EDITION
     }
 }
 
@@ -408,4 +426,6 @@ pub fn limits()
     ensures { λ _. do ⌜ (← ⟦Settings::MOST_PROCESSORS⟧ .entry) ≡ mostProcessors ⌝ }
     ensures { λ _. do ⌜ (← ⟦Settings::FEWEST⟧ .entry) ≡ fewestSettings ⌝ }
     ensures { λ _. do ⌜ (← ⟦Settings::MOST⟧ .entry) ≡ mostSettings ⌝ }
+    ensures { λ _. do ⌜ (← ⟦Settings::SHARE_EDITION⟧ .entry) ≡ shareEdition ⌝ }
+    ensures { λ _. do ⌜ (← ⟦Settings::CHARGE_EDITION⟧ .entry) ≡ chargeEdition ⌝ }
 {}

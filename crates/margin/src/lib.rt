@@ -33,6 +33,7 @@ pub fn margin_at(table: Table, settings: Settings, step: u32) -> Margin
     let Verdict::Refused(refusal) = admission else {
         let asked = settings.policy;
         springs::shares_at(&mut shares, &least, &elasticity, n, step);
+        springs::loads_of(settings, &cost, &tmin, &mut shares, n);
         return Margin::Is(policy::margin_of(asked.meant(), settings.m, &shares, n));
     };
     Margin::Refused(refusal)

@@ -40,12 +40,12 @@ abbrev pub handedSetting : Refusal → Setting → Handed ℕ
 handedSetting refusal (Is v) = accepted v
 handedSetting refusal Bad = refused 0 refusal
 
--- the unfilled sheet of a table: it has two settings, a swap costs nothing and a notch is one tick
+-- the unfilled sheet of a table: it has two settings, a swap costs nothing, a notch is one tick and shares are tested
 abbrev pub sheetWith : ℕ → ℕ → Table → Sheet
 sheetWith policy m table =
     record {
       count = fewestSettings;
-      settings = settings (policyOf policy) m 0 1;
+      settings = settings (policyOf policy) m 0 1 1;
       table = table;
       results = record { rows = replicate mostTasks noGranted; n = 0 };
     }

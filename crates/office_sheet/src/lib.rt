@@ -43,7 +43,7 @@ fn put_unfilled(policy: u16, m: u16, table: Table, out: &mut [u8]) -> usize
     requires { ⌜ (table .n ≤ mostTasks) × (longestSheet ≤ length (now out)) ⌝ }
     ensures { λ r. ⌜ Fronts (encode (sheetWith policy m table)) (now (out .entry)) r (now (out .exit)) ⌝ }
 {
-    let settings = Settings::new(Policy::of(policy), m, 0, 1);
+    let settings = Settings::new(Policy::of(policy), m, 0, 1, Settings::SHARE_EDITION);
     let results = Results {
         rows: [Granted::NONE; Table::MOST_TASKS],
         n: 0,

@@ -19,18 +19,20 @@ use Rattle.kinds.specs.declared.Refusal.the-variants.{NoStepPasses}
 use Rattle.kinds.specs.Answer.{Handed, accepted, handed, isAccepted, stepOf, after}
 use Rattle.kinds.specs.Policy.{meant}
 use Rattle.kinds.proofs.Answers.{not-refused}
+use Rattle.kinds.specs.Task.{at}
+use Rattle.share.proofs.Charges.{load-most}
 use Rattle.share.proofs.Tables.{all-good, all-on}
-use Rattle.springs.specs.Columns.{periodIn}
-use Rattle.springs.proofs.Columns.{held-most, held-allowed, held-periods}
-use Rattle.fit.specs.Fit.{loadIn}
+use Rattle.springs.specs.Columns.{periodIn, loadBy}
+use Rattle.springs.proofs.Columns.{held-allowed, held-periods}
+use Rattle.springs.proofs.Charged.{held-loads}
 use Rattle.policy.specs.Under.{rowsUnder, loadsUnder, leastUnder}
 use Rattle.policy.proofs.Demand.{step-at}
 use Rattle.kinds.specs.declared.Verdict as verdict
 use Rattle.admission.specs.Admission.{admission}
 use Rattle.admission.proofs.Chain.{Ready, admitted, not-admitted, Unlike, admission-unlike}
-use Rattle.plan.specs.Plan.{processorOn, periodsUnder, processorsUnder, decided, periodsAfter, processorsAfter, found, outcome, Meets}
+use Rattle.plan.specs.Plan.{processorOn, processorsAt, periodsUnder, processorsUnder, decided, periodsAfter, processorsAfter, found, outcome, Meets}
 use Rattle.plan.specs.Handover.{FoundHeld, Leaves, MayGrant}
-use Rattle.plan.proofs.Processors.{held-processors, placeable}
+use Rattle.plan.proofs.Processors.{processors-same, placeable-same}
 use Rattle.plan.proofs.Writing.{written-same, step-handed}
 
 -- an acceptance was admitted, and its step is the least that passes
@@ -84,13 +86,19 @@ may-grant serves (Accepted k) s rows n a b cost tmin shares f t =
     let good = all-good (s .swap) (s .notch) rows n (g .ready .none-bad) in
     let on = all-on (s .swap) (s .notch) rows n (g .ready .none-bad) (g .ready .notched) in
     let passing = step-at (meant (s .policy)) (s .m) (loadsUnder s rows n) n _ k (g .step) .passes in
-    let light = held-most paid n k shares good (f .held t .shares-are) in
     record {
       allowed = held-allowed paid n k cost tmin shares (f .held t) (s .notch) (g .ready .notched) good on;
+      long = f .long t;
       roomy = omega (arith, p .roomy);
       placeable =
-          placeable (meant (s .policy)) (s .m) (loadsUnder s rows n) n k shares (f .held t .shares-are) b light (p .few) (p .m-most) (omega (arith, p .roomy))
-          passing;
+          placeable-same (meant (s .policy)) (s .m) (loadBy s cost tmin shares) (loadsUnder s rows n k) n (held-loads s paid n k cost tmin shares (f .held t)) b
+          (record {
+            few = p .few;
+            most = λ i l. load-most s (at paid i) (good i l) (on i l) k;
+            m-most = p .m-most;
+            roomy = omega (arith, p .roomy);
+            passing = passing;
+          });
     }
 
 -- as a finder works it out: without a step where the admission refuses, else with the least one
@@ -112,11 +120,13 @@ module _ (serves : Bool) (answer : Answer) (s : Settings) (rows : List Task) (n 
       (λ t. held-periods (rowsUnder s rows n) n (stepOf answer) cost tmin shares (f .held t) (s .notch)
       ∙ ap (periodsUnder s rows n) (step-handed answer))
 
-  processors-left : after (handed answer) (listTo (processorOn (meant (s .policy)) (s .m) (loadIn shares)) n) n processors
+  processors-left : after (handed answer) (listTo (processorOn (meant (s .policy)) (s .m) (loadBy s cost tmin shares)) n) n processors
       ≡ processorsAfter (handed answer) s rows n processors
+  unfolding processorsAt
   processors-left =
       written-same answer _ _ n processors
-      (λ t. held-processors (meant (s .policy)) (s .m) (loadsUnder s rows n) n (stepOf answer) shares (f .held t .shares-are)
+      (λ t. processors-same (meant (s .policy)) (s .m) (loadBy s cost tmin shares) (loadsUnder s rows n (stepOf answer)) n
+      (held-loads s (rowsUnder s rows n) n (stepOf answer) cost tmin shares (f .held t))
       ∙ ap (processorsUnder s rows n) (step-handed answer))
 
   pub meets : (new-periods new-processors : List ℕ)

@@ -11,15 +11,15 @@ use Rattle.ground.specs.Choice.{pick}
 use Rattle.ground.specs.Folds.{listTo}
 use Rattle.ground.proofs.Buffer.{list-at, list-cong}
 use Rattle.kinds.specs.declared.Policy.{Policy}
-use Rattle.kinds.specs.Limits.{scale, mostTasks, mostProcessors}
+use Rattle.kinds.specs.Limits.{mostTasks}
 use Rattle.kinds.specs.Policy.{isFirstFit}
 use Rattle.fit.specs.declared.Fit.{Fit}
-use Rattle.fit.specs.Fit.{loadIn, placeAt, stuckAt, fits, placesTo}
+use Rattle.fit.specs.Fit.{placeAt, stuckAt, fits, placesTo}
 use Rattle.fit.specs.Handover.{FitIs}
 use Rattle.fit.proofs.Placing.{place-same}
-use Rattle.policy.specs.Passing.{passes, passesAt}
+use Rattle.policy.specs.Passing.{passes}
 use Rattle.policy.proofs.Tests.{first-fit-passes, passes-same}
-use Rattle.plan.specs.Plan.{processorOn, processorAt, processorsAt}
+use Rattle.plan.specs.Plan.{processorOn}
 use Rattle.plan.specs.Handover.{Placeable}
 
 module _ (p : Policy) (m : ℕ) (load : ℕ → ℕ) (n : ℕ) where
@@ -37,21 +37,19 @@ module _ (p : Policy) (m : ℕ) (load : ℕ → ℕ) (n : ℕ) where
       list-cong (λ i. getD (replicate mostTasks 0) i 0) (processorOn p m load) n
       (λ i l. rw other (getD-replicate {A = ℕ} mostTasks i 0 0 (omega arith)))
 
--- a column that holds the loads of step k: the processors of it are those of step k
-module _ (p : Policy) (m : ℕ) (load : ℕ → ℕ → ℕ) (n k : ℕ) (column : List ℕ) (held : (i : ℕ) → i < n → loadIn column i ≡ load k i) where
-  pub held-processors : listTo (processorOn p m (loadIn column)) n ≡ processorsAt p m load n k
-  unfolding processorsAt
-  held-processors =
-      list-cong (processorOn p m (loadIn column)) (processorAt p m load k) n
-      (λ i l. ap (λ (x : ℕ). pick (isFirstFit p) (x + 1) 0) (place-same m (loadIn column) (load k) n held i l))
+-- processors depend on the loads of the first n tasks only
+module _ (p : Policy) (m : ℕ) (f g : ℕ → ℕ) (n : ℕ) (same : (i : ℕ) → i < n → f i ≡ g i) where
+  pub processors-same : listTo (processorOn p m f) n ≡ listTo (processorOn p m g) n
+  processors-same =
+      list-cong (processorOn p m f) (processorOn p m g) n (λ i l. ap (λ (x : ℕ). pick (isFirstFit p) (x + 1) 0) (place-same m f g n same i l))
 
-  -- and they may be written where step k passes
-  pub placeable : (room : ℕ) → ((i : ℕ) → i < n → loadIn column i ≤ scale) → n ≤ mostTasks → m ≤ mostProcessors → n ≤ room
-      → passesAt p m load n k ≡ true → Placeable p m column n room
-  placeable room most few m-most roomy passing =
+  -- and so does whether they may be written
+  pub placeable-same : (room : ℕ) → Placeable p m g n room → Placeable p m f n room
+  placeable-same room x =
       record {
-        light = record { few = few; most = most };
-        m-most = m-most;
-        roomy = roomy;
-        passing = passes-same p m (loadIn column) (load k) n held ∙ passing;
+        few = x .few;
+        most = λ i l. omega (arith, same i l, x .most i l);
+        m-most = x .m-most;
+        roomy = x .roomy;
+        passing = passes-same p m f g n same ∙ x .passing;
       }

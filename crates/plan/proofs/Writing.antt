@@ -16,8 +16,7 @@ use Rattle.kinds.specs.Answer.{handed, isAccepted, stepOf, after}
 use Rattle.kinds.specs.Policy.{meant}
 use Rattle.kinds.specs.Refusal.{numberOf}
 use Rattle.kinds.proofs.Refusals.{refusal-numbered}
-use Rattle.springs.specs.Columns.{periodIn}
-use Rattle.fit.specs.Fit.{loadIn}
+use Rattle.springs.specs.Columns.{periodIn, loadBy}
 use Rattle.plan.specs.Plan.{processorOn}
 use Rattle.plan.specs.Handover.{Leaves}
 
@@ -48,7 +47,7 @@ module _ (a : Answer) (s : Settings) (cost tmin shares : List ℕ) (n : ℕ) (pe
   periods-front = listTo (periodIn (s .notch) cost tmin shares) n
 
   abbrev processors-front : List ℕ
-  processors-front = listTo (processorOn (meant (s .policy)) (s .m) (loadIn shares)) n
+  processors-front = listTo (processorOn (meant (s .policy)) (s .m) (loadBy s cost tmin shares)) n
 
   pub leaves-refused : isAccepted a ≡ false → Leaves (handed a) s cost tmin shares n periods processors periods processors
   leaves-refused e =

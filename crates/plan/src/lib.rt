@@ -76,7 +76,7 @@ fn write_processors(
     n: usize,
     out: &mut [u16],
 )
-    requires { ⌜ Placeable policy m (now loads) n (length (now out)) ⌝ }
+    requires { ⌜ Placeable policy m (loadIn (now loads)) n (length (now out)) ⌝ }
     ensures { λ _. ⌜ now (out .exit) ≡ listTo (processorOn policy m (loadIn (now (loads .entry)))) n ++ drop n (now (out .entry)) ⌝ }
 {
     if policy.is_first_fit() {
@@ -89,13 +89,13 @@ fn write_processors(
 }
 
 // Writes what an answer grants to the two lent outputs: an accepted plan, or nothing. Costs, shortest periods and the shares of the
-// answer's step are at hand.
+// answer's step are at hand; once the periods are written, the column of the shares serves for the loads.
 pub fn grant(
     answer: Answer,
     settings: Settings,
     cost: &[u32; Table::MOST_TASKS],
     tmin: &[u32; Table::MOST_TASKS],
-    shares: &[u32; Table::MOST_TASKS],
+    shares: &mut [u32; Table::MOST_TASKS],
     n: usize,
     periods: &mut [u32],
     processors: &mut [u16],
@@ -107,6 +107,7 @@ pub fn grant(
     if answer.accepted() {
         let asked = settings.policy;
         write_periods(settings.notch, cost, tmin, shares, n, periods);
+        springs::loads_of(settings, cost, tmin, shares, n);
         write_processors(asked.meant(), settings.m, shares, n, processors);
     }
 }

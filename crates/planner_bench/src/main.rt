@@ -20,7 +20,7 @@ fn verdict(verdict: Verdict) {
 fn first_fit(table: Table, m: u16) {
     let mut periods = [7u32; LENT];
     let mut processors = [9u16; LENT];
-    let settings = Settings::new(Policy::FirstFit, m, 0, 1);
+    let settings = Settings::new(Policy::FirstFit, m, 0, 1, Settings::SHARE_EDITION);
     show::words(b"first fit");
     show::answer(plain::find(table, settings, &mut periods, &mut processors));
     show::counts(b" processors", table.n, &processors);
@@ -31,7 +31,7 @@ fn first_fit(table: Table, m: u16) {
 fn planned(table: Table, m: u16, step: u32) {
     let mut loads = [7u32; LENT];
     let mut processors = [9u16; LENT];
-    let settings = Settings::new(Policy::FirstFit, m, 0, 1);
+    let settings = Settings::new(Policy::FirstFit, m, 0, 1, Settings::SHARE_EDITION);
     show::words(b"planner at");
     show::number(step);
     verdict(checked_plan::plan_or_refuse(table, settings, step, &mut processors, &mut loads));
@@ -49,7 +49,7 @@ fn run(name: &[u8], table: Table, m: u16, step: u32) {
 // What the checker says of a proposal at a step.
 fn checked(name: &[u8], table: Table, m: u16, step: u32, proposal: &[u16]) {
     let mut loads = [7u32; LENT];
-    let settings = Settings::new(Policy::Further(0), m, 0, 1);
+    let settings = Settings::new(Policy::Further(0), m, 0, 1, Settings::SHARE_EDITION);
     show::words(name);
     verdict(proposal::check(table, settings, step, proposal, &mut loads));
     show::amounts(b" loads", m as usize, &loads);

@@ -1,5 +1,5 @@
-// The five policies over any loads: their sum and max, the two sides of a policy's test, passing and the margin. Contracts cite
-// `specs/Sides` and `specs/Passing`.
+// The five policies over any loads: their sum and max, the two sides of a policy's test, passing and the margin; and passing at a step on
+// charges. Contracts cite `specs/Sides` and `specs/Passing`.
 use kinds::Policy;
 use kinds::Share;
 use kinds::Table;
@@ -7,6 +7,7 @@ ghost use mathlib.Core.Bool.{true};
 ghost use mathlib.Core.Path.{_≡_};
 ghost use Prim.Native.Nat.{_≤_};
 ghost use lib.IntN.{subℕ};
+ghost use lib.ListN.{length};
 ghost use Rattle.ground.specs.Folds.{sumTo};
 ghost use Rattle.kinds.specs.Limits.{scale, mostTasks, mostProcessors};
 ghost use Rattle.kinds.specs.Policy.{isWeighed, Served};
@@ -14,7 +15,9 @@ ghost use Rattle.fit.specs.Fit.{loadIn};
 ghost use Rattle.fit.specs.Handover.{Loads};
 ghost use Rattle.policy.specs.Sides.{weightsOf, mostSum, left, marginOf};
 ghost use Rattle.policy.specs.Handover.{Light, SideIs, TotalIs};
-ghost use Rattle.policy.specs.Passing.{passes};
+ghost use Rattle.springs.specs.Columns.{springIn, chargesOn};
+ghost use Rattle.springs.specs.Handover.{Chargeable};
+ghost use Rattle.policy.specs.Passing.{passes, passesAt};
 
 // The test of a policy that is weighed is sum + b · max ≤ r.
 pub struct Weights {
@@ -115,6 +118,31 @@ pub fn passes_summed(
         return false;
     }
     passes(policy, m, loads, n)
+}
+
+// Whether n tasks whose springs, costs and shortest periods are in lent columns pass at step k on their charges, for which a further
+// column is lent.
+pub fn passes_charged(
+    policy: Policy,
+    m: u16,
+    notch: u16,
+    largest: &[u32; Table::MOST_TASKS],
+    least: &[u32; Table::MOST_TASKS],
+    elasticity: &[u32; Table::MOST_TASKS],
+    cost: &[u32; Table::MOST_TASKS],
+    tmin: &[u32; Table::MOST_TASKS],
+    n: usize,
+    k: u32,
+    charges: &mut [u32; Table::MOST_TASKS],
+) -> bool
+    requires { ⌜ Chargeable notch (now largest) (now least) (now elasticity) (now cost) (now tmin) n × (length (now charges) ≡ mostTasks)
+        × (1 ≤ m) × (m ≤ mostProcessors) × Served policy ⌝ }
+    ensures { λ r. ⌜ (r ≡ passesAt policy m (chargesOn notch (now (cost .entry)) (now (tmin .entry))
+        (springIn (now (largest .entry)) (now (least .entry)) (now (elasticity .entry)))) n k)
+        × (length (now (charges .exit)) ≡ mostTasks) ⌝ }
+{
+    springs::charges_at(notch, largest, least, elasticity, cost, tmin, n, k, charges);
+    passes(policy, m, charges, n)
 }
 
 // The right side of the test minus the left, as a signed number, of a policy that is weighed.

@@ -25,8 +25,9 @@ use Rattle.kinds.specs.Refusal.{numberOf}
 use Rattle.kinds.specs.Task.{at}
 use Rattle.kinds.proofs.Answers.{verdict-one}
 use Rattle.kinds.proofs.Refusals.{refusal-numbered}
-use Rattle.share.proofs.Tables.{bad-same, priced-same}
+use Rattle.share.proofs.Tables.{bad-same}
 use Rattle.policy.specs.Under.{loadsUnder}
+use Rattle.policy.proofs.Under.{loads-same}
 use Rattle.admission.specs.Admission.{missetNumbers, gate}
 use Rattle.admission.proofs.Chain.{gate-opens, then-admitted}
 use Rattle.proposal.specs.Loads.{loadOn, loadsTo, isOutOfRange, firstOutOfRange, isOverfull, beforeOverfull, Sound}
@@ -172,7 +173,7 @@ module _ (s : Settings) (xs ys : List Task) (n k : ℕ) (proposal old : List ℕ
 
   outcome-agrees : ((i : ℕ) → i < n → at xs i ≡ at ys i) → outcome s xs n k proposal old ≡ outcome s ys n k proposal old
   unfolding outcome judged admission
-  outcome-agrees same = rw (bad-same (s .swap) (s .notch) xs ys n same, priced-same (s .swap) xs ys n same)
+  outcome-agrees same = rw (bad-same (s .swap) (s .notch) xs ys n same, loads-same s xs ys n same)
 
   -- tables that agree on the first n records are answered alike; where n is too large, any two are
   pub outcome-same : (n ≤ mostTasks → (i : ℕ) → i < n → at xs i ≡ at ys i) → outcome s xs n k proposal old ≡ outcome s ys n k proposal old

@@ -66,6 +66,7 @@ pub fn admit(
         return Verdict::Refused(Refusal::BadRecord(bad));
     }
     springs::shares_at(loads, &least, &elasticity, n, step);
+    springs::loads_of(settings, &cost, &tmin, loads, n);
     Verdict::Accepted
 }
 

@@ -1,69 +1,111 @@
--- The search on the springs of a table is the search that demand 2 asks for, under each policy that is weighed.
+-- The search on the springs of a table is the search that demand 2 asks for, under each policy that is weighed and each edition.
 -- Assumes nothing.
-use Prim.Native.Nat.{ℕ, _+_, _≤_}
-use mathlib.Core.Bool.{true, false, not}
+use Prim.Native.Nat.{ℕ, _≤_}
+use mathlib.Core.Bool.{true, false}
 use mathlib.Core.List.{List}
 use mathlib.Core.Path.{_≡_, refl, sym, ap, _∙_}
 use native.Mathlib.Omega.{arith}
+use lib.ListN.{getD}
 use Rattle.ground.specs.declared.Step.{Step}
-use Rattle.ground.specs.Choice.{both}
+use Rattle.ground.specs.declared.Ended.{Ended}
 use Rattle.ground.specs.Folds.{maxTo}
+use Rattle.ground.specs.Halving.{testsMade}
 use Rattle.ground.specs.Least.{leastUpTo}
-use Rattle.ground.proofs.Cases.{true-false}
+use Rattle.ground.proofs.Cases.{by-bool}
 use Rattle.ground.proofs.Folds.{max-cong}
+use Rattle.ground.proofs.Halving.{made-cong}
 use Rattle.ground.proofs.Least.{least-cong}
 use Rattle.kinds.specs.declared.Task.{Task}
 use Rattle.kinds.specs.declared.Policy.{Policy}
 use Rattle.kinds.specs.declared.Settings.{Settings}
+use Rattle.kinds.specs.declared.Verdict as verdict
 use Rattle.kinds.specs.Policy.{isWeighed, meant}
+use Rattle.kinds.specs.Settings.{testsCharge}
 use Rattle.kinds.specs.Task.{at}
 use Rattle.share.specs.Share.{saturationAt}
 use Rattle.share.specs.Table.{shares, fullCompression}
+use Rattle.share.proofs.Tables.{all-good, all-on}
+use Rattle.springs.specs.Spring.{sharesOn, saturations}
+use Rattle.springs.specs.Columns.{Columns, springsIn, chargesOn}
+use Rattle.springs.specs.Handover.{Sprung}
+use Rattle.springs.proofs.Columns.{shares-are, saturations-are}
+use Rattle.springs.proofs.Charged.{loads-are}
 use Rattle.policy.specs.Sides.{weightsOf}
 use Rattle.policy.specs.Looks.{looksFor, looksOf}
-use Rattle.policy.specs.Under.{rowsUnder, loadsUnder, looksUnder}
+use Rattle.policy.specs.Under.{rowsUnder, fullUnder, loadsUnder, leastUnder, looksUnder, mostLooks}
 use Rattle.policy.specs.Passing.{passesAt, leastStep}
-use Rattle.policy.proofs.LookCount.{for-same, looks-bound}
+use Rattle.policy.proofs.LookCount.{for-same}
 use Rattle.policy.proofs.Tests.{passes-weighed, passes-same}
-use Rattle.kinds.specs.declared.Verdict as verdict
+use Rattle.policy.proofs.Under as under
+use Rattle.policy.proofs.Under.{first-least}
 use Rattle.admission.specs.Admission.{admission}
-use Rattle.springs.specs.Spring.{sharesOn, saturations}
-use Rattle.springs.specs.Columns.{Columns, springsIn}
-use Rattle.springs.specs.Handover.{Sprung}
+use Rattle.admission.proofs.Chain.{admitted}
 use Rattle.division.specs.Weighed.{weighed, weighedAt}
-use Rattle.springs.proofs.Columns.{shares-are, saturations-are}
-use Rattle.quick.specs.declared.Ended.{Ended}
+use Rattle.halve.specs.Halves.{HalvingEnds}
 use Rattle.quick.specs.Looked.{looksAfter, looks}
-use Rattle.quick.specs.Handover.{SearchEnds}
+use Rattle.quick.specs.Handover.{SearchEnds, SearchUnder}
 
--- a search of the first n of some records ends at the step that demand 2 asks for, with its looks
-pub record LeastFound (p : Policy) (m : ℕ) (rows : List Task) (n : ℕ) (r : Ended) : Type 0 where
-  pub least : r .step ≡ leastStep p m (shares rows) n (fullCompression rows n)
-  pub count : r .looks ≡ looksOf rows n (leastStep p m (shares rows) n (fullCompression rows n))
+-- a search of the first n of some records ends at the step that demand 2 asks for, with the looks of its edition
+pub record LeastFound (s : Settings) (rows : List Task) (n : ℕ) (r : Ended) : Type 0 where
+  pub least : r .step ≡ leastUnder s rows n
+  pub count : r .looks ≡ looksUnder s rows n
 
-module _ (p : Policy) (m : ℕ) (rows : List Task) (n : ℕ) (s : Columns) (w : Sprung rows n s) (f : isWeighed p ≡ true) where
-  -- the test on the springs is the policy's on the shares
-  test-is : (k : ℕ) → weighedAt (weightsOf p m n) (springsIn s) n k ≡ passesAt p m (shares rows) n k
+module _ (s : Settings) (rows : List Task) (n : ℕ) (c : Columns) (w : Sprung (rowsUnder s rows n) n c) (f : isWeighed (meant (s .policy)) ≡ true) where
+  abbrev p : Policy
+  p = meant (s .policy)
+
+  abbrev paid : List Task
+  paid = rowsUnder s rows n
+
+  -- under edition 1 the test on the springs is the policy's on the shares
+  test-is : (k : ℕ) → weighedAt (weightsOf p (s .m) n) (springsIn c) n k ≡ passesAt p (s .m) (shares paid) n k
   unfolding weighed
   test-is k =
-      sym (passes-weighed p m (sharesOn (springsIn s) k) n f)
-      ∙ passes-same p m (sharesOn (springsIn s) k) (shares rows k) n (λ i l. shares-are rows n s w k i l)
+      sym (passes-weighed p (s .m) (sharesOn (springsIn c) k) n f)
+      ∙ passes-same p (s .m) (sharesOn (springsIn c) k) (shares paid k) n (λ i l. shares-are paid n c w k i l)
 
-  full-is : maxTo (saturations (springsIn s)) n ≡ fullCompression rows n
+  full-is : maxTo (saturations (springsIn c)) n ≡ fullUnder s rows n
   unfolding fullCompression
-  full-is = max-cong (saturations (springsIn s)) (λ i. saturationAt (at rows i)) n (saturations-are rows n s w)
+  full-is = max-cong (saturations (springsIn c)) (λ i. saturationAt (at paid i)) n (saturations-are paid n c w)
 
-  looks-are : (step : Step) → looksFor (saturations (springsIn s)) n step ≡ looksOf rows n step
+  looks-are : (step : Step) → looksFor (saturations (springsIn c)) n step ≡ looksOf paid n step
   unfolding looksOf
-  looks-are step = for-same (saturations (springsIn s)) (λ i. saturationAt (at rows i)) n (saturations-are rows n s w) step
+  looks-are step = for-same (saturations (springsIn c)) (λ i. saturationAt (at paid i)) n (saturations-are paid n c w) step
 
-  pub least-found : (r : Ended) → SearchEnds (weighedAt (weightsOf p m n) (springsIn s) n) (saturations (springsIn s)) n r → LeastFound p m rows n r
+  first-found : (r : Ended) → testsCharge s ≡ false
+      → SearchEnds (weighedAt (weightsOf p (s .m) n) (springsIn c) n) (saturations (springsIn c)) n r → LeastFound s rows n r
   unfolding leastStep
-  least-found r e =
-      let test = passesAt p m (shares rows) n in
-      let step : r .step ≡ leastStep p m (shares rows) n (fullCompression rows n) =
-      e .least ∙ (least-cong (weighedAt (weightsOf p m n) (springsIn s) n) test _ test-is ∙ ap (leastUpTo test) full-is) in
-      record { least = step; count = e .count ∙ (looks-are (r .step) ∙ ap (looksOf rows n) step) }
+  first-found r e h =
+      let test = passesAt p (s .m) (shares paid) n in
+      let shared : r .step ≡ leastStep p (s .m) (shares paid) n (fullUnder s rows n) =
+      h .least ∙ (least-cong (weighedAt (weightsOf p (s .m) n) (springsIn c) n) test _ test-is ∙ ap (leastUpTo test) full-is) in
+      let step = shared ∙ first-least s rows n e in
+      record { least = step; count = rw e (h .count ∙ (looks-are (r .step) ∙ ap (looksOf paid n) step)) }
+
+  -- under edition 2 the loads are the charges
+  charged-is : testsCharge s ≡ true → (k : ℕ)
+      → passesAt p (s .m) (chargesOn (s .notch) (c .cost) (c .tmin) (springsIn c)) n k ≡ passesAt p (s .m) (loadsUnder s rows n) n k
+  charged-is e k =
+      passes-same p (s .m) (chargesOn (s .notch) (c .cost) (c .tmin) (springsIn c) k) (loadsUnder s rows n k) n (λ i l. rw e at (loads-are s paid n c w k i l))
+
+  column-is : maxTo (λ i. getD (c .saturation) i 0) n ≡ fullUnder s rows n
+  unfolding fullCompression
+  column-is = max-cong (λ i. getD (c .saturation) i 0) (λ i. saturationAt (at paid i)) n (w .saturates)
+
+  second-found : (r : Ended) → testsCharge s ≡ true
+      → HalvingEnds (passesAt p (s .m) (chargesOn (s .notch) (c .cost) (c .tmin) (springsIn c)) n) (maxTo (λ i. getD (c .saturation) i 0) n) r
+      → LeastFound s rows n r
+  unfolding leastStep
+  second-found r e h =
+      let charged = passesAt p (s .m) (chargesOn (s .notch) (c .cost) (c .tmin) (springsIn c)) n in
+      let test = passesAt p (s .m) (loadsUnder s rows n) n in
+      record {
+        least = h .least ∙ (least-cong charged test _ (charged-is e) ∙ ap (leastUpTo test) column-is);
+        count = rw e (h .count ∙ (made-cong charged test _ (charged-is e) ∙ ap (testsMade test) column-is));
+      }
+
+  pub least-found : (r : Ended) → SearchUnder s (springsIn c) (c .saturation) (c .cost) (c .tmin) n r → LeastFound s rows n r
+  least-found r h = by-bool (testsCharge s) (λ e. second-found r e (h .second e)) (λ e. first-found r e (h .first e))
 
 -- the looks of a call, as the code has them
 module _ (s : Settings) (rows : List Task) (n room : ℕ) (a : verdict.Verdict) (is : a ≡ admission false s rows n room) where
@@ -75,11 +117,15 @@ module _ (s : Settings) (rows : List Task) (n room : ℕ) (a : verdict.Verdict) 
   unfolding looks
   some-looks k e q = rw (← is, e) q
 
--- demand 3: at most tasks + 1
-after-few : (a : verdict.Verdict) (k n : ℕ) → k ≤ n + 1 → looksAfter a k ≤ n + 1
-after-few verdict.the-variants.Accepted k n h = h
-after-few (verdict.the-variants.Refused r) k n h = omega arith
+-- demand 3: at most tasks + 1; Ask 10: "never over 20" under edition 2
+after-few : (a : verdict.Verdict) (k most : ℕ) → (a ≡ verdict.the-variants.Accepted → k ≤ most) → looksAfter a k ≤ most
+after-few verdict.the-variants.Accepted k most h = h refl
+after-few (verdict.the-variants.Refused r) k most h = omega arith
 
-pub looks-few : (s : Settings) (rows : List Task) (n room : ℕ) → looks s rows n room ≤ n + 1
+pub looks-few : (s : Settings) (rows : List Task) (n room : ℕ) → looks s rows n room ≤ mostLooks s n
 unfolding looks
-looks-few s rows n room = after-few (admission false s rows n room) _ n (looks-bound (meant (s .policy)) (s .m) (loadsUnder s rows n) (rowsUnder s rows n) n)
+looks-few s rows n room =
+    after-few (admission false s rows n room) (looksUnder s rows n) (mostLooks s n)
+    (λ e.
+    let r = admitted false s rows n room e in
+    under.looks-few s rows n (all-good (s .swap) (s .notch) rows n (r .none-bad)) (all-on (s .swap) (s .notch) rows n (r .none-bad) (r .notched)))

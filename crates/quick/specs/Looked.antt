@@ -1,6 +1,6 @@
 -- Demand 3, whole: demand 2's outcome, and the looks, for every input.
 -- Assumes nothing.
-use Prim.Native.Nat.{ℕ, _+_, _≤_, min}
+use Prim.Native.Nat.{ℕ, _≤_, min}
 use mathlib.Core.Bool.{false}
 use mathlib.Core.List.{List}
 use mathlib.Core.Path.{_≡_}
@@ -8,7 +8,7 @@ use lib.ListN.{length}
 use Rattle.kinds.specs.declared.Task.{Task}
 use Rattle.kinds.specs.declared.Settings.{Settings}
 use Rattle.kinds.specs.Answer.{handed}
-use Rattle.policy.specs.Under.{looksUnder}
+use Rattle.policy.specs.Under.{looksUnder, mostLooks}
 use Rattle.kinds.specs.declared.Verdict.{Verdict}
 use Rattle.kinds.specs.declared.Verdict.the-variants.{Accepted, Refused}
 use Rattle.admission.specs.Admission.{admission}
@@ -28,8 +28,8 @@ pub record FoundLooked (s : Settings) (rows : List Task) (n room : ℕ) (r : Loo
   pub answers : handed (r .answer) ≡ found false s rows n room
   pub count : r .looks ≡ looks s rows n room
 
--- the whole promise: demand 2's outcome where policy 4 is not served, the looks, and their bound
+-- the whole promise: demand 2's outcome where policy 4 is not served, the looks, and their bound, n + 1 under edition 1 and 20 under edition 2
 pub record MeetsLooked (s : Settings) (rows : List Task) (n : ℕ) (oldPeriods oldProcessors : List ℕ) (r : Looked) (periods processors : List ℕ) : Type 0 where
   pub meets : Meets (outcome false s rows n oldPeriods oldProcessors) (r .answer) periods processors
   pub count : r .looks ≡ looks s rows n (min (length oldPeriods) (length oldProcessors))
-  pub few : r .looks ≤ n + 1
+  pub few : r .looks ≤ mostLooks s n

@@ -1,23 +1,25 @@
-// The quick finder: it looks at step 0, then at each distinct saturation step above 0 in rising order, until one passes; the step inside
-// the last stretch comes by division. Contracts cite `specs/Search` and `specs/Handover`; the promise of `find` is `outcome false` of
-// `plan` with the looks of `specs/Looked`.
+// The quick finder. Under edition 1 it looks at step 0, then at each distinct saturation step above 0 in rising order, until one passes; the
+// step inside the last stretch comes by division. Under edition 2 it halves the range of steps. Contracts cite `specs/Search` and
+// `specs/Handover`; the promise of `find` is `outcome false` of `plan` with the looks of `specs/Looked`.
+use ground::Ended;
 use ground::Step;
 use kinds::Answer;
 use kinds::Settings;
 use kinds::Table;
 use kinds::Verdict;
 use policy::Weights;
+ghost use mathlib.Core.Bool.{true};
 ghost use mathlib.Core.Path.{_≡_};
 ghost use Prim.Native.Nat.{_≤_};
-ghost use lib.ListN.{length};
-ghost use Rattle.kinds.specs.Limits.{mostTasks};
+ghost use Rattle.kinds.specs.Limits.{mostTasks, mostProcessors};
+ghost use Rattle.kinds.specs.Policy.{meant, isWeighed};
 ghost use Rattle.policy.specs.Handover.{Light};
 ghost use Rattle.springs.specs.Spring.{saturations};
-ghost use Rattle.springs.specs.Handover.{SumIs, AllWithin, Roomy};
+ghost use Rattle.springs.specs.Handover.{SumIs, AllWithin, Saturates, Chargeable, Roomy};
 ghost use Rattle.springs.specs.Columns.{columns, springIn};
 ghost use Rattle.division.specs.Weighed.{weighedAt};
 ghost use Rattle.quick.specs.Search.{dueAfter, OneLook};
-ghost use Rattle.quick.specs.Handover.{Searchable, SearchEnds, FoundLookedHeld, HeldAt};
+ghost use Rattle.quick.specs.Handover.{Searchable, SearchEnds, SearchUnder, FoundLookedHeld};
 ghost use Rattle.quick.specs.Looked.{FoundLooked, MeetsLooked};
 
 // What the quick finder answers, and the looks that it made.
@@ -34,12 +36,6 @@ pub struct Search {
     pub from: u32,
     pub passed: bool,
     pub sum: u64,
-}
-
-// How a search ended.
-pub struct Ended {
-    pub step: Step,
-    pub looks: u32,
 }
 
 // The periods and processors of the least passing step, written to the two lent outputs, or the refusal, which writes nothing.
@@ -71,7 +67,7 @@ pub fn find(table: Table, settings: Settings, periods: &mut [u32], processors: &
         settings,
         &cost,
         &tmin,
-        &largest,
+        &mut largest,
         n,
         periods,
         processors,
@@ -136,34 +132,62 @@ fn decide_in(
             looks,
         };
     };
-    let asked = settings.policy;
-    let w = policy::weights_of(asked.meant(), settings.m, table.n);
-    let ended = search_columns(w, largest, least, elasticity, saturation, table.n);
+    let ended = search_under(
+        settings,
+        largest,
+        least,
+        elasticity,
+        saturation,
+        cost,
+        tmin,
+        table.n,
+    );
     let step = ended.step;
-    let_down_to(step, largest, least, elasticity, table.n);
+    springs::let_down_to(step, largest, least, elasticity, table.n);
     Looked {
         answer: plan::decide(admission, step),
         looks: ended.looks,
     }
 }
 
-// Lets a column of largest shares down to those of a step, if there is one.
-fn let_down_to(
-    step: Step,
-    shares: &mut [u32; Table::MOST_TASKS],
+// The search of the settings' edition.
+fn search_under(
+    settings: Settings,
+    largest: &[u32; Table::MOST_TASKS],
     least: &[u32; Table::MOST_TASKS],
     elasticity: &[u32; Table::MOST_TASKS],
+    saturation: &[u32; Table::MOST_TASKS],
+    cost: &[u32; Table::MOST_TASKS],
+    tmin: &[u32; Table::MOST_TASKS],
     n: usize,
-)
-    requires { ⌜ (n ≤ mostTasks) × (length (now shares) ≡ mostTasks) × AllWithin (springIn (now shares) (now least) (now elasticity)) n ⌝ }
-    ensures { λ _. ⌜ HeldAt step (springIn (now (shares .entry)) (now (least .entry)) (now (elasticity .entry))) n (now (shares .exit)) ⌝ }
+) -> Ended
+    requires { ⌜ Chargeable (settings .notch) (now largest) (now least) (now elasticity) (now cost) (now tmin) n
+        × Saturates (springIn (now largest) (now least) (now elasticity)) (now saturation) n
+        × (1 ≤ settings .m) × (settings .m ≤ mostProcessors) × (isWeighed (meant (settings .policy)) ≡ true) ⌝ }
+    ensures { λ r. ⌜ SearchUnder settings (springIn (now (largest .entry)) (now (least .entry)) (now (elasticity .entry)))
+        (now (saturation .entry)) (now (cost .entry)) (now (tmin .entry)) n r ⌝ }
 {
-    if let Step::At(k) = step {
-        springs::shares_at(shares, least, elasticity, n, k);
+    let asked = settings.policy;
+    let policy = asked.meant();
+    if settings.tests_charge() {
+        return halve::least_step(
+            policy,
+            settings.m,
+            settings.notch,
+            largest,
+            least,
+            elasticity,
+            saturation,
+            cost,
+            tmin,
+            n,
+        );
     }
+    let w = policy::weights_of(policy, settings.m, n);
+    search_columns(w, largest, least, elasticity, saturation, n)
 }
 
-// One look: tests the policy at the step due, and raises the count by one.
+// One look under edition 1: tests the policy at the step due, and raises the count by one.
 fn look(
     w: Weights,
     largest: &[u32; Table::MOST_TASKS],
@@ -190,7 +214,7 @@ fn look(
     }
 }
 
-// The looks, one after the other, and the division at the end.
+// The looks of edition 1, one after the other, and the division at the end.
 fn search_columns(
     w: Weights,
     largest: &[u32; Table::MOST_TASKS],

@@ -46,6 +46,10 @@ module _ (q : ℕ) (some : 1 ≤ q) where
   pub notched-near : (t : ℕ) → notchedUp q t < t + q
   notched-near t = omega (arith, div-mul-le-self (t + (q - 1)) q)
 
+  -- a later time has no earlier notch
+  pub notched-rises : (t u : ℕ) → t ≤ u → notchedUp q t ≤ notchedUp q u
+  notched-rises t u h = notched-least t (notchedUp q u) (mul-mod-left (ceilDiv u q) q) (le-trans h (notched-from u))
+
   -- the shortest period, moved on to the next notch, is the shortest on a notch; where Tmax is on one, one always exists
   pub notched-shortest : (cost tmin tmax share t : ℕ) → tmax % q ≡ 0 → Shortest cost tmin tmax share t
       → ShortestOn q cost tmin tmax share (notchedUp q t)
@@ -57,6 +61,14 @@ module _ (q : ℕ) (some : 1 ≤ q) where
         enough = le-trans (s .enough) (mul-le-mul-left share (notched-from t));
         only = λ x m l h. notched-least t x m (s .only x l h);
       }
+
+  -- a job that comes at that period takes no more than the share that allows it
+  pub charge-high : (cost tmin s : ℕ) → 1 ≤ tmin → 1 ≤ s → partOf cost (notchedUp q (periodOf cost tmin s)) ≤ s
+  charge-high cost tmin s from p =
+      let t = periodOf cost tmin s in
+      let v : cost * scale ≤ s * ceilDiv (cost * scale) s = omega (arith, ceil-enough (cost * scale) s p, mul-comm s (ceilDiv (cost * scale) s)) in
+      let w = le-trans v (mul-le-mul-left s (le-trans (le-max-right tmin (ceilDiv (cost * scale) s)) (notched-from t))) in
+      ceil-least (cost * scale) (notchedUp q t) s (omega (arith, notched-from t)) w
 
 -- notches of one tick are document 01's whole numbers
 pub notched-one : (t : ℕ) → notchedUp 1 t ≡ t

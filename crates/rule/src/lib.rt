@@ -43,5 +43,9 @@ pub fn notched_up(notch: u16, t: u64) -> u64
     requires { ⌜ (1 ≤ notch) × (t ≤ 1000000000000000000) ⌝ }
     ensures { λ r. ⌜ r ≡ notchedUp notch t ⌝ }
 {
+    // most wheels have notches of one tick, and a division is dear
+    if notch == 1 {
+        return t;
+    }
     ground::ceil_div(t, notch as u64) * notch as u64
 }

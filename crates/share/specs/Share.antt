@@ -1,7 +1,10 @@
--- Document 01, "Numbers on a task", for a task record.
+-- Document 01, "Numbers on a task", for a task record, and what each edition tests of it.
 -- Assumes nothing.
 use Prim.Native.Nat.{ℕ}
+use Rattle.ground.specs.Choice.{pick}
 use Rattle.kinds.specs.declared.Task.{Task}
+use Rattle.kinds.specs.declared.Settings.{Settings}
+use Rattle.kinds.specs.Settings.{testsCharge}
 use Rattle.rule.specs.Rule.{partOf, shareOf, saturationOf, periodOf, notchedUp}
 
 -- the whole cost of a job, of a record whose swaps are paid for
@@ -23,3 +26,11 @@ saturationAt t = saturationOf (largestOf t) (leastOf t) (t .e)
 -- document 01's period, moved on to the next notch of q
 unfoldable pub periodAt : ℕ → Task → ℕ → ℕ
 periodAt q t k = notchedUp q (periodOf (costOf t) (t .tmin) (shareAt t k))
+
+-- Ask 10: "the charge, which is cost × S / period rounded up at that step's period"
+unfoldable pub chargeAt : ℕ → Task → ℕ → ℕ
+chargeAt q t k = partOf (costOf t) (periodAt q t k)
+
+-- what is tested and placed: under edition 2 the charge, else the share
+unfoldable pub loadAt : Settings → Task → ℕ → ℕ
+loadAt s t k = pick (testsCharge s) (chargeAt (s .notch) t k) (shareAt t k)

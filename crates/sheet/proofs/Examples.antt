@@ -56,19 +56,19 @@ whole-case : readSheet
     ≡ accepted
     (record {
       count = 2;
-      settings = record { policy = Pooled; m = 1; swap = 0; notch = 1 };
+      settings = record { policy = Pooled; m = 1; swap = 0; notch = 1; edition = 1 };
       table = record { rows = task 6 10 20 1000 ∷ replicate 31 noTask; n = 1 };
       results = record { rows = replicate 32 noGranted; n = 0 };
     })
 unfolding readSheet readRows settingsCount taskCount resultCount settingsFit numberAt resultsFit sheetIn over
 whole-case = refl
 
--- with 3 q is filled in, and with 4 all are as they stand there
+-- with 3 q and the edition are filled in, with 4 the edition, and with 5 all are as they stand there
 three-settings : readSheet (3 ∷ 0 ∷ 1 ∷ 0 ∷ 2 ∷ 0 ∷ 7 ∷ 0 ∷ 0 ∷ 0 ∷ 0 ∷ 0 ∷ [])
     ≡ accepted
     (record {
       count = 3;
-      settings = record { policy = Pooled; m = 2; swap = 7; notch = 1 };
+      settings = record { policy = Pooled; m = 2; swap = 7; notch = 1; edition = 1 };
       table = record { rows = replicate 32 noTask; n = 0 };
       results = record { rows = replicate 32 noGranted; n = 0 };
     })
@@ -79,9 +79,20 @@ four-settings : readSheet (4 ∷ 0 ∷ 1 ∷ 0 ∷ 2 ∷ 0 ∷ 7 ∷ 0 ∷ 5 ∷
     ≡ accepted
     (record {
       count = 4;
-      settings = record { policy = Pooled; m = 2; swap = 7; notch = 5 };
+      settings = record { policy = Pooled; m = 2; swap = 7; notch = 5; edition = 1 };
       table = record { rows = replicate 32 noTask; n = 0 };
       results = record { rows = replicate 32 noGranted; n = 0 };
     })
 unfolding readSheet readRows settingsCount taskCount resultCount settingsFit numberAt resultsFit sheetIn over
 four-settings = refl
+
+five-settings : readSheet (5 ∷ 0 ∷ 1 ∷ 0 ∷ 2 ∷ 0 ∷ 7 ∷ 0 ∷ 5 ∷ 0 ∷ 2 ∷ 0 ∷ 0 ∷ 0 ∷ 0 ∷ 0 ∷ [])
+    ≡ accepted
+    (record {
+      count = 5;
+      settings = record { policy = Pooled; m = 2; swap = 7; notch = 5; edition = 2 };
+      table = record { rows = replicate 32 noTask; n = 0 };
+      results = record { rows = replicate 32 noGranted; n = 0 };
+    })
+unfolding readSheet readRows settingsCount taskCount resultCount settingsFit numberAt resultsFit sheetIn over
+five-settings = refl

@@ -16,5 +16,5 @@ tasks-at s = refl
 pub end-most : (s n r : ℕ) → s ≤ mostSettings → n ≤ mostTasks → r ≤ mostTasks → endPlace s n r ≤ longestSheet
 end-most s n r a b d = omega arith
 
-pub longest-is : longestSheet ≡ 718
+pub longest-is : longestSheet ≡ 720
 longest-is = refl

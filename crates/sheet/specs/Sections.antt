@@ -51,7 +51,7 @@ endPlace c n r = grantedPlace c n + grantedSize * r
 abbrev pub longestSheet : ℕ
 longestSheet = endPlace mostSettings mostTasks mostTasks
 
--- Ask 5: "Settings counts 2 to 4 are read", and refusal 9 "says so"
+-- Ask 10: "Refusal 9 allows counts 2 to 5."
 unfoldable pub settingsFit : ℕ → Bool
 settingsFit c = both (leb fewestSettings c) (leb c mostSettings)
 

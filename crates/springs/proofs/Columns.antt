@@ -152,6 +152,32 @@ pub held-most : (rows : List Task) (n k : ℕ) (shares : List ℕ) → ((i : ℕ
     → (i : ℕ) → i < n → getD shares i 0 ≤ scale
 held-most rows n k shares good held i l = omega (arith, held i l, tasks.share-most (at rows i) (good i l) k)
 
+-- shares of no less than the least allow each task of a good table a period
+module _ (rows : List Task) (n : ℕ) (cost tmin shares : List ℕ)
+    (costs : (i : ℕ) → i < n → getD cost i 0 ≡ costOf (at rows i)) (tmins : (i : ℕ) → i < n → getD tmin i 0 ≡ at rows i .tmin)
+    (least : (i : ℕ) → i < n → leastOf (at rows i) ≤ getD shares i 0)
+    (q : ℕ) (some : 1 ≤ q) (good : (i : ℕ) → i < n → Good (at rows i)) (on : (i : ℕ) → i < n → OnNotch q (at rows i)) where
+  some-held : (i : ℕ) → i < n → 1 ≤ getD shares i 0
+  some-held i l = omega (arith, least i l, least-some (at rows i) (good i l))
+
+  period-high : (i : ℕ) → i < n → notchedUp q (periodOf (costOf (at rows i)) (at rows i .tmin) (getD shares i 0)) ≤ longestPeriod
+  period-high i l =
+      let t = at rows i in
+      let g = good i l in
+      let short = period-shortest (costOf t) (t .tmin) (t .tmax) (getD shares i 0)
+      (omega (arith, g .c-some, g .c-tmin, g .tmin-tmax)) (g .tmin-tmax) (some-held i l) (least i l) in
+      let period = periodOf (costOf t) (t .tmin) (getD shares i 0) in
+      omega (arith, notched-least q some period (t .tmax) (on i l .tmax-on) (short .high), g .tmax-most)
+
+  pub all-allowed : Allowed q cost tmin shares n
+  all-allowed =
+      record {
+        notch = some;
+        ticks = λ i l. let g = good i l in omega (arith, tmins i l, g .c-some, g .c-tmin);
+        some = some-held;
+        most = λ i l. rw (costs i l, tmins i l) (period-high i l);
+      }
+
 -- the periods of a step from columns
 module _ (rows : List Task) (n k : ℕ) (cost tmin shares : List ℕ) (h : Held rows n k cost tmin shares) where
   pub held-periods : (q : ℕ) → listTo (periodIn q cost tmin shares) n ≡ periodsAt q rows n k
@@ -160,21 +186,6 @@ module _ (rows : List Task) (n k : ℕ) (cost tmin shares : List ℕ) (h : Held 
       list-cong (periodIn q cost tmin shares) (λ i. periodAt q (at rows i) k) n
       (λ i l. rw (h .costs i l, h .tmins i l, h .shares-are i l))
 
-  module _ (q : ℕ) (some : 1 ≤ q) (good : (i : ℕ) → i < n → Good (at rows i)) (on : (i : ℕ) → i < n → OnNotch q (at rows i)) where
-    least-held : (i : ℕ) → i < n → leastOf (at rows i) ≤ getD shares i 0
-    least-held i l = omega (arith, h .shares-are i l, at-least (at rows i) k)
-
-    some-held : (i : ℕ) → i < n → 1 ≤ getD shares i 0
-    some-held i l = omega (arith, least-held i l, least-some (at rows i) (good i l))
-
-    period-high : (i : ℕ) → i < n → notchedUp q (periodOf (costOf (at rows i)) (at rows i .tmin) (getD shares i 0)) ≤ longestPeriod
-    period-high i l =
-        let t = at rows i in
-        let g = good i l in
-        let short = period-shortest (costOf t) (t .tmin) (t .tmax) (getD shares i 0)
-        (omega (arith, g .c-some, g .c-tmin, g .tmin-tmax)) (g .tmin-tmax) (some-held i l) (least-held i l) in
-        let period = periodOf (costOf t) (t .tmin) (getD shares i 0) in
-        omega (arith, notched-least q some period (t .tmax) (on i l .tmax-on) (short .high), g .tmax-most)
-
-    pub held-allowed : Allowed q cost tmin shares n
-    held-allowed = record { notch = some; some = some-held; most = λ i l. rw (h .costs i l, h .tmins i l) (period-high i l) }
+  pub held-allowed : (q : ℕ) → 1 ≤ q → ((i : ℕ) → i < n → Good (at rows i)) → ((i : ℕ) → i < n → OnNotch q (at rows i)) → Allowed q cost tmin shares n
+  held-allowed q some good on =
+      all-allowed rows n cost tmin shares (h .costs) (h .tmins) (λ i l. omega (arith, h .shares-are i l, at-least (at rows i) k)) q some good on

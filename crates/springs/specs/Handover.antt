@@ -4,15 +4,18 @@ use Prim.Native.Nat.{ℕ, _*_, _≤_, _<_}
 use mathlib.Core.List.{List}
 use mathlib.Core.Path.{_≡_}
 use lib.ListN.{length, getD}
+use Rattle.ground.specs.declared.Step.{Step}
+use Rattle.ground.specs.declared.Step.the-variants.{At}
 use Rattle.ground.specs.Folds.{sumTo}
 use Rattle.kinds.specs.declared.Task.{Task}
+use Rattle.kinds.specs.declared.Settings.{Settings}
 use Rattle.kinds.specs.Limits.{scale, greatestElasticity, longestPeriod, mostTasks}
 use Rattle.kinds.specs.Task.{at}
 use Rattle.share.specs.Share.{costOf, shareAt, saturationAt}
 use Rattle.share.specs.Table.{firstBad, pricedRows}
 use Rattle.springs.specs.declared.Spring.{Spring}
 use Rattle.springs.specs.Spring.{springOf, shareOn, saturationOn, sharesOn}
-use Rattle.springs.specs.Columns.{Columns, springsIn, periodIn}
+use Rattle.springs.specs.Columns.{Columns, springIn, springsIn, periodIn, chargeIn, loadBy, chargesOn}
 
 -- the sum of the shares at step k
 pub record SumIs (springs : ℕ → Spring) (n k sum : ℕ) : Type 0 where
@@ -37,6 +40,10 @@ pub record SharesAre (springs : ℕ → Spring) (n k : ℕ) (shares : List ℕ) 
   pub long : length shares ≡ mostTasks
   pub are : (i : ℕ) → i < n → getD shares i 0 ≡ shareOn (springs i) k
 
+-- of a step that was found, if there is one
+abbrev pub HeldAt : Step → (ℕ → Spring) → ℕ → List ℕ → Type 0
+HeldAt step springs n shares = (k : ℕ) → step ≡ At k → SharesAre springs n k shares
+
 -- a column holds the shares of the first n of some records at step k
 abbrev pub SharesOf : List Task → ℕ → ℕ → List ℕ → Type 0
 SharesOf rows n k shares = (i : ℕ) → i < n → getD shares i 0 ≡ shareAt (at rows i) k
@@ -47,11 +54,31 @@ pub record Held (rows : List Task) (n k : ℕ) (cost tmin shares : List ℕ) : T
   pub tmins : (i : ℕ) → i < n → getD tmin i 0 ≡ at rows i .tmin
   pub shares-are : SharesOf rows n k shares
 
--- there is a notch, and each of the first n has a share, and a period on a notch within the limit
+-- a column holds what is tested and placed of the first n tasks with these costs, shortest periods and shares
+abbrev pub LoadsBy : Settings → List ℕ → List ℕ → List ℕ → ℕ → List ℕ → Type 0
+LoadsBy s cost tmin shares n loads = (i : ℕ) → i < n → getD loads i 0 ≡ loadBy s cost tmin shares i
+
+-- it holds the charges of the first n tasks with these costs, shortest periods and shares
+abbrev pub ChargesBy : ℕ → List ℕ → List ℕ → List ℕ → ℕ → List ℕ → Type 0
+ChargesBy q cost tmin shares n charges = (i : ℕ) → i < n → getD charges i 0 ≡ chargeIn q cost tmin shares i
+
+-- it holds the charges of springs at step k
+pub record ChargesAre (q : ℕ) (cost tmin : List ℕ) (springs : ℕ → Spring) (n k : ℕ) (charges : List ℕ) : Type 0 where
+  pub long : length charges ≡ mostTasks
+  pub are : (i : ℕ) → i < n → getD charges i 0 ≡ chargesOn q cost tmin springs k i
+
+-- there is a notch, and each of the first n has a shortest period, a share, and a period on a notch within the limit
 pub record Allowed (q : ℕ) (cost tmin shares : List ℕ) (n : ℕ) : Type 0 where
   pub notch : 1 ≤ q
+  pub ticks : (i : ℕ) → i < n → 1 ≤ getD tmin i 0
   pub some : (i : ℕ) → i < n → 1 ≤ getD shares i 0
   pub most : (i : ℕ) → i < n → periodIn q cost tmin shares i ≤ longestPeriod
+
+-- columns hold the springs of n tasks within their limits, and costs and shortest periods to which even the least shares allow periods
+pub record Chargeable (q : ℕ) (largest least elasticity cost tmin : List ℕ) (n : ℕ) : Type 0 where
+  pub few : n ≤ mostTasks
+  pub within : AllWithin (springIn largest least elasticity) n
+  pub allowed : Allowed q cost tmin least n
 
 -- each column has room for the most tasks
 pub record Roomy (s : Columns) : Type 0 where

@@ -1,6 +1,8 @@
 // The springs of a table in lent columns of numbers, worked out once for a call, with the costs and the shortest periods; the shares of a
-// step and the periods come from them.
+// step, the periods and the charges come from them.
 // Contracts cite `specs/Spring`, of one spring, `specs/Columns` and `specs/Handover`.
+use ground::Step;
+use kinds::Settings;
 use kinds::Table;
 use kinds::Task;
 ghost use mathlib.Core.Path.{_≡_};
@@ -11,8 +13,9 @@ ghost use Rattle.kinds.specs.Limits.{scale, greatestElasticity, longestPeriod, 
 ghost use Rattle.kinds.specs.Task.{Good};
 ghost use Rattle.rule.specs.Rule.{shareOf, periodOf, notchedUp};
 ghost use Rattle.springs.specs.Spring.{springOf, saturationOn};
-ghost use Rattle.springs.specs.Handover.{Within, AllWithin, SumIs, Roomy, SprungUntil, SharesAre};
-ghost use Rattle.springs.specs.Columns.{columns, springIn};
+ghost use Rattle.springs.specs.Handover.{Within, AllWithin, SumIs, Roomy, SprungUntil, SharesAre, HeldAt, ChargesBy, LoadsBy, ChargesAre};
+ghost use Rattle.springs.specs.Handover.{Allowed, Chargeable};
+ghost use Rattle.springs.specs.Columns.{columns, springIn, chargeOn};
 
 // All that a task's shares depend on.
 pub struct Spring {
@@ -145,6 +148,22 @@ pub fn shares_at(
     }
 }
 
+// Lets a column of largest shares down to those of a step, if there is one.
+pub fn let_down_to(
+    step: Step,
+    shares: &mut [u32; Table::MOST_TASKS],
+    least: &[u32; Table::MOST_TASKS],
+    elasticity: &[u32; Table::MOST_TASKS],
+    n: usize,
+)
+    requires { ⌜ (n ≤ mostTasks) × (length (now shares) ≡ mostTasks) × AllWithin (springIn (now shares) (now least) (now elasticity)) n ⌝ }
+    ensures { λ _. ⌜ HeldAt step (springIn (now (shares .entry)) (now (least .entry)) (now (elasticity .entry))) n (now (shares .exit)) ⌝ }
+{
+    if let Step::At(k) = step {
+        shares_at(shares, least, elasticity, n, k);
+    }
+}
+
 // The period that a share allows a task with this cost and this shortest period, on a notch.
 pub fn period_on(notch: u16, cost: u32, tmin: u32, share: u32) -> u32
     requires { ⌜ (1 ≤ notch) × (1 ≤ share) × (notchedUp notch (periodOf cost tmin share) ≤ longestPeriod) ⌝ }
@@ -152,6 +171,69 @@ pub fn period_on(notch: u16, cost: u32, tmin: u32, share: u32) -> u32
 {
     let period = rule::period(ground::widened(cost), tmin, ground::widened(share));
     rule::notched_up(notch, period) as u32
+}
+
+// The charge of a task with this cost and this shortest period, at the period on a notch that a share allows.
+pub fn charge_on(notch: u16, cost: u32, tmin: u32, share: u32) -> u32
+    requires { ⌜ (1 ≤ notch) × (1 ≤ tmin) × (1 ≤ share) × (notchedUp notch (periodOf cost tmin share) ≤ longestPeriod) ⌝ }
+    ensures { λ r. ⌜ r ≡ chargeOn notch cost tmin share ⌝ }
+{
+    let period = period_on(notch, cost, tmin, share);
+    rule::part(ground::widened(cost), period) as u32
+}
+
+// Turns a column of shares into one of the charges at the periods that they allow.
+fn charges_of(
+    notch: u16,
+    cost: &[u32; Table::MOST_TASKS],
+    tmin: &[u32; Table::MOST_TASKS],
+    shares: &mut [u32; Table::MOST_TASKS],
+    n: usize,
+)
+    requires { ⌜ (n ≤ mostTasks) × (length (now shares) ≡ mostTasks) × Allowed notch (now cost) (now tmin) (now shares) n ⌝ }
+    ensures { λ _. ⌜ ChargesBy notch (now (cost .entry)) (now (tmin .entry)) (now (shares .entry)) n (now (shares .exit)) ⌝ }
+{
+    for i in 0..n {
+        shares[i] = charge_on(notch, cost[i], tmin[i], shares[i]);
+    }
+}
+
+// Turns a column of shares into one of what the settings' edition tests and places: the charges under edition 2, else the shares.
+pub fn loads_of(
+    settings: Settings,
+    cost: &[u32; Table::MOST_TASKS],
+    tmin: &[u32; Table::MOST_TASKS],
+    shares: &mut [u32; Table::MOST_TASKS],
+    n: usize,
+)
+    requires { ⌜ (n ≤ mostTasks) × (length (now shares) ≡ mostTasks) × Allowed (settings .notch) (now cost) (now tmin) (now shares) n ⌝ }
+    ensures { λ _. ⌜ LoadsBy settings (now (cost .entry)) (now (tmin .entry)) (now (shares .entry)) n (now (shares .exit)) ⌝ }
+{
+    if settings.tests_charge() {
+        charges_of(settings.notch, cost, tmin, shares, n);
+    }
+}
+
+// Writes the charges of step k, worked out of springs, costs and shortest periods, to a column of their own.
+pub fn charges_at(
+    notch: u16,
+    largest: &[u32; Table::MOST_TASKS],
+    least: &[u32; Table::MOST_TASKS],
+    elasticity: &[u32; Table::MOST_TASKS],
+    cost: &[u32; Table::MOST_TASKS],
+    tmin: &[u32; Table::MOST_TASKS],
+    n: usize,
+    k: u32,
+    charges: &mut [u32; Table::MOST_TASKS],
+)
+    requires { ⌜ Chargeable notch (now largest) (now least) (now elasticity) (now cost) (now tmin) n × (length (now charges) ≡ mostTasks) ⌝ }
+    ensures { λ _. ⌜ ChargesAre notch (now (cost .entry)) (now (tmin .entry))
+        (springIn (now (largest .entry)) (now (least .entry)) (now (elasticity .entry))) n k (now (charges .exit)) ⌝ }
+{
+    for i in 0..n {
+        let share = share_on(largest[i], least[i], elasticity[i], k);
+        charges[i] = charge_on(notch, cost[i], tmin[i], share);
+    }
 }
 
 // Document 01: "Full compression K: the greatest saturation step, 0 if there is none."

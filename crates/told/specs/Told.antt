@@ -1,6 +1,6 @@
 -- The numbers that cross to C, read as the calls' own promises.
 -- Assumes nothing.
-use Prim.Native.Nat.{ℕ, _+_, _≤_, min}
+use Prim.Native.Nat.{ℕ, _≤_, min}
 use mathlib.Core.Bool.{false}
 use mathlib.Core.List.{List}
 use mathlib.Core.Path.{_≡_}
@@ -11,6 +11,7 @@ use Rattle.kinds.specs.declared.Settings.{Settings}
 use Rattle.kinds.specs.Answer.{Handed}
 use Rattle.kinds.specs.Policy.{policyOf}
 use Rattle.kinds.specs.Settings.{settings}
+use Rattle.policy.specs.Under.{mostLooks}
 use Rattle.plan.specs.Plan.{Outcome, outcome}
 use Rattle.quick.specs.Looked.{looks}
 use Rattle.told.specs.declared.Station.{Station}
@@ -18,7 +19,7 @@ use Rattle.told.specs.declared.Told.{Told}
 use Rattle.told.specs.declared.ToldMargin.{ToldMargin}
 
 abbrev pub settingsOf : Station → Settings
-settingsOf s = settings (policyOf (s .policy)) (s .m) (s .w) (s .q)
+settingsOf s = settings (policyOf (s .policy)) (s .m) (s .w) (s .q) (s .edition)
 
 abbrev pub toldHanded : Told → Handed ℕ
 toldHanded r = record { number = r .number; place = r .place; value = r .step }
@@ -33,10 +34,10 @@ pub record ToldMeets (o : Outcome) (r : Told) (periods processors : List ℕ) : 
   pub places : processors ≡ o .processors
   pub no-looks : r .looks ≡ 0
 
--- the quick finder's promise
+-- the quick finder's promise; its looks are at most n + 1 under edition 1, and 20 under edition 2
 pub record ToldLooked (s : Settings) (rows : List Task) (n : ℕ) (oldPeriods oldProcessors : List ℕ) (r : Told) (periods processors : List ℕ) : Type 0 where
   pub answers : toldHanded r ≡ outcome false s rows n oldPeriods oldProcessors .handed
   pub grants : periods ≡ outcome false s rows n oldPeriods oldProcessors .periods
   pub places : processors ≡ outcome false s rows n oldPeriods oldProcessors .processors
   pub count : r .looks ≡ looks s rows n (min (length oldPeriods) (length oldProcessors))
-  pub few : r .looks ≤ n + 1
+  pub few : r .looks ≤ mostLooks s n

@@ -24,6 +24,7 @@ pub struct Station {
     pub m: u16,
     pub w: u16,
     pub q: u16,
+    pub edition: u16,
 }
 
 // Number, step, looks and place. A refusal's step is 0; the plain finder makes no looks.
@@ -47,7 +48,13 @@ pub struct ToldMargin {
 pub fn settings_of(station: Station) -> Settings
     ensures { λ r. ⌜ r ≡ settingsOf station ⌝ }
 {
-    Settings::new(Policy::of(station.policy), station.m, station.w, station.q)
+    Settings::new(
+        Policy::of(station.policy),
+        station.m,
+        station.w,
+        station.q,
+        station.edition,
+    )
 }
 
 // An answer in numbers, with its looks.

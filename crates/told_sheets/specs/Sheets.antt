@@ -24,7 +24,14 @@ abbrev pub numbersOf : Sheet → StationSheet
 numbersOf x =
     record {
       count = x .count;
-      station = record { policy = policyNumber (x .settings .policy); m = x .settings .m; w = x .settings .swap; q = x .settings .notch };
+      station =
+          record {
+            policy = policyNumber (x .settings .policy);
+            m = x .settings .m;
+            w = x .settings .swap;
+            q = x .settings .notch;
+            edition = x .settings .edition;
+          };
       table = x .table;
       results = x .results;
     }

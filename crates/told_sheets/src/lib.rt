@@ -81,6 +81,7 @@ fn numbers_of(sheet: Sheet) -> StationSheet
         m: settings.m,
         w: settings.swap,
         q: settings.notch,
+        edition: settings.edition,
     };
     StationSheet {
         count: sheet.count,

@@ -12,7 +12,7 @@ use Rattle.writer.specs.Encode.{taskBytes, grantedBytes, rowsBytes, sett
 whole-case : encode
     (record {
       count = 2;
-      settings = record { policy = Pooled; m = 1; swap = 0; notch = 1 };
+      settings = record { policy = Pooled; m = 1; swap = 0; notch = 1; edition = 1 };
       table = record { rows = task 6 10 20 1000 ∷ []; n = 1 };
       results = record { rows = granted 10 0 ∷ []; n = 1 };
     })
@@ -22,17 +22,17 @@ unfolding encode settingsBytes rowsBytes taskBytes grantedBytes bytesOf
 whole-case = refl
 
 -- Ask 2: the writer "leaves out numbers past" the settings count
-four : Settings
-four = record { policy = Pooled; m = 1; swap = 7; notch = 5 }
+five : Settings
+five = record { policy = Pooled; m = 1; swap = 7; notch = 5; edition = 2 }
 
-two-of-four : settingsBytes 2 four ≡ 2 ∷ 0 ∷ 1 ∷ 0 ∷ 1 ∷ 0 ∷ []
-unfolding four settingsBytes rowsBytes bytesOf
-two-of-four = refl
+two-of-five : settingsBytes 2 five ≡ 2 ∷ 0 ∷ 1 ∷ 0 ∷ 1 ∷ 0 ∷ []
+unfolding five settingsBytes rowsBytes bytesOf
+two-of-five = refl
 
-three-of-four : settingsBytes 3 four ≡ 3 ∷ 0 ∷ 1 ∷ 0 ∷ 1 ∷ 0 ∷ 7 ∷ 0 ∷ []
-unfolding four settingsBytes rowsBytes bytesOf
-three-of-four = refl
+four-of-five : settingsBytes 4 five ≡ 4 ∷ 0 ∷ 1 ∷ 0 ∷ 1 ∷ 0 ∷ 7 ∷ 0 ∷ 5 ∷ 0 ∷ []
+unfolding five settingsBytes rowsBytes bytesOf
+four-of-five = refl
 
-all-four : settingsBytes 4 four ≡ 4 ∷ 0 ∷ 1 ∷ 0 ∷ 1 ∷ 0 ∷ 7 ∷ 0 ∷ 5 ∷ 0 ∷ []
-unfolding four settingsBytes rowsBytes bytesOf
-all-four = refl
+all-five : settingsBytes 5 five ≡ 5 ∷ 0 ∷ 1 ∷ 0 ∷ 1 ∷ 0 ∷ 7 ∷ 0 ∷ 5 ∷ 0 ∷ 2 ∷ 0 ∷ []
+unfolding five settingsBytes rowsBytes bytesOf
+all-five = refl

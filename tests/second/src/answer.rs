@@ -79,10 +79,11 @@ fn put_rows(bytes: &mut Vec<u8>, rows: &[Record]) {
 }
 
 fn put_sheet(bytes: &mut Vec<u8>, sheet: &Sheet) {
-    for number in [sheet.policy.number(), sheet.m, sheet.settings_count, sheet.w, sheet.q] {
+    let Sheet { m, settings_count, w, q, edition, task_count, result_count, .. } = *sheet;
+    for number in [sheet.policy.number(), m, settings_count, w, q, edition] {
         bytes.extend(number.to_le_bytes());
     }
-    for count in [sheet.task_count, sheet.result_count] {
+    for count in [task_count, result_count] {
         bytes.extend(count.to_le_bytes());
     }
     put_rows(bytes, &sheet.rows);

@@ -19,6 +19,7 @@ pub struct Settings {
     pub count: u16,
     pub w: u16,
     pub q: u16,
+    pub edition: u16,
 }
 
 /// Settings and a table; of more than 32 tasks the stream has 32 rows.
@@ -114,17 +115,22 @@ pub fn present(count: u16) -> usize {
 impl Settings {
     /// Two settings.
     pub const fn new(number: u16, m: u16) -> Settings {
-        Settings { number, further: false, m, count: 2, w: 0, q: 1 }
+        Settings { number, further: false, m, count: 2, w: 0, q: 1, edition: 1 }
     }
 
-    /// Three settings, or four where there are four.
+    /// Three settings, or more where there are more.
     pub fn with_swaps(self, w: u16) -> Settings {
         Settings { count: self.count.max(3), w, ..self }
     }
 
-    /// Four settings.
+    /// Four settings, or five where there are five.
     pub fn with_notches(self, q: u16) -> Settings {
-        Settings { count: 4, q, ..self }
+        Settings { count: self.count.max(4), q, ..self }
+    }
+
+    /// Five settings.
+    pub fn with_edition(self, edition: u16) -> Settings {
+        Settings { count: 5, edition, ..self }
     }
 
     pub fn policy(self) -> Policy {
@@ -138,7 +144,7 @@ impl Settings {
     fn put(self, bytes: &mut Vec<u8>) {
         bytes.extend(self.number.to_le_bytes());
         bytes.push(u8::from(self.further));
-        for number in [self.m, self.count, self.w, self.q] {
+        for number in [self.m, self.count, self.w, self.q, self.edition] {
             bytes.extend(number.to_le_bytes());
         }
     }
@@ -150,25 +156,32 @@ impl Table {
         Table { settings: Settings::new(number, m), count: rows.len() as u16, rows: rows.to_vec() }
     }
 
-    /// The same table with three settings, or four where it has four.
+    /// The same table with three settings, or more where it has more.
     pub fn with_swaps(mut self, w: u16) -> Table {
         self.settings = self.settings.with_swaps(w);
         self
     }
 
-    /// The same table with four settings.
+    /// The same table with four settings, or five where it has five.
     pub fn with_notches(mut self, q: u16) -> Table {
         self.settings = self.settings.with_notches(q);
         self
     }
 
-    /// The finders use w and q whatever the settings count says.
+    /// The same table with five settings.
+    pub fn with_edition(mut self, edition: u16) -> Table {
+        self.settings = self.settings.with_edition(edition);
+        self
+    }
+
+    /// The finders use w, q and the edition whatever the settings count says.
     pub fn question(&self) -> Question {
         Question {
             policy: self.settings.policy(),
             m: self.settings.m,
             w: self.settings.w,
             q: self.settings.q,
+            edition: self.settings.edition,
             count: usize::from(self.count),
             rows: self.rows.clone(),
         }
@@ -207,6 +220,7 @@ impl Writing {
         sheet.m = self.settings.m;
         sheet.w = self.settings.w;
         sheet.q = self.settings.q;
+        sheet.edition = self.settings.edition;
         sheet.task_count = self.task_count;
         sheet.result_count = self.result_count;
         sheet.rows[..self.rows.len()].copy_from_slice(&self.rows);

@@ -8,6 +8,7 @@ pub mod checked;
 pub mod clock;
 pub mod finder;
 pub mod kinds;
+pub mod load;
 pub mod margin;
 pub mod office;
 pub mod policy;

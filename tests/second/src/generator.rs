@@ -5,6 +5,7 @@ pub mod bench;
 mod clock_runs;
 mod edges_of_checked;
 pub mod edges_of_clock;
+mod edges_of_editions;
 mod edges_of_finders;
 mod edges_of_notches;
 pub mod edges_of_office;
@@ -33,6 +34,7 @@ impl Calls {
         fixed.extend(edges_of_finders::calls());
         fixed.extend(edges_of_swaps::calls());
         fixed.extend(edges_of_notches::calls());
+        fixed.extend(edges_of_editions::calls());
         fixed.extend(edges_of_sheets::calls());
         fixed.extend(edges_of_wide::calls());
         fixed.extend(edges_of_checked::calls());

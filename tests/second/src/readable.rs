@@ -13,8 +13,9 @@ pub fn hex(bytes: &[u8]) -> String {
 
 fn settings_line(settings: Settings) -> String {
     let made = if settings.further { "a further choice" } else { "as a sheet is read" };
-    let Settings { number, m, count, w, q, .. } = settings;
-    format!("  policy {number} ({made}), m {m}, settings count {count}, w {w}, q {q}\n")
+    let Settings { number, m, count, w, q, edition, .. } = settings;
+    let numbers = format!("m {m}, settings count {count}, w {w}, q {q}, edition {edition}");
+    format!("  policy {number} ({made}), {numbers}\n")
 }
 
 fn record_line(index: usize, row: &Record) -> String {
@@ -159,7 +160,7 @@ impl<'a> Fields<'a> {
     fn sheet(&mut self) -> Option<String> {
         let mut text = format!("  policy {}, m {}", self.number(2)?, self.number(2)?);
         let _ = write!(text, ", settings count {}, w {}", self.number(2)?, self.number(2)?);
-        let _ = write!(text, ", q {}", self.number(2)?);
+        let _ = write!(text, ", q {}, edition {}", self.number(2)?, self.number(2)?);
         let _ =
             writeln!(text, ", task count {}, result count {}", self.number(2)?, self.number(2)?);
         for index in 0..MOST_TASKS {

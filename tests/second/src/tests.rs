@@ -2,6 +2,7 @@
 
 mod bench;
 mod clock;
+mod editions;
 mod finders;
 mod office;
 mod proposals;

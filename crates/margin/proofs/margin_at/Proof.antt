@@ -1,13 +1,19 @@
 -- `margin::margin_at` meets its contract. Assumes nothing.
+use Prim.Native.Nat.{ℕ, _≤_, _<_}
 use mathlib.Core.Bool.{false}
-use mathlib.Core.Path.{_∙_, ap}
+use mathlib.Core.List.{List}
+use mathlib.Core.Path.{_≡_, _∙_, ap}
+use native.Mathlib.Omega.{arith}
 use Rattle.kinds.specs.Answer.{accepted}
-use Rattle.share.specs.Table.{shares}
+use Rattle.kinds.specs.Limits.{scale}
+use Rattle.kinds.specs.Task.{at}
+use Rattle.share.proofs.Charges.{load-most}
 use Rattle.springs.specs.Columns.{Columns, columns}
-use Rattle.springs.specs.Handover.{SharesOf}
-use Rattle.springs.proofs.Columns.{shares-of, held-most}
+use Rattle.springs.specs.Handover.{Held}
+use Rattle.springs.proofs.Columns.{shares-of, held-columns, held-allowed}
+use Rattle.springs.proofs.Charged.{held-loads}
 use Rattle.fit.specs.Fit.{loadIn}
-use Rattle.policy.specs.Under.{rowsUnder}
+use Rattle.policy.specs.Under.{rowsUnder, loadsUnder}
 use Rattle.policy.proofs.Tests.{margin-same}
 use Rattle.admission.proofs.Chain.{passed-weighed}
 use Rattle.admission.proofs.Opened.{Opened, opened}
@@ -36,9 +42,30 @@ begun c = let d = c .before .before in opened false _ _ _ _ _ (springs d) (d .ad
 abbrev let-down : tie.After-shares-at → tie.After-enum-told
 let-down c = c .before .before .before .before
 
-held : (c : tie.After-shares-at) → let a = start (let-down c .before .before) .args in
-    SharesOf (rowsUnder (a .settings) (a .table .rows) (a .table .n)) (a .table .n) (a .step) (c .shares-at .last .0)
-held c = shares-of _ _ (springs (let-down c .before .before)) (begun (let-down c) .sprung) _ _ (c .shares-at .ensures)
+-- and the columns all that its loads come from
+held : (c : tie.After-shares-at) → let d = let-down c .before .before in
+    let a = start d .args in
+    Held (rowsUnder (a .settings) (a .table .rows) (a .table .n)) (a .table .n) (a .step) (springs d .cost) (springs d .tmin) (c .shares-at .last .0)
+held c =
+    let d = let-down c .before .before in
+    let sprung = begun (let-down c) .sprung in
+    held-columns _ _ _ (springs d) _ sprung (shares-of _ _ (springs d) sprung _ _ (c .shares-at .ensures))
+
+-- in the end the first holds the loads
+abbrev stepped : tie.After-loads-of → tie.After-shares-at
+stepped c = c .before .before .before .before
+
+abbrev column : tie.After-loads-of → List ℕ
+column c = c .loads-of .last .1 .1 .1 .0
+
+loaded : (c : tie.After-loads-of) → let a = start (let-down (stepped c) .before .before) .args in
+    (i : ℕ) → i < a .table .n → loadIn (column c) i ≡ loadsUnder (a .settings) (a .table .rows) (a .table .n) (a .step) i
+loaded c i l =
+    let d = let-down (stepped c) .before .before in
+    let a = start d .args in
+    c .loads-of .ensures i l
+    ∙ held-loads (a .settings) (rowsUnder (a .settings) (a .table .rows) (a .table .n)) (a .table .n) (a .step) (springs d .cost) (springs d .tmin) _
+    (held (stepped c)) i l
 
 admit-requires : tie.Need-admit-requires
 admit-requires c κs = search needs
@@ -54,26 +81,41 @@ shares-at-requires c κs =
     let b = begun (c .before .before .before) in
     (b .ready .passed .few, b .sprung .roomy .largest, b .within)
 
+loads-of-requires : tie.Need-loads-of-requires
+loads-of-requires c κs =
+    let h = c .before .before .before in
+    let d = let-down h .before .before in
+    let b = begun (let-down h) in
+    let a = start d .args in
+    let paid = rowsUnder (a .settings) (a .table .rows) (a .table .n) in
+    let allowed =
+    held-allowed paid (a .table .n) (a .step) (springs d .cost) (springs d .tmin) (h .shares-at .last .0) (held h)
+    (a .settings .notch) (b .ready .notched) (b .good) (b .on) in
+    (b .ready .passed .few, h .shares-at .ensures .long, allowed)
+
 meant-requires : tie.Need-meant-requires
 meant-requires c κs = search needs
 
 margin-of-requires : tie.Need-margin-of-requires
 margin-of-requires c κs =
-    let h = c .before .before in
-    let b = begun (let-down h) in
+    let o = c .before .before in
+    let t = let-down (stepped o) in
+    let b = begun t in
     let p = b .ready .passed in
-    let a = start (let-down h .before .before) .args in
-    let most = held-most (rowsUnder (a .settings) (a .table .rows) (a .table .n)) _ (a .step) (h .shares-at .last .0) (b .good) (held h) in
+    let a = start (t .before .before) .args in
+    let paid = rowsUnder (a .settings) (a .table .rows) (a .table .n) in
+    let most : (i : ℕ) → i < a .table .n → loadIn (column o) i ≤ scale =
+    λ i l. omega (arith, loaded o i l, load-most (a .settings) (at paid i) (b .good i l) (b .on i l) (a .step)) in
     (record { few = p .few; most = most }, p .m-some, p .m-most, rw (c .before .meant .ensures) (passed-weighed _ _ _ _ p))
 
 returns : tie.Need-returns
 unfolding marginHanded
 returns c =
     let m = c .before .before in
-    let h = m .before in
-    let t = let-down h in
+    let o = m .before in
+    let t = let-down (stepped o) in
     let a = start (t .before .before) .args in
-    let same = margin-same _ _ (loadIn (h .shares-at .last .0)) (shares (rowsUnder (a .settings) (a .table .rows) (a .table .n)) (a .step)) _ (held h) in
+    let same = margin-same _ _ (loadIn (column o)) (loadsUnder (a .settings) (a .table .rows) (a .table .n) (a .step)) _ (loaded o) in
     rw (← t .before .before .admit .ensures .is, t .enum-told .given .1, ← m .meant .ensures)
     (ap accepted (search needs ∙ (c .margin-of .ensures ∙ same)))
 
@@ -89,6 +131,7 @@ margin-at-spec =
     enum-known-admission
     enum-told
     shares-at-requires
+    loads-of-requires
     meant-requires
     margin-of-requires
     returns

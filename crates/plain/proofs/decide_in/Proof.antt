@@ -1,7 +1,6 @@
 -- `plain::decide_in` meets its contract. Assumes nothing.
 use mathlib.Core.Bool.{true}
 use mathlib.Core.Path.{_∙_}
-use Rattle.kinds.specs.Policy.{meant}
 use Rattle.springs.specs.Columns.{Columns, columns}
 use Rattle.springs.proofs.Columns.{held-columns}
 use Rattle.admission.proofs.Chain.{passed-served}
@@ -47,17 +46,15 @@ returns c =
     record {
       answers = c .decide .ensures ∙ refused-found true _ _ _ _ _ (d .admit .ensures .is) _ _ e;
       held = λ t. refused-held (c .decide .result) _ _ _ (c .decide .ensures) e t;
+      long = λ t. refused-held (c .decide .result) _ _ _ (c .decide .ensures) e t;
     }
-
-meant-requires : tie.Need-meant-requires
-meant-requires c κs = search needs
 
 least-step-requires : tie.Need-least-step-requires
 least-step-requires c κs =
-    let m = c .before .before .before .before in
-    let b = begun (m .before) in
+    let half-lent = c .before .before .before in
+    let b = begun (half-lent .before .before .before) in
     let p = b .ready .passed in
-    (record { few = p .few; long = b .sprung .roomy .largest; within = b .within }, p .m-some, p .m-most, rw (m .meant .ensures) (passed-served true _ _ _ _ p))
+    (b .sprung .roomy .largest, record { few = p .few; within = b .within; allowed = b .allowed }, p .m-some, p .m-most, passed-served true _ _ _ _ p)
 
 decide-requires-2 : tie.Need-decide-requires-2
 decide-requires-2 c κs = search needs
@@ -65,18 +62,20 @@ decide-requires-2 c κs = search needs
 returns-2 : tie.Need-returns-2
 returns-2 c =
     let l = c .before in
-    let lent = l .before .before .before .before in
-    let m = lent .before in
-    let t = m .before in
+    let half-lent = l .before .before .before in
+    let t = half-lent .before .before .before .before in
     let d = t .before .before in
-    let p = meant (start d .args .settings .policy) in
+    let a = start d .args in
     let w = begun t .sprung in
-    let h = rw (m .meant .ensures) at (l .least-step .ensures) in
+    let h = l .least-step .ensures in
+    let step = answered-at (c .decide2 .result) (d .admit .result) _ (c .decide2 .ensures) in
     record {
-      answers = c .decide2 .ensures ∙ admitted-found true _ _ _ _ _ (d .admit .ensures .is) _ (step-found p _ _ _ (springs d) w _ _ h);
+      answers =
+          c .decide2 .ensures
+          ∙ admitted-found true _ _ _ _ _ (d .admit .ensures .is) _ (step-found (a .settings) (a .table .rows) (a .table .n) (springs d) w _ _ h);
       held = λ q.
-          held-columns _ _ _ (springs d) _ w
-          (step-held p _ _ _ (springs d) w _ _ h _ (answered-at (c .decide2 .result) (d .admit .result) _ (c .decide2 .ensures) q));
+          held-columns _ _ _ (springs d) _ w (step-held (a .settings) (a .table .rows) (a .table .n) (springs d) w _ _ h _ (step q));
+      long = λ q. h .held _ (step q) .long;
     }
 
 pub decide-in-spec : {M : Type 1} → statement M
@@ -88,7 +87,6 @@ decide-in-spec =
     enum-told-2
     decide-requires
     returns
-    meant-requires
     least-step-requires
     decide-requires-2
     returns-2)

@@ -13,7 +13,7 @@ is-first-fit-requires : tie.Need-is-first-fit-requires
 is-first-fit-requires c κs = search needs
 
 first-fit-requires : tie.Need-first-fit-requires
-first-fit-requires c κs = search needs
+first-fit-requires c κs = let p = c .before .before .before .pre in (record { few = p .few; most = p .most }, p .m-most)
 
 write-front-requires : tie.Need-write-front-requires
 write-front-requires c κs = search needs
@@ -42,7 +42,7 @@ returns-2 c =
     let i = w .before .before .before in
     let s = i .before .before in
     w .write-front2 .ensures ∙ ap (λ (l : List ℕ). l ++ drop (s .args .n) (s .args .out .now))
-    (any-processors (s .args .policy) (s .args .m) (loadIn (s .args .loads .now)) _ (s .pre .light .few)
+    (any-processors (s .args .policy) (s .args .m) (loadIn (s .args .loads .now)) _ (s .pre .few)
     (sym (i .is-first-fit .ensures) ∙ w .before .before .if1 .left))
 
 pub write-processors-spec : {M : Type 1} → statement M

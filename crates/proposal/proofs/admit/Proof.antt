@@ -10,7 +10,7 @@ use Rattle.springs.proofs.Columns.{sprung-front}
 use Rattle.policy.specs.Under.{rowsUnder}
 use Rattle.admission.proofs.Chain.{not-admitted}
 use Rattle.proposal.specs.Proposal.{admission}
-use Rattle.proposal.proofs.Admitting.{Passed, gate-passed, springs-within, shares-loaded}
+use Rattle.proposal.proofs.Admitting.{Passed, gate-passed, springs-within, shares-allowed, loads-loaded}
 use borrow.Author.Needs.{needs}
 use Rattle.proposal.proofs.admit.Statement.{statement}
 use Rattle.proposal.proofs.admit.Tie as tie
@@ -80,18 +80,33 @@ shares-at-requires c κs =
     let t = told (e .before) in
     let p = passed t in
     let a = t .before .before .before .args in
-    let within = springs-within (a .settings) (a .table .rows) (a .table .n) (a .step) (p .few) (none-bad e) (springs (e .before)) (sprung e) in
+    let within =
+    springs-within (a .settings) (a .table .rows) (a .table .n) (a .step) (p .few) (p .notched) (none-bad e) (springs (e .before)) (sprung e) in
     (p .few .few, sprung e .roomy .largest, within)
+
+loads-of-requires : tie.Need-loads-of-requires
+loads-of-requires c κs =
+    let h = c .before .before .before in
+    let e = h .before .before .before .before in
+    let t = told (e .before) in
+    let p = passed t in
+    let a = t .before .before .before .args in
+    let allowed =
+    shares-allowed (a .settings) (a .table .rows) (a .table .n) (a .step) (p .few) (p .notched) (none-bad e) (springs (e .before)) (sprung e) _ (h .shares-at .ensures) in
+    (p .few .few, h .shares-at .ensures .long, allowed)
 
 returns-3 : tie.Need-returns-3
 unfolding admission
 returns-3 c =
-    let e = c .before .before .before .before in
+    let h = c .before .before .before .before in
+    let e = h .before .before .before .before in
     let t = told (e .before) in
+    let p = passed t in
     record {
       is =
           rw (← t .before .before .gate-of .ensures, t .enum-told .given .1, ← e .before .springs-of .ensures .first, le-ltb _ _ (e .if1 .left));
-      loaded = λ _. shares-loaded _ _ _ _ (passed t .few) (none-bad e) (springs (e .before)) (sprung e) _ (c .shares-at .ensures);
+      loaded =
+          λ _. loads-loaded _ _ _ _ (p .few) (p .notched) (none-bad e) (springs (e .before)) (sprung e) _ (h .shares-at .ensures) _ (c .loads-of .ensures);
     }
 
 pub admit-spec : {M : Type 1} → statement M
@@ -105,4 +120,5 @@ admit-spec =
     springs-of-requires
     returns-2
     shares-at-requires
+    loads-of-requires
     returns-3)

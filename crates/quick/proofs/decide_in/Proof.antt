@@ -53,31 +53,32 @@ returns c =
           record {
             answers = c .decide .ensures ∙ refused-found false _ _ _ _ _ (d .admit .ensures .is) _ _ e;
             held = λ t. refused-held (c .decide .result) (d .admit .result) _ _ (c .decide .ensures) e t;
+            long = λ t. refused-held (c .decide .result) (d .admit .result) _ _ (c .decide .ensures) e t;
           };
       count = no-looks _ _ _ _ _ (d .admit .ensures .is) e;
     }
 
-meant-requires : tie.Need-meant-requires
-meant-requires c κs = search needs
-
-weights-of-requires : tie.Need-weights-of-requires
-weights-of-requires c κs = let p = begun (c .before) .ready .passed in (p .m-some, p .m-most, p .few)
-
-search-columns-requires : tie.Need-search-columns-requires
-search-columns-requires c κs =
-    let w = c .before .before .before .before in
-    let t = w .before .before in
+search-under-requires : tie.Need-search-under-requires
+search-under-requires c κs =
+    let half-lent = c .before .before .before in
+    let t = half-lent .before .before .before in
     let d = t .before .before in
     let b = begun t in
-    let p = b .ready .passed in
-    (w .weights-of .ensures .1, record { few = p .few; within = b .within; saturates = sprung-saturates _ _ (springs d) (b .sprung) })
+    let p = b .ready .passed in (
+      record { few = p .few; within = b .within; allowed = b .allowed },
+      sprung-saturates _ _ (springs d) (b .sprung),
+      p .m-some,
+      p .m-most,
+      weighed t,
+    )
+
+-- an admitted call, once it has searched
+abbrev told : tie.After-search-under → tie.After-enum-told
+told c = let half-lent = c .before .before .before .before in half-lent .before .before .before
 
 let-down-to-requires : tie.Need-let-down-to-requires
 let-down-to-requires c κs =
-    let l = c .before .before .before in
-    let lent = l .before .before .before .before in
-    let w = lent .before in
-    let b = begun (w .before .before) in
+    let b = begun (told (c .before .before .before)) in
     (b .ready .passed .few, b .sprung .roomy .largest, b .within)
 
 decide-requires-2 : tie.Need-decide-requires-2
@@ -87,22 +88,18 @@ returns-2 : tie.Need-returns-2
 returns-2 c =
     let h = c .before in
     let l = h .before .before .before .before in
-    let lent = l .before .before .before .before in
-    let w = lent .before in
-    let t = w .before .before in
+    let t = told l in
     let d = t .before .before in
-    let policy = meant (start d .args .settings .policy) in
+    let a = start d .args in
     let sprung = begun t .sprung in
-    let ends = rw (w .weights-of .ensures .0, w .before .meant .ensures) at (l .search-columns .ensures) in
-    let f = least-found policy _ _ _ (springs d) sprung (weighed t) _ ends in
+    let f = least-found (a .settings) (a .table .rows) (a .table .n) (springs d) sprung (weighed t) _ (l .search-under .ensures) in
+    let step = answered-at (c .decide2 .result) (d .admit .result) _ (c .decide2 .ensures) in
     record {
       held =
           record {
             answers = c .decide2 .ensures ∙ admitted-found false _ _ _ _ _ (d .admit .ensures .is) _ (f .least);
-            held = λ q.
-                held-columns _ _ _ (springs d) _ sprung
-                (shares-of _ _ (springs d) sprung _ _
-                (h .let-down-to .ensures _ (answered-at (c .decide2 .result) (d .admit .result) _ (c .decide2 .ensures) q)));
+            held = λ q. held-columns _ _ _ (springs d) _ sprung (shares-of _ _ (springs d) sprung _ _ (h .let-down-to .ensures _ (step q)));
+            long = λ q. h .let-down-to .ensures _ (step q) .long;
           };
       count = some-looks _ _ _ _ _ (d .admit .ensures .is) _ (t .enum-told .given .1) (f .count);
     }
@@ -116,9 +113,7 @@ decide-in-spec =
     enum-told-2
     decide-requires
     returns
-    meant-requires
-    weights-of-requires
-    search-columns-requires
+    search-under-requires
     let-down-to-requires
     decide-requires-2
     returns-2)

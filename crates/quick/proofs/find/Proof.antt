@@ -1,7 +1,6 @@
 -- `quick::find` meets its contract. Assumes nothing.
 use Prim.Native.Nat.{min}
 use mathlib.Core.Bool.{false}
-use native.Mathlib.Omega.{arith}
 use lib.ListN.{length}
 use Rattle.plan.proofs.Found.{may-grant, meets}
 use Rattle.quick.specs.Handover.{FoundLookedHeld}
@@ -56,7 +55,7 @@ returns c =
     record {
       meets = meets false _ _ _ _ _ _ _ _ _ (f .held) _ _ (g .grant .ensures);
       count = f .count;
-      few = omega (arith, f .count, looks-few (a .settings) (a .table .rows) (a .table .n) room);
+      few = rw (f .count) (looks-few (a .settings) (a .table .rows) (a .table .n) room);
     }
 
 pub find-spec : {M : Type 1} → statement M

@@ -1,6 +1,5 @@
 -- `told::quick_told` meets its contract. Assumes nothing.
 use mathlib.Core.Path.{_∙_}
-use native.Mathlib.Omega.{arith}
 use borrow.Author.Needs.{needs}
 use Rattle.told.proofs.quick_told.Statement.{statement}
 use Rattle.told.proofs.quick_told.Tie as tie
@@ -29,7 +28,7 @@ returns c =
       grants = e .meets .grants;
       places = e .meets .places;
       count = c .tell .ensures .1 ∙ e .count;
-      few = omega (arith, c .tell .ensures .1, e .few);
+      few = rw (c .tell .ensures .1) (e .few);
     }
 
 pub quick-told-spec : {M : Type 1} → statement M

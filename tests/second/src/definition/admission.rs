@@ -11,6 +11,7 @@ pub struct Question {
     pub m: u16,
     pub w: u16,
     pub q: u16,
+    pub edition: u16,
     pub count: usize,
     pub rows: Vec<Record>,
 }
@@ -29,13 +30,17 @@ pub enum Serves {
     FormulasOnly,
 }
 
-/// Refuses by 2 more than so many processors, none, and no notch.
+/// Refuses by 2 more than so many processors, none, no notch, and an edition that there is not.
 pub fn admit_settings(question: &Question, most: u16) -> Result<(), Refusal> {
     if question.m == 0 || question.m > most {
         return refuse(2, 0);
     }
     // Ask 5: "q = 0 is refused by 2"
     if question.q == 0 {
+        return refuse(2, 0);
+    }
+    // Ask 10: "1 or 2 … another number is refused by 2"
+    if question.edition != 1 && question.edition != 2 {
         return refuse(2, 0);
     }
     Ok(())

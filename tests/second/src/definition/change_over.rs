@@ -24,7 +24,8 @@ pub struct Part {
 fn question_of(sheet: &Sheet) -> Question {
     let count = usize::from(sheet.task_count);
     let rows = sheet.rows[..count].to_vec();
-    Question { policy: sheet.policy, m: sheet.m, w: sheet.w, q: sheet.q, count, rows }
+    let Sheet { policy, m, w, q, edition, .. } = *sheet;
+    Question { policy, m, w, q, edition, count, rows }
 }
 
 /// The plain finder's results for a read sheet.

@@ -1,9 +1,10 @@
-//! The plain finder, and what the quick finder has to answer: the same step, and its looks.
+//! The plain finder, and what the quick finder has to answer: the same step, and its looks, which each edition counts in its own way.
 
 use super::admission::{admit, Question, Serves};
 use super::kinds::{refuse, Policy, Refusal};
+use super::load::{Loads, CHARGED};
 use super::policy::{first_fit, passes};
-use super::share::{full_compression, period_with_share, Spring};
+use super::share::{period_with_share, Spring};
 use std::collections::BTreeSet;
 
 /// The shares of all tasks at a step, in record order.
@@ -13,13 +14,11 @@ pub fn shares_at(springs: &[Spring], step: u32) -> Vec<u64> {
 
 /// Scans every step from 0 to K and answers the first that passes.
 pub fn least_passing_step(question: &Question) -> Option<u32> {
-    let springs = question.springs();
-    let mut shares = vec![0_u64; springs.len()];
-    (0..=full_compression(&springs)).find(|step| {
-        for (share, spring) in shares.iter_mut().zip(&springs) {
-            *share = spring.share_at(*step);
-        }
-        passes(question.policy, question.m, &shares)
+    let loads = Loads::of(question);
+    let mut at_step = vec![0; question.rows.len()];
+    (0..=loads.full_compression()).find(|step| {
+        loads.put(*step, &mut at_step);
+        passes(question.policy, question.m, &at_step)
     })
 }
 
@@ -29,9 +28,10 @@ fn write_plan(question: &Question, step: u32, periods: &mut [u32], processors: &
     for (index, row) in question.rows.iter().enumerate() {
         periods[index] = period_with_share(*row, question.w, question.q, shares[index]);
     }
+    let loads = Loads::of(question).at(step);
     let placed = match question.policy.meaning() {
-        Policy::FirstFit => first_fit(question.m, &shares).expect("the step passes"),
-        _ => vec![0; shares.len()],
+        Policy::FirstFit => first_fit(question.m, &loads).expect("the step passes"),
+        _ => vec![0; loads.len()],
     };
     processors[..placed.len()].copy_from_slice(&placed);
 }
@@ -73,10 +73,31 @@ pub fn quick(
         return (Err(refusal), 0);
     }
     let answer = search(question, periods, processors);
+    if question.edition == CHARGED {
+        return (answer, halve(question).1);
+    }
     (answer, looks(question, answer.ok()))
 }
 
-/// The looks for an answer at a step, or for refusal 7.
+/// Ask 10: "halves the range from 0 to K + 1, testing the middle rounded down (a pass keeps it and below, a failure what is above), until
+/// one step is left, K + 1 meaning none; its looks are the tests made"
+pub fn halve(question: &Question) -> (Option<u32>, u16) {
+    let loads = Loads::of(question);
+    let none = loads.full_compression() + 1;
+    let (mut low, mut high, mut looks) = (0, none, 0);
+    while low < high {
+        let middle = (low + high) / 2;
+        looks += 1;
+        if passes(question.policy, question.m, &loads.at(middle)) {
+            high = middle;
+        } else {
+            low = middle + 1;
+        }
+    }
+    ((low < none).then_some(low), looks)
+}
+
+/// The looks of edition 1 for an answer at a step, or for refusal 7: "the looks rule of 01 stays".
 fn looks(question: &Question, answer: Option<u32>) -> u16 {
     let due = distinct_positive_saturation_steps(question);
     let count = match answer {

@@ -119,6 +119,8 @@ pub struct Sheet {
     pub w: u16,
     /// Ask 5: "a fourth number q, from 1 to 65,535"
     pub q: u16,
+    /// Ask 10: "a fifth number, 1 or 2"
+    pub edition: u16,
     pub task_count: u16,
     pub result_count: u16,
     pub rows: [Record; MOST_TASKS],
@@ -126,13 +128,13 @@ pub struct Sheet {
 }
 
 impl Sheet {
-    /// Ask 5: "Settings counts 2 to 4 are read", and 9 "says so"
-    pub const SETTINGS_COUNTS: [u16; 3] = [2, 3, 4];
+    /// Ask 10: "Refusal 9 allows counts 2 to 5"
+    pub const SETTINGS_COUNTS: [u16; 4] = [2, 3, 4, 5];
 
-    /// "at most 714"; since Ask 2 "the greatest length follows", with Ask 5 that of four settings.
-    pub const MOST_BYTES: usize = Sheet::bytes_needed(4, MOST_TASKS, MOST_TASKS);
+    /// "at most 714"; since Ask 2 "the greatest length follows", with Ask 10 that of five settings.
+    pub const MOST_BYTES: usize = Sheet::bytes_needed(5, MOST_TASKS, MOST_TASKS);
 
-    /// "a sheet of zeros (policy: the further choice 0)", q = 0 too, though a missing q is 1
+    /// "a sheet of zeros (policy: the further choice 0)", q = 0 and edition 0 too, though missing ones are 1
     pub fn zeros() -> Sheet {
         Sheet {
             settings_count: 0,
@@ -140,6 +142,7 @@ impl Sheet {
             m: 0,
             w: 0,
             q: 0,
+            edition: 0,
             task_count: 0,
             result_count: 0,
             rows: [Record::default(); MOST_TASKS],

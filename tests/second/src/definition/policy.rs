@@ -1,4 +1,4 @@
-//! "The four policies" and Ask 1's: the two sides of each formula, first fit, and passing.
+//! "The four policies" and Ask 1's: the two sides of each formula, first fit, and passing. Under edition 2 the shares are charges (Ask 10).
 
 use super::bound::bound;
 use super::kinds::{Policy, SCALE};

@@ -6,7 +6,7 @@ use super::reader::read;
 use super::writer::write;
 
 /// "more than 714 bytes: refused as 11 at 714 if the first 714 read as a sheet of that length,
-/// else as the reader says of the whole"; the 714 moves with the greatest length (Asks 2 and 5)
+/// else as the reader says of the whole"; the 714 moves with the greatest length (Asks 2, 5 and 10)
 pub fn read_input(input: &[u8]) -> Result<Sheet, Refusal> {
     if input.len() > Sheet::MOST_BYTES && read(&input[..Sheet::MOST_BYTES]).is_ok() {
         return refuse(11, Sheet::MOST_BYTES);

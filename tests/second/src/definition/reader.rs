@@ -41,7 +41,8 @@ impl Reader<'_> {
         Ok(Granted { period: self.four_bytes()?, processor: self.two_bytes()? })
     }
 
-    /// "settings (count 2: policy, m, 2 bytes each)"; Ask 5: "missing numbers filled in as w = 0 and q = 1"
+    /// "settings (count 2: policy, m, 2 bytes each)"; Ask 5: "missing numbers filled in as w = 0 and q = 1", and Ask 10 of the edition:
+    /// "missing means 1"
     fn settings(&mut self, sheet: &mut Sheet) -> Result<(), Refusal> {
         sheet.settings_count = self.two_bytes()?;
         if !sheet.counts_its_settings() {
@@ -51,6 +52,7 @@ impl Reader<'_> {
         sheet.m = self.two_bytes()?;
         sheet.w = if sheet.settings_count >= 3 { self.two_bytes()? } else { 0 };
         sheet.q = if sheet.settings_count >= 4 { self.two_bytes()? } else { 1 };
+        sheet.edition = if sheet.settings_count >= 5 { self.two_bytes()? } else { 1 };
         Ok(())
     }
 

@@ -1,5 +1,5 @@
 //! "Numbers on a task": shares, saturation steps, full compression and periods; "every C … is to be read as C + 2w" (Ask 2).
-//! Shares, saturation steps and full compression do not see the notch q (Ask 5); periods do.
+//! Shares, saturation steps and full compression do not see the notch q (Ask 5); periods do. None of them sees the edition (Ask 10).
 
 use super::kinds::{is_multiple, Record, SCALE};
 
@@ -12,7 +12,7 @@ pub struct Spring {
 }
 
 /// "Largest share: C × S / Tmin rounded up. Least share: C × S / Tmax rounded up."
-fn share_with_period(cost: u64, period: u32) -> u64 {
+pub fn share_with_period(cost: u64, period: u32) -> u64 {
     (cost * SCALE).div_ceil(u64::from(period))
 }
 
@@ -64,6 +64,12 @@ pub fn period_with_share(record: Record, w: u16, q: u16, share: u64) -> u32 {
     } else {
         halved_period(record, w, q, share)
     }
+}
+
+/// The same worked out, since a scan of the charges asks for it at every step: the smallest whole T, then the next multiple of q.
+pub fn worked_out_period(record: Record, w: u16, q: u16, share: u64) -> u32 {
+    let whole = (record.cost(w) * SCALE).div_ceil(share).max(u64::from(record.tmin));
+    whole.next_multiple_of(u64::from(q)) as u32
 }
 
 /// Tries every T of the range, the smallest first.

@@ -6,7 +6,7 @@ use super::kinds::{refuse, Refusal, Sheet, MOST_TASKS};
 fn bytes_of(sheet: &Sheet) -> Vec<u8> {
     let mut bytes = sheet.settings_count.to_le_bytes().to_vec();
     // Ask 2: the writer "leaves out numbers past it", the settings count
-    let settings = [sheet.policy.number(), sheet.m, sheet.w, sheet.q];
+    let settings = [sheet.policy.number(), sheet.m, sheet.w, sheet.q, sheet.edition];
     for setting in &settings[..usize::from(sheet.settings_count)] {
         bytes.extend(setting.to_le_bytes());
     }

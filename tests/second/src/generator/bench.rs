@@ -1,4 +1,5 @@
-//! "Bench settings to try": the cases A to L, case B under policy 5, with swaps and with notches, asked of every call that can be asked.
+//! "Bench settings to try": the cases A to L, case B under policy 5, with swaps and with notches, and cases in the second edition, asked of
+//! every call that can be asked.
 
 use super::sheets::sheet_of;
 use crate::call::{Call, Rooms, Table};
@@ -18,9 +19,9 @@ pub fn case_k_rows() -> Vec<Record> {
 }
 
 /// The cases A to K by their letters, of which F, G and H are under the policy withdrawn, case B under Ask 1's, with Ask 2's swap
-/// costs that its tasks can bear, and with Ask 5's notches.
+/// costs that its tasks can bear, and with Ask 5's notches; then cases in Ask 10's second edition.
 pub fn cases() -> Vec<(&'static str, Table)> {
-    vec![
+    let mut cases = vec![
         ("A", Table::new(1, 1, &[])),
         ("B", Table::new(1, 1, &[HALF_SPRING; 2])),
         ("C", Table::new(1, 1, &[Record::new(5, 10, 20, 0), Record::new(8, 10, 40, 3000)])),
@@ -39,6 +40,28 @@ pub fn cases() -> Vec<(&'static str, Table)> {
         ("B, q = 10", Table::new(1, 1, &[HALF_SPRING; 2]).with_notches(10)),
         ("B, w = 1, q = 2", Table::new(1, 1, &[HALF_SPRING; 2]).with_swaps(1).with_notches(2)),
         ("B, w = 1, q = 5", Table::new(1, 1, &[HALF_SPRING; 2]).with_swaps(1).with_notches(5)),
+    ];
+    cases.extend(second_edition());
+    cases
+}
+
+/// Cases of Ask 10's second edition, and case B in the first by number.
+fn second_edition() -> Vec<(&'static str, Table)> {
+    let b = Table::new(1, 1, &[HALF_SPRING; 2]);
+    let d = Table::new(1, 1, &[Record::new(6, 10, 11, 1000), Record::new(6, 10, 30, 1000)]);
+    let i = Table::new(1, 1, &[Record::new(1, 3, 3, 0); 3]);
+    vec![
+        ("B, edition 1", b.clone().with_edition(1)),
+        ("A, edition 2", Table::new(1, 1, &[]).with_edition(2)),
+        ("B, edition 2", b.clone().with_edition(2)),
+        ("D, edition 2", d.with_edition(2)),
+        ("E, edition 2", Table::new(2, 2, &[HALF_SPRING; 3]).with_edition(2)),
+        ("I, edition 2", i.with_edition(2)),
+        ("J, edition 2", Table::new(1, 1, &[HUGE_RANGE; 2]).with_edition(2)),
+        ("K, edition 2", Table::new(4, 3, &case_k_rows()).with_edition(2)),
+        ("B under 5, edition 2", Table::new(5, 1, &[HALF_SPRING; 2]).with_edition(2)),
+        ("B, w = 1, edition 2", b.clone().with_swaps(1).with_edition(2)),
+        ("B, q = 5, edition 2", b.with_notches(5).with_edition(2)),
     ]
 }
 
@@ -59,8 +82,28 @@ pub fn case_l() -> Vec<Table> {
 
 /// The steps of the bench answers and those beside them, full compressions, a step whose
 /// product with E = 1000 is a multiple of 2 to the 32, and the last step.
-const MARGIN_STEPS: [u32; 18] =
-    [0, 1, 54, 55, 56, 99, 100, 101, 146, 185, 186, 266, 267, 300, 400, 500_000, 1 << 29, u32::MAX];
+const MARGIN_STEPS: [u32; 20] = [
+    0,
+    1,
+    54,
+    55,
+    56,
+    99,
+    100,
+    101,
+    138,
+    139,
+    146,
+    185,
+    186,
+    266,
+    267,
+    300,
+    400,
+    500_000,
+    1 << 29,
+    u32::MAX,
+];
 
 /// The calls of one case; `again` asks also through sheets.
 fn calls_of(table: &Table, again: bool) -> Vec<Call> {

@@ -67,6 +67,9 @@ fn refused_first() -> Vec<Call> {
         Table::new(3, 1, &[good]).with_notches(0),
         Table::new(1, 1, &[good, Record::new(6, 10, 21, 0)]).with_notches(5),
         Table::new(1, 1, &[Record::new(6, 11, 20, 0), good]).with_notches(5),
+        Table::new(1, 1, &[good]).with_edition(0),
+        Table::new(3, 1, &[good]).with_edition(3),
+        Table::new(1, 1, &[good, good]).with_edition(3),
         Table::new(0, 0, &[]),
     ];
     let mut calls = Vec::new();
@@ -78,14 +81,15 @@ fn refused_first() -> Vec<Call> {
     calls
 }
 
-/// Inputs past the longest sheet of two, three and four settings: a full one that agrees, then zeros.
+/// Inputs past the longest sheet of two to five settings: a full one that agrees, then zeros.
 fn overlong() -> Vec<Call> {
     let rows: Vec<Record> = (1..=32).map(|c| Record::new(c, 500, 1000, 100 * c)).collect();
     let two = Table::new(2, 3, &rows);
     let mut calls = Vec::new();
     let (three, four) = (two.clone().with_swaps(1), two.clone().with_notches(250));
-    for whole in [two, three, four].map(|table| filled(&table)) {
-        for more in [0, 1, 2, 3, 4, 5, 82] {
+    let five = four.clone().with_edition(2);
+    for whole in [two, three, four, five].map(|table| filled(&table)) {
+        for more in [0, 1, 2, 3, 4, 5, 6, 7, 80] {
             calls.push(Call::Check([&whole[..], &vec![0; more][..]].concat()));
         }
     }

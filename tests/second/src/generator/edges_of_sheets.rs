@@ -32,6 +32,12 @@ fn two_tasks_with_notches(q: u16) -> Raw {
     Raw::honest(&table, &made_up_results(2))
 }
 
+/// The same with an edition beside them: 60 bytes.
+fn two_tasks_in_edition(edition: u16) -> Raw {
+    let table = Table::new(1, 1, &[Record::new(6, 10, 20, 1000); 2]).with_swaps(1).with_notches(5);
+    Raw::honest(&table.with_edition(edition), &made_up_results(2))
+}
+
 /// The longest sheet of two settings, 714 bytes.
 fn full() -> Raw {
     let rows: Vec<Record> = (1..=32).map(|c| Record::new(c, 500, 1000, 100 * c)).collect();
@@ -43,9 +49,24 @@ fn full_with_swaps() -> Raw {
     Raw { settings_count: 3, settings: vec![2, 3, 1], ..full() }
 }
 
-/// The longest sheet, 718 bytes.
+/// The longest sheet of four settings, 718 bytes.
 fn full_with_notches() -> Raw {
     Raw { settings_count: 4, settings: vec![2, 3, 1, 250], ..full() }
+}
+
+/// The longest sheet, 720 bytes.
+fn full_in_edition(edition: u16) -> Raw {
+    Raw { settings_count: 5, settings: vec![2, 3, 1, 250, edition], ..full() }
+}
+
+/// Two tasks on a sheet of two to five settings.
+fn small_sheets() -> [Raw; 4] {
+    [two_tasks(), two_tasks_with_swaps(1), two_tasks_with_notches(5), two_tasks_in_edition(2)]
+}
+
+/// The longest sheets of two to five settings.
+fn long_sheets() -> [Raw; 4] {
+    [full(), full_with_swaps(), full_with_notches(), full_in_edition(2)]
 }
 
 /// A case whose answers name processors: case K with older results.
@@ -58,15 +79,15 @@ fn cut_to(bytes: &[u8], length: usize) -> [Call; 2] {
     [Call::Read(bytes[..length].to_vec()), Call::Program(bytes[..length].to_vec())]
 }
 
-/// "every truncation of a sheet" of two, three and four settings, and of the longest ones those around their sections.
+/// "every truncation of a sheet" of two to five settings, and of the longest ones those around their sections.
 fn truncations() -> Vec<Call> {
     let mut calls = Vec::new();
-    for small in [two_tasks(), two_tasks_with_swaps(1), two_tasks_with_notches(5)] {
+    for small in small_sheets() {
         let small = small.bytes();
         calls.extend((0..=small.len()).flat_map(|length| cut_to(&small, length)));
     }
     let telling = [7, 8, 9, 23, 24, 25, 504, 505, 519, 520, 521, 522, 523, 527, 528, 712, 713, 714];
-    for (long, more) in [(full(), 0), (full_with_swaps(), 2), (full_with_notches(), 4)] {
+    for (long, more) in long_sheets().into_iter().zip([0, 2, 4, 6]) {
         let long = long.bytes();
         calls.extend(telling.into_iter().flat_map(|length| cut_to(&long, length + more)));
         let every = (0..=long.len()).step_by(31);
@@ -93,15 +114,14 @@ fn bad_counts() -> Vec<Call> {
     let mut calls = Vec::new();
     for settings_count in SETTINGS_COUNTS {
         let rows = [Record::new(6, 10, 20, 1000); 2];
-        let mut honest = Table::new(1, 1, &rows).with_swaps(1).with_notches(5);
+        let mut honest = Table::new(1, 1, &rows).with_swaps(1).with_notches(5).with_edition(2);
         honest.settings.count = settings_count;
         calls.extend(judged_at(&Raw::honest(&honest, &[]), 0));
-        calls.extend(judged_at(&Raw { settings_count, ..two_tasks() }, 0));
-        calls.extend(judged_at(&Raw { settings_count, ..two_tasks_with_swaps(1) }, 0));
-        calls.extend(judged_at(&Raw { settings_count, ..two_tasks_with_notches(5) }, 0));
+        for small in small_sheets() {
+            calls.extend(judged_at(&Raw { settings_count, ..small }, 0));
+        }
     }
-    let wholes = [(two_tasks(), 6), (two_tasks_with_swaps(1), 8), (two_tasks_with_notches(5), 10)];
-    for (whole, place) in wholes {
+    for (whole, place) in small_sheets().into_iter().zip([6, 8, 10, 12]) {
         for task_count in [0, 1, 3, 32, 33, 34, 40, 256, 65535] {
             calls.extend(judged_at(&Raw { task_count, ..whole.clone() }, place));
         }
@@ -121,8 +141,8 @@ fn trailing_bytes() -> Vec<Call> {
     let without = sheet_of(&Table::new(3, 2, &[Record::new(6, 10, 20, 1000); 3]));
     let empty = sheet_of(&Table::new(1, 1, &[]));
     let mut calls = Vec::new();
-    let (swaps, notches) = (two_tasks_with_swaps(2).bytes(), two_tasks_with_notches(5).bytes());
-    for sheet in [two_tasks().bytes(), swaps, notches, without, empty] {
+    let small = small_sheets().map(|raw| raw.bytes());
+    for sheet in small.into_iter().chain([without, empty]) {
         for more in [1, 2, 6, 16] {
             let mut bytes = sheet.clone();
             bytes.extend(vec![0; more]);
@@ -136,8 +156,8 @@ fn trailing_bytes() -> Vec<Call> {
 /// Inputs of 714 to 800 bytes: behind the longest sheets, a shorter one, and damaged ones.
 fn over_the_limit() -> Vec<Call> {
     let mut starts = vec![two_tasks()];
-    for long in [full(), full_with_swaps(), full_with_notches()] {
-        for settings_count in [2, 3, 4, 5] {
+    for long in long_sheets() {
+        for settings_count in [2, 3, 4, 5, 6] {
             starts.push(Raw { settings_count, ..long.clone() });
         }
         starts.extend([
@@ -149,7 +169,7 @@ fn over_the_limit() -> Vec<Call> {
     }
     let mut calls = Vec::new();
     for start in starts {
-        for length in [714, 715, 716, 717, 718, 719, 720, 730, 799, 800] {
+        for length in [714, 715, 716, 717, 718, 719, 720, 721, 722, 730, 800] {
             let mut bytes = start.bytes();
             bytes.resize(length, 0);
             if length % 5 == 0 {
@@ -177,16 +197,17 @@ fn writing(settings: Settings, task_count: u16, result_count: u16, room: usize) 
 /// "The writer gives 3, 10, 5 in that order", and 9 before them: counts and rooms around each limit.
 fn writings() -> Vec<Call> {
     let mut calls = Vec::new();
-    let four = Settings::new(4, 3).with_swaps(7).with_notches(9);
+    let five = Settings::new(4, 3).with_swaps(7).with_notches(9).with_edition(11);
     for task_count in [0, 1, 2, 32, 33, 40, 65535] {
         for result_count in [0, 1, 2, 3, 31, 32, 33, 40, 65535] {
             calls.push(writing(Settings::new(1, 1), task_count, result_count, 0));
-            calls.push(writing(four, task_count, result_count, 720));
+            calls.push(writing(five, task_count, result_count, 722));
         }
     }
     for (task_count, result_count) in [(0, 0), (1, 0), (1, 1), (3, 3), (32, 0), (32, 32)] {
         let (two, three) = (Settings::new(2, 16), Settings::new(2, 16).with_swaps(0x4567));
-        for settings in [two, three, three.with_notches(0x89AB)] {
+        let four = three.with_notches(0x89AB);
+        for settings in [two, three, four, four.with_edition(0xCDEF)] {
             let needed = Sheet::bytes_needed(
                 usize::from(settings.count),
                 usize::from(task_count),
@@ -212,7 +233,8 @@ fn writings() -> Vec<Call> {
 fn settings_counts() -> Vec<Call> {
     let mut calls = Vec::new();
     for count in SETTINGS_COUNTS {
-        let settings = Settings { count, w: 65535, q: 0x1234, ..Settings::new(1, 2) };
+        let numbers = Settings::new(1, 2).with_swaps(65535).with_notches(0x1234).with_edition(77);
+        let settings = Settings { count, ..numbers };
         for (task_count, result_count) in [(0, 0), (2, 2), (33, 0), (2, 1)] {
             for room in [0, 80] {
                 calls.push(writing(settings, task_count, result_count, room));
@@ -238,6 +260,9 @@ fn change_over_sheets() -> Vec<Vec<u8>> {
         two_tasks_with_notches(3).bytes(),
         two_tasks_with_notches(0).bytes(),
         full_with_notches().bytes(),
+        two_tasks_in_edition(2).bytes(),
+        two_tasks_in_edition(0).bytes(),
+        full_in_edition(2).bytes(),
         case_k().bytes(),
         sheet_of(&Table::new(1, 1, &[])),
         full().bytes(),
@@ -257,6 +282,7 @@ fn change_over_sheets() -> Vec<Vec<u8>> {
         Raw { settings_count: 3, ..two_tasks() }.bytes(),
         Raw { settings_count: 4, ..two_tasks() }.bytes(),
         Raw { settings_count: 5, ..two_tasks_with_notches(5) }.bytes(),
+        Raw { settings_count: 6, ..two_tasks_in_edition(2) }.bytes(),
         [full().bytes(), vec![0; 80]].concat(),
     ]
 }
@@ -277,7 +303,7 @@ fn change_overs() -> Vec<Call> {
         }
     }
     let other = sheet_under(4, 2, 3);
-    for small in [two_tasks(), two_tasks_with_swaps(1), two_tasks_with_notches(5)] {
+    for small in small_sheets() {
         let small = small.bytes();
         for length in 0..=small.len() {
             let cut = small[..length].to_vec();

@@ -45,8 +45,8 @@ pub fn random_call(random: &mut Random, index: usize) -> Call {
 
 /// "E = 1 with a huge range" for the plain finder.
 fn long_scan(random: &mut Random) -> Call {
-    let number = random.pick(&FORMULAS);
-    let table = Table::new(number, 1, &huge(random, 3));
+    let (number, edition) = (random.pick(&FORMULAS), random.pick(&[1, 2]));
+    let table = Table::new(number, 1, &huge(random, 3)).with_edition(edition);
     let rooms = Rooms::just(&table);
     Call::Plain(table, rooms)
 }
@@ -98,7 +98,10 @@ fn margin(random: &mut Random) -> Call {
 fn huge_table(random: &mut Random) -> Table {
     let number = random.pick(&FORMULAS);
     let m = processors(random, number);
-    let table = Table::new(number, m, &huge(random, 5));
+    let mut table = Table::new(number, m, &huge(random, 5));
+    if random.one_in(3) {
+        table = table.with_edition(2);
+    }
     with_notches(random, table)
 }
 
@@ -139,6 +142,9 @@ fn table(random: &mut Random, numbers: &[u16]) -> Table {
     if random.one_in(40) {
         table = table.with_notches(0);
     }
+    if random.one_in(40) {
+        table = table.with_edition(random.pick(&[0, 3, 257, 258, 65535]));
+    }
     if random.one_in(10) {
         table.settings.count = random.pick(&SETTINGS_COUNTS);
     }
@@ -161,22 +167,30 @@ fn table(random: &mut Random, numbers: &[u16]) -> Table {
 
 fn good_table(random: &mut Random, numbers: &[u16]) -> Table {
     let number = random.pick(numbers);
-    let aim = Aim { number, m: processors(random, number), most_steps: most_steps(random) };
-    if number == 4 {
-        return first_fit_table(random, aim);
+    let (m, edition) = (processors(random, number), random.pick(&[1, 1, 2]));
+    let aim = Aim { number, m, edition, most_steps: most_steps(random) };
+    let table = if number == 4 { first_fit_table(random, aim) } else { formula_table(random, aim) };
+    // the first edition is meant also where it is not said
+    if edition == 1 && !random.one_in(8) {
+        table
+    } else {
+        table.with_edition(edition)
     }
+}
+
+fn formula_table(random: &mut Random, aim: Aim) -> Table {
     let rows = match random.between(0, 9) {
         0..=2 => exact(random, aim),
         3..=4 => crossing(random, aim),
         5..=6 => tied(random, aim),
         _ => general(random, aim),
     };
-    Table::new(number, aim.m, &rows)
+    Table::new(aim.number, aim.m, &rows)
 }
 
 fn first_fit_table(random: &mut Random, aim: Aim) -> Table {
     let (m, rows) = match random.between(0, 9) {
-        0..=2 => wavering(random),
+        0..=2 => wavering(random, aim.edition),
         3..=4 => (aim.m, exact_first_fit(random, aim)),
         5 => (aim.m, tied(random, aim)),
         _ => (aim.m, general(random, aim)),
@@ -244,9 +258,10 @@ fn writing(random: &mut Random) -> Writing {
         count: random.pick(counts),
         w: random.pick(&[0, 1, 2, 255, 256, 65535]),
         q: random.pick(&[0, 1, 2, 255, 256, 65535]),
+        edition: random.pick(&[0, 1, 2, 3, 258, 65535]),
     };
     let needed = Sheet::bytes_needed(
-        usize::from(settings.count.min(4)),
+        usize::from(settings.count.min(5)),
         usize::from(task_count),
         usize::from(result_count),
     ) as u32;

@@ -1,34 +1,34 @@
 //! Proposals of planners: by first fit, by best fit, shared out, and damaged; and tables with loads of just S.
 
 use super::tables::{pay_swaps, rigid, set_notches, telling_step, turning_step};
-use crate::call::{Proposing, Table};
-use crate::definition::finder::shares_at;
+use crate::call::{Proposing, Settings, Table};
 use crate::definition::kinds::{Record, MOST_TASKS, SCALE};
+use crate::definition::load::Loads;
 use crate::definition::policy::first_fit;
 use crate::definition::share::springs;
 use crate::random::Random;
 use std::cmp::Reverse;
 
-/// The shares of a table of good records at a step; none where a record is bad.
-fn shares(table: &Table, step: u32) -> Vec<u64> {
-    let (w, q) = (table.settings.w, table.settings.q);
+/// What the tasks of a table of good records ask for at a step; nothing where a record is bad.
+fn asked(table: &Table, step: u32) -> Vec<u64> {
+    let Settings { w, q, edition, .. } = table.settings;
     if table.rows.iter().all(|row| row.is_good(w, q)) {
-        shares_at(&springs(&table.rows, w), step)
+        Loads::of_rows(&table.rows, w, q, edition).at(step)
     } else {
         vec![]
     }
 }
 
-/// The tasks by falling share, each on the fullest processor that can take it; where none can, on the emptiest.
-pub fn best_fit(m: u16, shares: &[u64]) -> Vec<u16> {
-    let mut tasks: Vec<usize> = (0..shares.len()).collect();
-    tasks.sort_by_key(|task| Reverse(shares[*task]));
-    let (mut loads, mut proposal) = (vec![0; usize::from(m)], vec![0; shares.len()]);
+/// The tasks by how much they ask for, the most first, each on the fullest processor that can take it; where none can, on the emptiest.
+pub fn best_fit(m: u16, asked: &[u64]) -> Vec<u16> {
+    let mut tasks: Vec<usize> = (0..asked.len()).collect();
+    tasks.sort_by_key(|task| Reverse(asked[*task]));
+    let (mut loads, mut proposal) = (vec![0; usize::from(m)], vec![0; asked.len()]);
     for task in tasks {
-        let fitting = (0..loads.len()).filter(|j| loads[*j] + shares[task] <= SCALE);
+        let fitting = (0..loads.len()).filter(|j| loads[*j] + asked[task] <= SCALE);
         let emptiest = (0..loads.len()).min_by_key(|j| loads[*j]).expect("a processor");
         let chosen = fitting.max_by_key(|j| loads[*j]).unwrap_or(emptiest);
-        loads[chosen] += shares[task];
+        loads[chosen] += asked[task];
         proposal[task] = chosen as u16 + 1;
     }
     proposal
@@ -45,11 +45,11 @@ fn shared_out(random: &mut Random, m: u16, tasks: usize) -> Vec<u16> {
 /// A proposal of processors from 1 to m for all rows of a table, good or not, at a step.
 fn planned(random: &mut Random, table: &Table, step: u32) -> Vec<u16> {
     let m = table.settings.m.clamp(1, 16);
-    let shares = shares(table, step);
+    let asked = asked(table, step);
     match random.between(0, 9) {
-        _ if shares.len() < table.rows.len() => shared_out(random, m, table.rows.len()),
-        0..=2 => first_fit(m, &shares).unwrap_or_else(|| best_fit(m, &shares)),
-        3..=7 => best_fit(m, &shares),
+        _ if asked.len() < table.rows.len() => shared_out(random, m, table.rows.len()),
+        0..=2 => first_fit(m, &asked).unwrap_or_else(|| best_fit(m, &asked)),
+        3..=7 => best_fit(m, &asked),
         _ => shared_out(random, m, table.rows.len()),
     }
 }

@@ -15,9 +15,10 @@ pub struct Raw {
     pub results: Vec<Granted>,
 }
 
-/// As many numbers of the settings section as its count says: those that there are, then some that nobody knows, six at the most.
+/// As many numbers of the settings section as its count says: those that there are, then some that nobody knows, seven at the most.
 fn settings_section(settings: Settings) -> Vec<u16> {
-    let numbers = [settings.number, settings.m, settings.w, settings.q, 1, 1];
+    let Settings { number, m, w, q, edition, .. } = settings;
+    let numbers = [number, m, w, q, edition, 1, 1];
     numbers.into_iter().take(usize::from(settings.count)).collect()
 }
 
@@ -79,8 +80,8 @@ pub fn random_sheet(random: &mut Random, table: &Table) -> Raw {
     Raw::honest(table, &results)
 }
 
-/// Settings counts, right and wrong; before other settings than they count even 2 to 4 are wrong.
-pub const SETTINGS_COUNTS: [u16; 11] = [0, 1, 2, 3, 4, 5, 6, 258, 259, 512, 65535];
+/// Settings counts, right and wrong; before other settings than they count even 2 to 5 are wrong.
+pub const SETTINGS_COUNTS: [u16; 12] = [0, 1, 2, 3, 4, 5, 6, 7, 258, 261, 512, 65535];
 /// Task counts above 32.
 const BAD_TASK_COUNTS: [u16; 5] = [33, 34, 40, 256, 65535];
 

@@ -1,19 +1,20 @@
 //! Random tables: general ones, exact fits, ties, first fits that waver, huge ranges. Each is made with a swap cost of 0 and a notch
-//! of 1; the swaps are paid and the notches set afterwards.
+//! of 1; the swaps are paid and the notches set afterwards. What fits exactly does so by the loads of the edition aimed at.
 
 use super::bench::{case_k_rows, HUGE_RANGE};
 use crate::definition::bound::bound;
-use crate::definition::finder::shares_at;
 use crate::definition::kinds::{is_multiple, Policy, Record, MOST_TASKS, SCALE};
+use crate::definition::load::Loads;
 use crate::definition::policy::{passes, sides};
 use crate::definition::share::{full_compression, spring, springs, Spring};
 use crate::random::Random;
 
-/// Policy number and processors that a table is made for.
+/// Policy number, processors and edition that a table is made for.
 #[derive(Clone, Copy)]
 pub struct Aim {
     pub number: u16,
     pub m: u16,
+    pub edition: u16,
     /// The greatest full compression wanted.
     pub most_steps: u32,
 }
@@ -140,12 +141,12 @@ pub fn crossing(random: &mut Random, aim: Aim) -> Vec<Record> {
 
 /// Adds rigid tasks that make the table fit exactly at a step, or a part or two beside it.
 fn fit_at(random: &mut Random, rows: &mut Vec<Record>, step: u32, aim: Aim) {
-    let shares = shares_at(&springs(rows, 0), step);
+    let loads = Loads::of_rows(rows, 0, 1, aim.edition).at(step);
     if aim.number == 5 {
-        return fit_bound(random, rows, shares.iter().sum());
+        return fit_bound(random, rows, loads.iter().sum());
     }
-    let largest = shares.iter().copied().max().unwrap_or(1);
-    let (left, right) = sides(Policy::from_number(aim.number), aim.m, &shares).expect("1 or 2");
+    let largest = loads.iter().copied().max().unwrap_or(1);
+    let (left, right) = sides(Policy::from_number(aim.number), aim.m, &loads).expect("1 or 2");
     let missing = right - left + random.between(0, 3) as i128 - 1;
     fill(random, rows, missing.max(0) as u64, largest);
 }
@@ -175,10 +176,10 @@ pub fn exact_first_fit(random: &mut Random, aim: Aim) -> Vec<Record> {
             record_near(random, parts, aim.most_steps)
         })
         .collect();
-    let springs = springs(&rows, 0);
-    let step = telling_step(random, &springs);
-    for share in shares_at(&springs, step) {
-        let parts = (SCALE + random.between(0, 2)).saturating_sub(share + 1);
+    let step = telling_step(random, &springs(&rows, 0));
+    let loads = Loads::of_rows(&rows, 0, 1, aim.edition).at(step);
+    for load in loads {
+        let parts = (SCALE + random.between(0, 2)).saturating_sub(load + 1);
         if parts > 0 {
             rows.push(rigid(parts));
         }
@@ -208,10 +209,10 @@ pub fn tied(random: &mut Random, aim: Aim) -> Vec<Record> {
 }
 
 /// Whether first fit fails at step 0, passes at a later step and fails again after it.
-pub fn wavers(m: u16, rows: &[Record]) -> bool {
-    let springs = springs(rows, 0);
-    let passing = |step| passes(Policy::FirstFit, m, &shares_at(&springs, step));
-    let last = full_compression(&springs);
+pub fn wavers(m: u16, rows: &[Record], edition: u16) -> bool {
+    let loads = Loads::of_rows(rows, 0, 1, edition);
+    let passing = |step| passes(Policy::FirstFit, m, &loads.at(step));
+    let last = loads.full_compression();
     let Some(first) = (0..=last).find(|step| passing(*step)) else {
         return false;
     };
@@ -245,10 +246,10 @@ fn patchwork(random: &mut Random) -> (u16, Vec<Record>) {
 }
 
 /// A first-fit table that passes and then fails again; case K when none is met.
-pub fn wavering(random: &mut Random) -> (u16, Vec<Record>) {
+pub fn wavering(random: &mut Random, edition: u16) -> (u16, Vec<Record>) {
     for _ in 0..60 {
         let (m, rows) = if random.one_in(2) { shaken_case_k(random) } else { patchwork(random) };
-        if wavers(m, &rows) {
+        if wavers(m, &rows, edition) {
             return (m, rows);
         }
     }

@@ -1,4 +1,4 @@
-//! "Bench settings to try" with document 01's answers, and case B under policy 5, with swaps and with notches.
+//! "Bench settings to try" with document 01's answers, case B under policy 5, with swaps and with notches, and cases in edition 2.
 
 use super::{plan_of, quick_of, refused, step_of, HALF_SPRING};
 use crate::call::{Settings, Table};
@@ -44,6 +44,28 @@ fn cases_with_steps_periods_and_looks() {
     expect("B, q = 10", 100, &[20, 20], 2);
     expect("B, w = 1, q = 2", 300, &[16, 16], 2);
     expect("B, w = 1, q = 5", 300, &[20, 20], 2);
+}
+
+#[test]
+fn cases_in_the_second_edition() {
+    expect("B, edition 1", 100, &[12, 12], 2);
+    expect("A, edition 2", 0, &[], 1);
+    // 12 ticks charge 500,000 parts, and step 55 is the first at which 11 are not enough
+    expect("B, edition 2", 55, &[12, 12], 8);
+    // "Case D then gives step 139 with the same periods."
+    expect("D, edition 2", 139, &[11, 14], 9);
+    expect("E, edition 2", 55, &[12, 12, 12], 8);
+    expect("J, edition 2", 1, &[2, 2], 20);
+    // 15 ticks charge 400,000 parts, of a bound of 828,427
+    expect("B under 5, edition 2", 172, &[15, 15], 8);
+    // 16 of 8 ticks' work
+    expect("B, w = 1, edition 2", 267, &[16, 16], 8);
+    // from 10 ticks to 15 at the first step
+    expect("B, q = 5, edition 2", 1, &[15, 15], 9);
+    assert_eq!(quick_of(&case("I, edition 2")), (refused(7, 0), 1));
+    let case_k = case("K, edition 2");
+    assert_eq!(step_of(&case_k), Ok(5));
+    assert_eq!(plan_of(&case_k), plan_of(&case("K")));
 }
 
 #[test]

@@ -7,7 +7,7 @@ use crate::definition::finder::{plain, quick};
 use crate::definition::kinds::{Policy, Record};
 use crate::definition::margin::margin;
 use crate::definition::policy::sides;
-use crate::definition::share::{halved_period, springs, stepped_period};
+use crate::definition::share::{halved_period, springs, stepped_period, worked_out_period};
 
 fn counted(number: u16, m: u16, count: u16) -> Table {
     let rows = vec![HALF_SPRING; usize::from(count).min(32)];
@@ -278,7 +278,7 @@ fn an_answer_on_a_saturation_step_counts_the_steps_below_it_only() {
 }
 
 #[test]
-fn stepping_and_halving_find_the_same_period() {
+fn stepping_halving_and_working_out_find_the_same_period() {
     for (c, tmin, tmax) in [(6, 10, 20), (1, 1, 100_000), (3000, 4000, 5000), (7, 7, 90_006)] {
         let record = Record::new(c, tmin, tmax, 1);
         for w in [0, 1, 1_000] {
@@ -291,7 +291,7 @@ fn stepping_and_halving_find_the_same_period() {
     }
 }
 
-/// Both, at shares from the least to the largest; and one notch less is not enough, or is under Tmin.
+/// All three, at shares from the least to the largest; and one notch less is not enough, or is under Tmin.
 fn same_periods(record: Record, w: u16, q: u16) {
     let spring = springs(&[record], w)[0];
     let between = (spring.least + spring.largest) / 2;
@@ -299,6 +299,7 @@ fn same_periods(record: Record, w: u16, q: u16) {
         if share <= spring.largest {
             let period = stepped_period(record, w, q, share);
             assert_eq!(halved_period(record, w, q, share), period);
+            assert_eq!(worked_out_period(record, w, q, share), period);
             let less = period - u32::from(q);
             let enough = record.cost(w) * 1_000_000 <= share * u64::from(less);
             assert!(period == record.tmin || !enough);

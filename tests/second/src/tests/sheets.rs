@@ -29,16 +29,21 @@ fn full_with_notches() -> Raw {
     Raw { settings_count: 4, settings: vec![1, 16, 9, 20], ..full() }
 }
 
+fn full_in_edition() -> Raw {
+    Raw { settings_count: 5, settings: vec![1, 16, 9, 20, 2], ..full() }
+}
+
 #[test]
 fn a_count_is_judged_as_soon_as_its_two_bytes_are_there() {
     assert_eq!(read(&[]), refused(8, 0));
-    assert_eq!(read(&[5]), refused(8, 1));
-    for count in [0, 1, 5, 6, 255] {
+    assert_eq!(read(&[6]), refused(8, 1));
+    for count in [0, 1, 6, 7, 255] {
         assert_eq!(read(&[count, 0]), refused(9, 0));
     }
     assert_eq!(read(&[2, 1]), refused(9, 0));
     assert_eq!(read(&[3, 1]), refused(9, 0));
     assert_eq!(read(&[4, 1]), refused(9, 0));
+    assert_eq!(read(&[5, 1]), refused(9, 0));
     assert_eq!(read(&[2, 0]), refused(8, 2));
     assert_eq!(read(&[3, 0]), refused(8, 2));
     assert_eq!(read(&[3, 0, 0, 0, 0, 0, 0]), refused(8, 7));
@@ -51,6 +56,11 @@ fn a_count_is_judged_as_soon_as_its_two_bytes_are_there() {
     assert_eq!(read(&[4, 0, 0, 0, 0, 0, 0, 0, 0, 0, 33, 0]), refused(3, 10));
     assert_eq!(read(&[4, 0, 0, 0, 0, 0, 0, 0, 0, 0, 0, 0, 1, 0]), refused(10, 12));
     assert_eq!(read(&[4, 0, 0, 0, 0, 0, 0, 0, 0, 0, 0, 0, 0, 0, 0]), refused(11, 14));
+    assert_eq!(read(&[5, 0, 0, 0, 0, 0, 0, 0, 0, 0]), refused(8, 10));
+    assert_eq!(read(&[5, 0, 0, 0, 0, 0, 0, 0, 0, 0, 0, 0, 33]), refused(8, 13));
+    assert_eq!(read(&[5, 0, 0, 0, 0, 0, 0, 0, 0, 0, 0, 0, 33, 0]), refused(3, 12));
+    assert_eq!(read(&[5, 0, 0, 0, 0, 0, 0, 0, 0, 0, 0, 0, 0, 0, 1, 0]), refused(10, 14));
+    assert_eq!(read(&[5, 0, 0, 0, 0, 0, 0, 0, 0, 0, 0, 0, 0, 0, 0, 0, 0]), refused(11, 16));
     assert_eq!(read(&[2, 0, 0, 0, 0, 0, 33]), refused(8, 7));
     assert_eq!(read(&[2, 0, 0, 0, 0, 0, 33, 0]), refused(3, 6));
     assert_eq!(read(&[2, 0, 0, 0, 0, 0, 0, 0, 1]), refused(8, 9));
@@ -60,9 +70,10 @@ fn a_count_is_judged_as_soon_as_its_two_bytes_are_there() {
 
 #[test]
 fn every_truncation_is_refused_8_at_its_length() {
-    let whole = [full().bytes(), full_with_swaps().bytes(), full_with_notches().bytes()];
-    assert_eq!([0, 1, 2].map(|index| whole[index].len()), [714, 716, Sheet::MOST_BYTES]);
-    assert_eq!(Sheet::MOST_BYTES, 718);
+    let whole = [full(), full_with_swaps(), full_with_notches(), full_in_edition()];
+    let whole = whole.map(|raw| raw.bytes());
+    assert_eq!([0, 1, 2, 3].map(|index| whole[index].len()), [714, 716, 718, Sheet::MOST_BYTES]);
+    assert_eq!(Sheet::MOST_BYTES, 720);
     for bytes in whole {
         for length in 0..bytes.len() {
             assert_eq!(read(&bytes[..length]), refused(8, length as u32));
@@ -72,37 +83,45 @@ fn every_truncation_is_refused_8_at_its_length() {
 }
 
 #[test]
-fn the_settings_count_is_kept_and_missing_are_w_0_and_q_1() {
-    let settings = |sheet: &Sheet| (sheet.settings_count, sheet.m, sheet.w, sheet.q);
+fn the_settings_count_is_kept_and_missing_are_w_0_q_1_and_edition_1() {
+    let settings = |sheet: &Sheet| (sheet.settings_count, sheet.m, sheet.w, sheet.q, sheet.edition);
     let two = read(&full().bytes()).expect("read");
     let three = read(&full_with_swaps().bytes()).expect("read");
     let four = read(&full_with_notches().bytes()).expect("read");
-    assert_eq!(settings(&two), (2, 16, 0, 1));
-    assert_eq!(settings(&three), (3, 16, 9, 1));
-    assert_eq!(settings(&four), (4, 16, 9, 20));
-    assert!(two.rows == three.rows && three.rows == four.rows);
-    // the reader does not judge q, and a refused reading is zeros
+    let five = read(&full_in_edition().bytes()).expect("read");
+    assert_eq!(settings(&two), (2, 16, 0, 1, 1));
+    assert_eq!(settings(&three), (3, 16, 9, 1, 1));
+    assert_eq!(settings(&four), (4, 16, 9, 20, 1));
+    assert_eq!(settings(&five), (5, 16, 9, 20, 2));
+    assert!(two.rows == three.rows && three.rows == four.rows && four.rows == five.rows);
+    // the reader judges neither q nor the edition, and a refused reading is zeros
     let none = read(&sheet_of(&Table::new(1, 1, &[]).with_notches(0))).expect("read");
-    assert_eq!(settings(&none), (4, 1, 0, 0));
-    assert_eq!(settings(&Sheet::zeros()), (0, 0, 0, 0));
+    assert_eq!(settings(&none), (4, 1, 0, 0, 1));
+    let strange = read(&sheet_of(&Table::new(1, 1, &[]).with_edition(77))).expect("read");
+    assert_eq!(settings(&strange), (5, 1, 0, 1, 77));
+    assert_eq!(settings(&Sheet::zeros()), (0, 0, 0, 0, 0));
 }
 
 #[test]
 fn the_writer_leaves_out_the_numbers_past_the_count() {
-    let mut sheet = Sheet { m: 4, w: 77, q: 88, ..Sheet::zeros() };
-    let mut buffer = [0xEE; 15];
+    let mut sheet = Sheet { m: 4, w: 77, q: 88, edition: 99, ..Sheet::zeros() };
+    let mut buffer = [0xEE; 17];
     sheet.settings_count = 2;
     assert_eq!(write(&sheet, &mut buffer), Ok(10));
     assert_eq!(buffer[..11], [2, 0, 0, 0, 4, 0, 0, 0, 0, 0, 0xEE]);
-    assert_eq!(read(&buffer[..10]), Ok(Sheet { w: 0, q: 1, ..sheet.clone() }));
+    assert_eq!(read(&buffer[..10]), Ok(Sheet { w: 0, q: 1, edition: 1, ..sheet.clone() }));
     sheet.settings_count = 3;
     assert_eq!(write(&sheet, &mut buffer), Ok(12));
     assert_eq!(buffer[..13], [3, 0, 0, 0, 4, 0, 77, 0, 0, 0, 0, 0, 0xEE]);
-    assert_eq!(read(&buffer[..12]), Ok(Sheet { q: 1, ..sheet.clone() }));
+    assert_eq!(read(&buffer[..12]), Ok(Sheet { q: 1, edition: 1, ..sheet.clone() }));
     sheet.settings_count = 4;
     assert_eq!(write(&sheet, &mut buffer), Ok(14));
-    assert_eq!(buffer, [4, 0, 0, 0, 4, 0, 77, 0, 88, 0, 0, 0, 0, 0, 0xEE]);
-    assert_eq!(read(&buffer[..14]), Ok(sheet));
+    assert_eq!(buffer[..15], [4, 0, 0, 0, 4, 0, 77, 0, 88, 0, 0, 0, 0, 0, 0xEE]);
+    assert_eq!(read(&buffer[..14]), Ok(Sheet { edition: 1, ..sheet.clone() }));
+    sheet.settings_count = 5;
+    assert_eq!(write(&sheet, &mut buffer), Ok(16));
+    assert_eq!(buffer, [5, 0, 0, 0, 4, 0, 77, 0, 88, 0, 99, 0, 0, 0, 0, 0, 0xEE]);
+    assert_eq!(read(&buffer[..16]), Ok(sheet));
 }
 
 #[test]
@@ -118,7 +137,8 @@ fn the_reader_keeps_a_strange_policy_and_judges_no_record() {
 fn what_is_read_is_written_back() {
     let withdrawn = Raw::honest(&Table::new(3, 2, &[HALF_SPRING; 3]), &made_up_results(3));
     let others = [(5, 2), (65535, 0)].map(|(number, m)| sheet_of(&Table::new(number, m, &[])));
-    let full = [full(), full_with_swaps(), full_with_notches()].map(|raw| raw.bytes());
+    let full = [full(), full_with_swaps(), full_with_notches(), full_in_edition()];
+    let full = full.map(|raw| raw.bytes());
     for bytes in [two_tasks(), withdrawn.bytes()].into_iter().chain(full).chain(others) {
         let mut buffer = vec![0xEE; bytes.len() + 3];
         let written = write(&read(&bytes).expect("read"), &mut buffer);
@@ -131,7 +151,7 @@ fn what_is_read_is_written_back() {
 fn the_writer_gives_9_then_3_then_10_then_5() {
     let mut sheet = Sheet::zeros();
     (sheet.task_count, sheet.result_count) = (40, 7);
-    for count in [0, 1, 5, 6, 258, 65535] {
+    for count in [0, 1, 6, 7, 258, 65535] {
         sheet.settings_count = count;
         assert_eq!(write(&sheet, &mut []), refused(9, 0));
     }
@@ -148,6 +168,8 @@ fn the_writer_gives_9_then_3_then_10_then_5() {
     assert_eq!(write(&sheet, &mut [0xEE; 121]), refused(5, 122));
     sheet.settings_count = 4;
     assert_eq!(write(&sheet, &mut [0xEE; 123]), refused(5, 124));
+    sheet.settings_count = 5;
+    assert_eq!(write(&sheet, &mut [0xEE; 125]), refused(5, 126));
     // what a refused reading hands back is not written
     assert_eq!(write(&Sheet::zeros(), &mut [0; 14]), refused(9, 0));
 }
@@ -179,6 +201,12 @@ fn a_change_over_is_a_part_of_a_lent_sheet() {
     assert_eq!(change_over(&good, &notches(5)), part(Which::Proposed, 12, 32));
     assert_eq!(change_over(&notches(10), &notches(0)), part(Which::Standing, 12, 32));
     assert_eq!(change_over(&notches(0), &notches(3)), part(Which::Standing, 0, 0));
+    // Ask 10: with five settings two bytes more; the second edition accepts what the first does not
+    let rows = [Record::new(10, 10, 12, 1000), Record::new(90, 1000, 1000, 0)];
+    let edition = |edition| sheet_of(&Table::new(1, 1, &rows).with_edition(edition));
+    assert_eq!(change_over(&good, &edition(2)), part(Which::Proposed, 14, 32));
+    assert_eq!(change_over(&edition(2), &edition(0)), part(Which::Standing, 14, 32));
+    assert_eq!(change_over(&edition(3), &edition(0)), part(Which::Standing, 0, 0));
 }
 
 #[test]
@@ -191,28 +219,33 @@ fn the_program_refuses_in_a_line() {
 }
 
 #[test]
-fn the_program_and_more_than_718_bytes() {
+fn the_program_and_more_than_720_bytes() {
     let longer = |raw: Raw, length: usize| {
         let mut bytes = raw.bytes();
         bytes.resize(length, 0);
         program(&bytes)
     };
-    for length in [715, 716, 717, 718, 719, 720, 800, 70_000] {
+    for length in [715, 716, 717, 718, 719, 720, 721, 722, 800, 70_000] {
         assert_eq!(longer(full(), length), b"refused 11 at 714\n");
         let without_results = Raw { result_count: 0, results: vec![], ..full() };
         assert_eq!(longer(without_results, length), b"refused 11 at 522\n");
         assert_eq!(longer(Raw { task_count: 33, ..full() }, length), b"refused 3 at 6\n");
         assert_eq!(longer(Raw { result_count: 31, ..full() }, length), b"refused 10 at 520\n");
     }
-    for length in [717, 718, 719, 720, 800, 70_000] {
+    for length in [717, 718, 719, 720, 721, 800, 70_000] {
         assert_eq!(longer(full_with_swaps(), length), b"refused 11 at 716\n");
         let wrong = Raw { task_count: 33, ..full_with_swaps() };
         assert_eq!(longer(wrong, length), b"refused 3 at 8\n");
     }
-    for length in [719, 720, 800, 70_000] {
+    for length in [719, 720, 721, 722, 800, 70_000] {
         assert_eq!(longer(full_with_notches(), length), b"refused 11 at 718\n");
         let wrong = Raw { task_count: 33, ..full_with_notches() };
         assert_eq!(longer(wrong, length), b"refused 3 at 10\n");
+    }
+    for length in [721, 722, 800, 70_000] {
+        assert_eq!(longer(full_in_edition(), length), b"refused 11 at 720\n");
+        let wrong = Raw { task_count: 33, ..full_in_edition() };
+        assert_eq!(longer(wrong, length), b"refused 3 at 12\n");
     }
 }
 
@@ -247,6 +280,28 @@ fn the_program_grants_whole_notches() {
         other[8] = q;
         assert_eq!(told(&other), line.as_bytes());
     }
+}
+
+#[test]
+fn the_program_goes_by_the_edition() {
+    // in notches of 5 ticks the first task is granted 15 from step 1 on, and then charged 400,000 parts
+    let rows = [HALF_SPRING, Record::new(600, 1000, 2000, 1000)];
+    let table = Table::new(1, 1, &rows).with_notches(5);
+    let under = |edition| program(&sheet_of(&table.clone().with_edition(edition)));
+    let granted = |output: &[u8]| {
+        let results = read(output).expect("read").results;
+        [results[0].period, results[1].period]
+    };
+    assert_eq!(granted(&under(1)), [15, 1200]);
+    assert_eq!(granted(&under(2)), [15, 1005]);
+    for (edition, other) in [(1, 2), (2, 1)] {
+        let mut output = under(edition);
+        assert_eq!(output[..12], [5, 0, 1, 0, 1, 0, 0, 0, 5, 0, edition as u8, 0]);
+        assert_eq!(told(&output), b"accepted\n");
+        output[10] = other;
+        assert_eq!(told(&output), b"refused 19 at 1\n");
+    }
+    assert_eq!([0, 3].map(under), [b"refused 2 at 0\n"; 2]);
 }
 
 #[test]

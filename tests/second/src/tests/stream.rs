@@ -11,13 +11,13 @@ use std::collections::BTreeSet;
 #[test]
 fn a_plain_call_and_its_answer_byte_by_byte() {
     let table = Table {
-        settings: Settings { number: 1, further: true, m: 1, count: 6, w: 1, q: 5 },
+        settings: Settings { number: 1, further: true, m: 1, count: 6, w: 1, q: 5, edition: 1 },
         count: 2,
         rows: vec![Record { c: 4, ..HALF_SPRING }; 2],
     };
     let call = Call::Plain(table, Rooms { periods: 2, processors: 3 });
     let row = [4, 0, 0, 0, 10, 0, 0, 0, 20, 0, 0, 0, 0xE8, 3, 0, 0];
-    let head = [1, 1, 0, 1, 1, 0, 6, 0, 1, 0, 5, 0, 2, 0, 2, 3];
+    let head = [1, 1, 0, 1, 1, 0, 6, 0, 1, 0, 5, 0, 1, 0, 2, 0, 2, 3];
     assert_eq!(call.payload(), [&head[..], &row, &row].concat());
     let expected = [0, 0, 0, 0, 0, 100, 0, 0, 0, 15, 0, 0, 0, 15, 0, 0, 0, 0, 0, 0, 0, 0x5A, 0x5A];
     assert_eq!(answer(&call), expected);
@@ -34,7 +34,15 @@ fn a_margin_is_8_bytes_in_twos_complement() {
 #[test]
 fn a_written_sheet_stands_before_sentinels() {
     let mut writing = Writing {
-        settings: Settings { number: 3, further: true, m: 258, count: 2, w: 772, q: 1286 },
+        settings: Settings {
+            number: 3,
+            further: true,
+            m: 258,
+            count: 2,
+            w: 772,
+            q: 1286,
+            edition: 1800,
+        },
         task_count: 0,
         result_count: 0,
         room: 14,
@@ -48,45 +56,50 @@ fn a_written_sheet_stands_before_sentinels() {
     assert_eq!(answer(&Call::Write(writing.clone())), expected);
     writing.settings.count = 4;
     let expected = [0, 0, 0, 0, 0, 14, 0, 4, 0, 3, 0, 2, 1, 4, 3, 6, 5, 0, 0, 0, 0];
+    assert_eq!(answer(&Call::Write(writing.clone())), expected);
+    writing.settings.count = 5;
+    writing.room = 16;
+    let expected = [0, 0, 0, 0, 0, 16, 0, 5, 0, 3, 0, 2, 1, 4, 3, 6, 5, 8, 7, 0, 0, 0, 0];
     assert_eq!(answer(&Call::Write(writing)), expected);
 }
 
 #[test]
-fn a_reading_has_the_settings_count_w_and_q_after_m() {
-    let front = |sheet: &[u8]| answer(&Call::Read(sheet.to_vec()))[..19].to_vec();
-    let sheet = [4, 0, 3, 0, 2, 1, 4, 3, 6, 5, 0, 0, 0, 0];
-    assert_eq!(front(&sheet), [0, 0, 0, 0, 0, 3, 0, 2, 1, 4, 0, 4, 3, 6, 5, 0, 0, 0, 0]);
-    // a missing q is 1
+fn a_reading_has_the_settings_count_w_q_and_the_edition_after_m() {
+    let front = |sheet: &[u8]| answer(&Call::Read(sheet.to_vec()))[..21].to_vec();
+    let sheet = [5, 0, 3, 0, 2, 1, 4, 3, 6, 5, 8, 7, 0, 0, 0, 0];
+    assert_eq!(front(&sheet), [0, 0, 0, 0, 0, 3, 0, 2, 1, 5, 0, 4, 3, 6, 5, 8, 7, 0, 0, 0, 0]);
+    // a missing q and a missing edition are 1
     let three = [3, 0, 3, 0, 2, 1, 4, 3, 0, 0, 0, 0];
-    assert_eq!(front(&three), [0, 0, 0, 0, 0, 3, 0, 2, 1, 3, 0, 4, 3, 1, 0, 0, 0, 0, 0]);
-    // a refused reading is zeros, the count and q included
-    assert_eq!(front(&sheet[..13]), [8, 13, 0, 0, 0, 0, 0, 0, 0, 0, 0, 0, 0, 0, 0, 0, 0, 0, 0]);
-    assert_eq!(front(&three[..11]), [8, 11, 0, 0, 0, 0, 0, 0, 0, 0, 0, 0, 0, 0, 0, 0, 0, 0, 0]);
+    assert_eq!(front(&three), [0, 0, 0, 0, 0, 3, 0, 2, 1, 3, 0, 4, 3, 1, 0, 1, 0, 0, 0, 0, 0]);
+    // a refused reading is zeros, the count, q and the edition included
+    let refused = |length: u8| [&[8, length][..], &[0; 19]].concat();
+    assert_eq!(front(&sheet[..15]), refused(15));
+    assert_eq!(front(&three[..11]), refused(11));
 }
 
 #[test]
 fn a_proposal_and_its_answer_byte_by_byte() {
     let table = Table {
-        settings: Settings { number: 7, further: true, m: 2, count: 9, w: 1, q: 5 },
+        settings: Settings { number: 7, further: true, m: 2, count: 9, w: 1, q: 5, edition: 2 },
         count: 2,
         rows: vec![Record { c: 4, ..HALF_SPRING }; 2],
     };
     let proposing = Proposing { table, step: 258, proposal: vec![2, 2, 770], room: 3 };
     let row = [4, 0, 0, 0, 10, 0, 0, 0, 20, 0, 0, 0, 0xE8, 3, 0, 0];
-    let head = [13, 7, 0, 1, 2, 0, 9, 0, 1, 0, 5, 0, 2, 0, 2, 1, 0, 0, 3, 3];
+    let head = [13, 7, 0, 1, 2, 0, 9, 0, 1, 0, 5, 0, 2, 0, 2, 0, 2, 1, 0, 0, 3, 3];
     let call = Call::Proposal(proposing.clone());
     assert_eq!(call.payload(), [&head[..], &row, &row, &[2, 0, 2, 0, 2, 3]].concat());
-    // 342,000 twice is 0xA6FE0 on the second processor
-    let loads = [0, 0, 0, 0, 0xE0, 0x6F, 0x0A, 0, 0xA5, 0xA5, 0xA5, 0xA5];
+    // 6 of 20 ticks twice is 600,000, or 0x927C0, on the second processor
+    let loads = [0, 0, 0, 0, 0xC0, 0x27, 0x09, 0, 0xA5, 0xA5, 0xA5, 0xA5];
     assert_eq!(answer(&call), [&[0; 5][..], &loads].concat());
-    let early = Call::Proposal(Proposing { step: 99, ..proposing });
+    let early = Call::Proposal(Proposing { step: 0, ..proposing });
     assert_eq!(answer(&early), [&[14, 2, 0, 0, 0][..], &[0xA5; 12]].concat());
 }
 
 #[test]
 fn the_rows_present_are_those_of_the_count_and_at_most_32() {
     let calls = Calls::of_seed(3);
-    for index in 0..10_000 {
+    for index in 0..15_000 {
         let call = calls.call(index);
         assert!(call.payload().len() <= MOST_PAYLOAD);
         match call {
@@ -157,10 +170,10 @@ fn random_calls_reach_every_answer_under_policy_5() {
 }
 
 #[test]
-fn the_first_10000_calls_reach_every_number_that_a_call_can_give() {
+fn the_first_15000_calls_reach_every_number_that_a_call_can_give() {
     let calls = Calls::of_seed(1);
     let mut reached = vec![BTreeSet::new(); 14];
-    for index in 0..10_000 {
+    for index in 0..15_000 {
         let call = calls.call(index);
         reached[usize::from(call.kind())].insert(number_of(&call, &answer(&call)));
     }

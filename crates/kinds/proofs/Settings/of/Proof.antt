@@ -18,8 +18,11 @@ array-read-swap c = search needs
 array-read-notch : tie.Need-array-read-notch
 array-read-notch c = search needs
 
+array-read-edition : tie.Need-array-read-edition
+array-read-edition c = search needs
+
 returns : tie.Need-returns
 returns c = rw (c .of .ensures)
 
 pub of-spec : {M : Type 1} → statement M
-of-spec = tie.close (tie.spec array-read-of of-requires array-read-m array-read-swap array-read-notch returns)
+of-spec = tie.close (tie.spec array-read-of of-requires array-read-m array-read-swap array-read-notch array-read-edition returns)

@@ -1,9 +1,9 @@
--- `quick::let_down_to` meets its contract. Assumes nothing.
+-- `springs::let_down_to` meets its contract. Assumes nothing.
 use mathlib.Core.Path.{sym, _∙_}
 use Rattle.ground.proofs.Least.{at-step, nothing-at}
 use borrow.Author.Needs.{needs}
-use Rattle.quick.proofs.let_down_to.Statement.{statement}
-use Rattle.quick.proofs.let_down_to.Tie as tie
+use Rattle.springs.proofs.let_down_to.Statement.{statement}
+use Rattle.springs.proofs.let_down_to.Tie as tie
 
 enum-known-step : tie.Need-enum-known-step
 enum-known-step c = search needs

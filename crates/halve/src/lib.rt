@@ -1,0 +1,128 @@
+// Ask 10: the quick finder's search under edition 2. It halves the range of steps from 0 to full compression and one more, which means none,
+// and tests each middle on the charges. Contracts cite `specs/Halves`.
+use ground::Ended;
+use ground::Step;
+use kinds::Policy;
+use kinds::Table;
+ghost use mathlib.Core.Bool.{true};
+ghost use mathlib.Core.Path.{_≡_};
+ghost use Prim.Native.Nat.{ℕ, _≤_, _<_};
+ghost use lib.ListN.{length, getD};
+ghost use Rattle.ground.specs.Folds.{maxTo};
+ghost use Rattle.kinds.specs.Limits.{mostTasks, mostProcessors};
+ghost use Rattle.kinds.specs.Policy.{Served, isWeighed};
+ghost use Rattle.springs.specs.Columns.{springIn, chargesOn};
+ghost use Rattle.springs.specs.Handover.{Saturates, Chargeable};
+ghost use Rattle.policy.specs.Passing.{passesAt};
+ghost use Rattle.halve.specs.Halves.{half, HalvingEnds};
+
+// The steps that are left, and the looks made.
+pub struct Range {
+    pub from: u32,
+    pub to: u32,
+    pub looks: u32,
+}
+
+// One look: tests the middle, keeps one half, and raises the count by one. A column is lent for the charges.
+fn look(
+    policy: Policy,
+    m: u16,
+    notch: u16,
+    largest: &[u32; Table::MOST_TASKS],
+    least: &[u32; Table::MOST_TASKS],
+    elasticity: &[u32; Table::MOST_TASKS],
+    cost: &[u32; Table::MOST_TASKS],
+    tmin: &[u32; Table::MOST_TASKS],
+    n: usize,
+    charges: &mut [u32; Table::MOST_TASKS],
+    range: Range,
+) -> Range
+    requires { ⌜ Chargeable notch (now largest) (now least) (now elasticity) (now cost) (now tmin) n × (length (now charges) ≡ mostTasks)
+        × (1 ≤ m) × (m ≤ mostProcessors) × Served policy × (range .from < range .to) × (range .to ≤ 1000000) × (range .looks ≤ 20) ⌝ }
+    ensures { λ r. ⌜ (r ≡ half (passesAt policy m (chargesOn notch (now (cost .entry)) (now (tmin .entry))
+        (springIn (now (largest .entry)) (now (least .entry)) (now (elasticity .entry)))) n) range)
+        × (length (now (charges .exit)) ≡ mostTasks) ⌝ }
+{
+    let middle = (range.from + range.to) / 2;
+    let passed = policy::passes_charged(
+        policy,
+        m,
+        notch,
+        largest,
+        least,
+        elasticity,
+        cost,
+        tmin,
+        n,
+        middle,
+        charges,
+    );
+    let looks = range.looks + 1;
+    if passed {
+        return Range {
+            from: range.from,
+            to: middle,
+            looks,
+        };
+    }
+    let above = middle + 1;
+    Range {
+        from: above,
+        to: range.to,
+        looks,
+    }
+}
+
+// The least step that passes, of a policy that is weighed, and the looks that it took.
+pub fn least_step(
+    policy: Policy,
+    m: u16,
+    notch: u16,
+    largest: &[u32; Table::MOST_TASKS],
+    least: &[u32; Table::MOST_TASKS],
+    elasticity: &[u32; Table::MOST_TASKS],
+    saturation: &[u32; Table::MOST_TASKS],
+    cost: &[u32; Table::MOST_TASKS],
+    tmin: &[u32; Table::MOST_TASKS],
+    n: usize,
+) -> Ended
+    requires { ⌜ Chargeable notch (now largest) (now least) (now elasticity) (now cost) (now tmin) n
+        × Saturates (springIn (now largest) (now least) (now elasticity)) (now saturation) n
+        × (1 ≤ m) × (m ≤ mostProcessors) × (isWeighed policy ≡ true) ⌝ }
+    ensures { λ r. ⌜ HalvingEnds (passesAt policy m (chargesOn notch (now (cost .entry)) (now (tmin .entry))
+        (springIn (now (largest .entry)) (now (least .entry)) (now (elasticity .entry)))) n)
+        (maxTo (λ (i : ℕ). getD (now (saturation .entry)) i 0) n) r ⌝ }
+{
+    let full = springs::full_compression(saturation, n);
+    let mut charges = [0u32; Table::MOST_TASKS];
+    let none = full + 1;
+    let mut range = Range {
+        from: 0,
+        to: none,
+        looks: 0,
+    };
+    while range.from < range.to {
+        range = look(
+            policy,
+            m,
+            notch,
+            largest,
+            least,
+            elasticity,
+            cost,
+            tmin,
+            n,
+            &mut charges,
+            range,
+        );
+    }
+    let looks = range.looks;
+    if range.from <= full {
+        let step = Step::At(range.from);
+        return Ended { step, looks };
+    }
+    Ended {
+        step: Step::Nothing,
+        looks,
+    }
+}

@@ -1,0 +1,29 @@
+-- `springs::loads_of` meets its contract. Assumes nothing.
+use mathlib.Core.Path.{sym, _∙_}
+use Rattle.springs.proofs.Charged.{as-shares, as-charges}
+use borrow.Author.Needs.{needs}
+use Rattle.springs.proofs.loads_of.Statement.{statement}
+use Rattle.springs.proofs.loads_of.Tie as tie
+
+tests-charge-requires : tie.Need-tests-charge-requires
+tests-charge-requires c κs = search needs
+
+charges-of-requires : tie.Need-charges-of-requires
+charges-of-requires c κs = search needs
+
+returns : tie.Need-returns
+returns c =
+    let i = c .before .before in
+    let t = i .before in
+    let a = t .before .args in
+    as-charges (a .settings) (a .cost .now) (a .tmin .now) (a .shares .now) (c .charges-of .last .1 .1 .1 .0) _
+    (sym (t .tests-charge .ensures) ∙ i .if1 .taken) (c .charges-of .ensures)
+
+returns-2 : tie.Need-returns-2
+returns-2 c =
+    let t = c .before in
+    let a = t .before .args in
+    as-shares (a .settings) (a .cost .now) (a .tmin .now) (a .shares .now) _ (sym (t .tests-charge .ensures) ∙ c .if1 .left)
+
+pub loads-of-spec : {M : Type 1} → statement M
+loads-of-spec = tie.close (tie.spec tests-charge-requires charges-of-requires returns returns-2)
