@@ -8,8 +8,8 @@
  *    1   the policy is not 1 to 5                                          0
  *    2   there are no processors, or more than 16 (policy 5, asked of a    0
  *        finder or the margin: than 1), or q is 0 or the edition neither
- *        1 nor 2 (where a station is asked)
- *    3   there are more than 32 tasks                                      the count (reading s settings: 2 + 2s, import: 32)
+ *        1 nor 2 (where a station is asked; a kept table: q is 0)
+ *    3   there are more than 32 tasks, or there would be after a join      the count (reading s settings: 2 + 2s, import: 32)
  *    4   policy 4, asked of the quick finder or the margin                 0
  *    5   a lent output holds fewer entries, rows or bytes than needed,     how many are needed
  *        or a proposal fewer entries
@@ -20,6 +20,7 @@
  *    9   the settings count is not 2 to 5                                  0
  *   10   the result count is neither 0 nor the task count                  where it stands (writing: 0)
  *   11   there are bytes after the last section                            the first of them
+ *   12   a record that is to leave is not there                            its number
  *   13   a proposal's processor is not 1 to m                              the first such task, from 0
  *   14   a proposal loads a processor above S, which is 1,000,000 parts    the lowest such processor, from 1
  *   15   policy 3, which is withdrawn: in the place of 1                   0
@@ -28,8 +29,8 @@
  *   18   checking a filled sheet: tasks stand there without results        0
  *   19   checking a filled sheet: a result differs                         the first such result, from 0
  *
- * A refusal writes nothing to what was lent, and its step, looks, margin, count or sheet is 0 (but for the looks of 7). An acceptance
- * writes what its answer needs, and nothing past it. */
+ * A refusal writes nothing to what was lent, and its step, looks, margin, count or sheet is 0 (but for the looks of 7, and a kept table is
+ * handed back as it was). An acceptance writes what its answer needs, and nothing past it. */
 #ifndef EELBASKET_H
 #define EELBASKET_H
 #include <stddef.h>
@@ -139,6 +140,25 @@ struct eelbasket_verdict eelbasket_check(const uint8_t *sheet, size_t sheet_len)
 /* The change-over: the task records of the proposed sheet if it reads and the plain finder accepts it, otherwise those of the standing
  * one under the same condition, otherwise the empty front of the standing sheet. It refuses nothing. */
 struct eelbasket_part eelbasket_change_over(const uint8_t *standing, size_t standing_len, const uint8_t *proposed, size_t proposed_len);
+
+/* ---- A table kept with its saturation order ---- */
+
+/* The numbers of a table's tasks with E > 0, ordered by saturation step, ties by record number: the first n entries count. */
+struct eelbasket_index { uint16_t entries[EELBASKET_MOST_TASKS]; size_t n; };
+
+/* A table and its index. A change takes them and hands them back changed, with the index worked out afresh, whatever was handed in, and with
+ * zeros past both ends. */
+struct eelbasket_kept { struct eelbasket_table table; struct eelbasket_index index; };
+
+/* What a change tells: where it is refused, what was handed in is handed back as it was, past the ends too. */
+struct eelbasket_changed { uint32_t number; size_t place; struct eelbasket_kept kept; };
+
+/* The table with a task joined at its end, with a swap cost w and a notch q. Refusals 2, 3 (at the count, from 32 on), 6 (the joining task at
+ * the count). */
+struct eelbasket_changed eelbasket_join(struct eelbasket_kept kept, uint16_t w, uint16_t q, struct eelbasket_task task);
+
+/* The table without a record, from 0; later ones move down by one. Refusals 2, 3 (at the count, above 32), 6, 12. */
+struct eelbasket_changed eelbasket_leave(struct eelbasket_kept kept, uint16_t w, uint16_t q, size_t record);
 
 /* ---- Tables from the office: a line `C,Tmin,Tmax,E` for each task ---- */
 

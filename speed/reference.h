@@ -1,4 +1,4 @@
-/* Both finders in C, to compare with: the same promises, the same algorithms, written as one would for speed. */
+/* Both finders, a join and a leave in C, to compare with: the same promises, the same algorithms, written as one would for speed. */
 #ifndef REFERENCE_H
 #define REFERENCE_H
 #include "eelbasket.h"
@@ -13,4 +13,8 @@ finder reference_multiplied, reference_select, reference_max;
 /* The quick finder. Each of them serves both editions: edition 2 tests charges, two divisions for a task and step, and the quick finder
    halves the range of steps. */
 finder reference_quick;
+
+/* A join, and a leave: the index is sorted by insertion. */
+struct eelbasket_changed reference_join(struct eelbasket_kept kept, uint16_t w, uint16_t q, struct eelbasket_task task);
+struct eelbasket_changed reference_leave(struct eelbasket_kept kept, uint16_t w, uint16_t q, size_t place);
 #endif

@@ -1,4 +1,5 @@
-/* Times the library's finders beside those of reference.c on the same tables, after checking that they agree, and prints ratios. */
+/* Times the library's finders, joins and leaves beside those of reference.c on the same tables, after checking that they agree, and prints
+ * ratios. */
 #include <stdio.h>
 #include <time.h>
 #include "reference.h"
@@ -67,6 +68,73 @@ static int quick(const char *name, const char *what, const struct eelbasket_task
     return row(name, what, forms, 2, rows, n, s);
 }
 
+/* A join of the task, or a leave of the record in the middle. */
+typedef struct eelbasket_changed change(const struct eelbasket_kept *kept, struct eelbasket_task task);
+
+enum { SWAP = 5, NOTCH = 1 };
+
+static struct eelbasket_changed join(const struct eelbasket_kept *kept, struct eelbasket_task task) {
+    return eelbasket_join(*kept, SWAP, NOTCH, task);
+}
+
+static struct eelbasket_changed join_in_c(const struct eelbasket_kept *kept, struct eelbasket_task task) {
+    return reference_join(*kept, SWAP, NOTCH, task);
+}
+
+static struct eelbasket_changed leave(const struct eelbasket_kept *kept, struct eelbasket_task task) {
+    (void)task;
+    return eelbasket_leave(*kept, SWAP, NOTCH, kept->table.n / 2);
+}
+
+static struct eelbasket_changed leave_in_c(const struct eelbasket_kept *kept, struct eelbasket_task task) {
+    (void)task;
+    return reference_leave(*kept, SWAP, NOTCH, kept->table.n / 2);
+}
+
+static int same_change(const struct eelbasket_changed *a, const struct eelbasket_changed *b) {
+    int same = a->number == b->number && a->place == b->place && a->kept.table.n == b->kept.table.n && a->kept.index.n == b->kept.index.n;
+    for (int i = 0; i < 32; i++) {
+        const struct eelbasket_task *t = &a->kept.table.rows[i], *u = &b->kept.table.rows[i];
+        same = same && t->c == u->c && t->tmin == u->tmin && t->tmax == u->tmax && t->e == u->e;
+        same = same && a->kept.index.entries[i] == b->kept.index.entries[i];
+    }
+    return same;
+}
+
+static double change_batch(change *f, const struct eelbasket_kept *kept, struct eelbasket_task task, long calls) {
+    static struct eelbasket_changed changed;
+    double start = now();
+    for (long i = 0; i < calls; i++) changed = f(kept, task);
+    return (now() - start) / (double)calls + 0 * (double)changed.number;
+}
+
+static int change_row(const char *name, const char *what, change *const *f, const struct eelbasket_kept *kept, struct eelbasket_task task) {
+    struct eelbasket_changed a = f[0](kept, task), b = f[1](kept, task);
+    if (a.number != 0 || !same_change(&a, &b)) {
+        printf("%s, %s: the two do not agree\n", name, what);
+        return 0;
+    }
+    double best[] = {1e18, 1e18}, start = now();
+    for (int turn = 0; turn < 5 || now() - start < 5e8; turn++)
+        for (int j = 0; j < 2; j++) {
+            double x = change_batch(f[j], kept, task, 100);
+            if (x < best[j]) best[j] = x;
+        }
+    printf("| %s | %s | %.0f | %.0f | %.2f |\n", name, what, best[0], best[1], best[0] / best[1]);
+    return 1;
+}
+
+/* A join to all rows but the last, and a leave of all of them. */
+static int changes(const char *name, const struct eelbasket_task *rows, size_t n) {
+    static struct eelbasket_kept kept;
+    static change *const joins[] = {join, join_in_c}, *const leaves[] = {leave, leave_in_c};
+    for (size_t i = 0; i < n; i++) kept.table.rows[i] = rows[i];
+    kept.table.n = n - 1;
+    int ok = change_row(name, "join", joins, &kept, rows[n - 1]);
+    kept.table.n = n;
+    return ok & change_row(name, "leave", leaves, &kept, rows[n - 1]);
+}
+
 static void spread(struct eelbasket_task *rows, int n, uint32_t from, uint32_t step) {
     for (int i = 0; i < n; i++) rows[i] = (struct eelbasket_task){(uint32_t)(300 + 17 * i), (uint32_t)(1000 + 31 * i), (uint32_t)(9000 + 501 * i), from + step * (uint32_t)i};
 }
@@ -103,6 +171,11 @@ int main(void) {
         ok &= quick(name, "quick, policy 2, q = 10, edition 2", rows, 20, (struct eelbasket_station){2, 4, 0, 10, 2});
         ok &= plain(name, "plain, policy 2, q = 10, edition 2", rows, 20, (struct eelbasket_station){2, 4, 0, 10, 2});
     }
+    spread(rows, 32, 100, 100);
+    ok &= changes("20 tasks, E 100 to 2000", rows, 20);
+    ok &= changes("32 tasks, E 100 to 3200", rows, 32);
+    for (int i = 0; i < 32; i++) rows[i].e = (uint32_t)(13 * i % 32 * 100 + 100);
+    ok &= changes("32 tasks, E mixed", rows, 32);
     for (int i = 0; i < 32; i++) rows[i] = (struct eelbasket_task){1, 1, 1000000000, 1};
     ok &= quick("case J", "quick", rows, 2, (struct eelbasket_station){1, 1, 0, 1, 1});
     ok &= plain("case J", "plain", rows, 2, (struct eelbasket_station){1, 1, 0, 1, 1});

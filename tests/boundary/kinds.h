@@ -16,6 +16,9 @@ void answer_change_over(void);
 void answer_fill(void);
 void answer_check(void);
 
+/* of a kept table */
+void answer_keep(void);
+
 /* of the release clock */
 void answer_clock(void);
 

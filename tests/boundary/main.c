@@ -9,8 +9,8 @@
 
 /* In the order of the kinds, from kind 1. */
 static void (*const answers[])(void) = {
-    answer_plain, answer_quick, answer_margin, answer_read,  answer_write,  answer_change_over, answer_fill,
-    answer_wide,  answer_check, answer_clock,  answer_import, answer_export, answer_proposal,
+    answer_plain, answer_quick, answer_margin, answer_read,   answer_write,  answer_change_over, answer_fill,
+    answer_wide,  answer_check, answer_clock,  answer_import, answer_export, answer_proposal,    answer_keep,
 };
 
 int main(void) {

@@ -1,6 +1,7 @@
 // The library for C and Rust: the calls of `told` and those over lent records, exported. A slice is a pointer and then a length. Contracts
 // cite the definitions of `told`, which read the numbers that cross as the calls' own promises.
 mod clocked;
+mod kept;
 mod sheets;
 mod texts;
 

@@ -8,7 +8,7 @@ use Rattle.ground.specs.Choice.{pick}
 use Rattle.kinds.specs.declared.Refusal.{Refusal}
 use Rattle.kinds.specs.declared.Refusal.the-variants.{NoSuchPolicy, NoSuchProcessors, TooManyTasks, PolicyNotServed, OutputTooShort}
 use Rattle.kinds.specs.declared.Refusal.the-variants.{BadRecord, NoStepPasses, SheetEnds, WrongSettingsCount, WrongResultCount}
-use Rattle.kinds.specs.declared.Refusal.the-variants.{BytesAfterLast, ProcessorOutOfRange, ProcessorOverfull, PolicyWithdrawn}
+use Rattle.kinds.specs.declared.Refusal.the-variants.{BytesAfterLast, NoSuchRecord, ProcessorOutOfRange, ProcessorOverfull, PolicyWithdrawn}
 use Rattle.kinds.specs.declared.Refusal.the-variants.{BadLine, BadPeriod, NoResults, WrongResult}
 use Rattle.kinds.specs.Refusal.{numberOf, placeOf}
 
@@ -26,13 +26,14 @@ again number place =
     (pick (eqb number 9) WrongSettingsCount
     (pick (eqb number 10) (WrongResultCount place)
     (pick (eqb number 11) (BytesAfterLast place)
+    (pick (eqb number 12) (NoSuchRecord place)
     (pick (eqb number 13) (ProcessorOutOfRange place)
     (pick (eqb number 14) (ProcessorOverfull place)
     (pick (eqb number 15) PolicyWithdrawn
     (pick (eqb number 16) (BadLine place)
     (pick (eqb number 17) (BadPeriod place)
     (pick (eqb number 18) NoResults
-    (WrongResult place)))))))))))))))))
+    (WrongResult place))))))))))))))))))
 
 again-is : (r : Refusal) → again (numberOf r) (placeOf r) ≡ r
 unfolding again
@@ -47,6 +48,7 @@ again-is (SheetEnds place) = refl
 again-is WrongSettingsCount = refl
 again-is (WrongResultCount place) = refl
 again-is (BytesAfterLast place) = refl
+again-is (NoSuchRecord place) = refl
 again-is (ProcessorOutOfRange place) = refl
 again-is (ProcessorOverfull place) = refl
 again-is PolicyWithdrawn = refl
@@ -71,6 +73,7 @@ refusal-numbered (SheetEnds place) = omega arith
 refusal-numbered WrongSettingsCount = omega arith
 refusal-numbered (WrongResultCount place) = omega arith
 refusal-numbered (BytesAfterLast place) = omega arith
+refusal-numbered (NoSuchRecord place) = omega arith
 refusal-numbered (ProcessorOutOfRange place) = omega arith
 refusal-numbered (ProcessorOverfull place) = omega arith
 refusal-numbered PolicyWithdrawn = omega arith

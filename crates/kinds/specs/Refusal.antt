@@ -4,7 +4,7 @@ use Prim.Native.Nat.{ℕ}
 use Rattle.kinds.specs.declared.Refusal.{Refusal}
 use Rattle.kinds.specs.declared.Refusal.the-variants.{NoSuchPolicy, NoSuchProcessors, TooManyTasks, PolicyNotServed, OutputTooShort}
 use Rattle.kinds.specs.declared.Refusal.the-variants.{BadRecord, NoStepPasses, SheetEnds, WrongSettingsCount, WrongResultCount}
-use Rattle.kinds.specs.declared.Refusal.the-variants.{BytesAfterLast, ProcessorOutOfRange, ProcessorOverfull, PolicyWithdrawn}
+use Rattle.kinds.specs.declared.Refusal.the-variants.{BytesAfterLast, NoSuchRecord, ProcessorOutOfRange, ProcessorOverfull, PolicyWithdrawn}
 use Rattle.kinds.specs.declared.Refusal.the-variants.{BadLine, BadPeriod, NoResults, WrongResult}
 
 abbrev pub numberOf : Refusal → ℕ
@@ -19,6 +19,7 @@ numberOf (SheetEnds place) = 8
 numberOf WrongSettingsCount = 9
 numberOf (WrongResultCount place) = 10
 numberOf (BytesAfterLast place) = 11
+numberOf (NoSuchRecord place) = 12
 numberOf (ProcessorOutOfRange place) = 13
 numberOf (ProcessorOverfull place) = 14
 numberOf PolicyWithdrawn = 15
@@ -39,6 +40,7 @@ placeOf (SheetEnds place) = place
 placeOf WrongSettingsCount = 0
 placeOf (WrongResultCount place) = place
 placeOf (BytesAfterLast place) = place
+placeOf (NoSuchRecord place) = place
 placeOf (ProcessorOutOfRange place) = place
 placeOf (ProcessorOverfull place) = place
 placeOf PolicyWithdrawn = 0

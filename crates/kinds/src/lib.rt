@@ -121,6 +121,13 @@ impl Table {
     }
 }
 
+// The index beside a table by value: numbers of its records, with room for the most tasks, of which the first n count.
+#[repr(C)]
+pub struct Index {
+    pub entries: [u16; Table::MOST_TASKS],
+    pub n: usize,
+}
+
 // A policy is a choice of its own; a number outside 1 to 5 is kept in the further choice.
 pub enum Policy {
     Pooled,
@@ -311,6 +318,7 @@ pub enum Refusal {
     WrongSettingsCount,
     WrongResultCount(usize),
     BytesAfterLast(usize),
+    NoSuchRecord(usize),
     ProcessorOutOfRange(usize),
     ProcessorOverfull(usize),
     PolicyWithdrawn,
@@ -336,6 +344,7 @@ impl Refusal {
             Refusal::WrongSettingsCount => 9,
             Refusal::WrongResultCount(_) => 10,
             Refusal::BytesAfterLast(_) => 11,
+            Refusal::NoSuchRecord(_) => 12,
             Refusal::ProcessorOutOfRange(_) => 13,
             Refusal::ProcessorOverfull(_) => 14,
             Refusal::PolicyWithdrawn => 15,
@@ -361,6 +370,7 @@ impl Refusal {
             Refusal::WrongSettingsCount => 0,
             Refusal::WrongResultCount(place) => place,
             Refusal::BytesAfterLast(place) => place,
+            Refusal::NoSuchRecord(place) => place,
             Refusal::ProcessorOutOfRange(place) => place,
             Refusal::ProcessorOverfull(place) => place,
             Refusal::PolicyWithdrawn => 0,

@@ -12,11 +12,14 @@ use Rattle.proposal.specs.Proposal as proposal
 use Rattle.told.specs.declared.Told.{Told}
 use Rattle.told.specs.declared.ToldMargin.{ToldMargin}
 use Rattle.told.specs.declared.clocked.ToldStart.{ToldStart}
+use Rattle.told.specs.declared.kept.ToldChange.{ToldChange}
 use Rattle.told.specs.Told.{toldHanded, toldMargin, ToldMeets, ToldLooked}
 use Rattle.told.specs.declared.verdicts.ToldVerdict.{ToldVerdict}
 use Rattle.told.specs.Clocked.{toldStart}
 use Rattle.told.specs.Verdicts.{toldVerdict, ToldProposal}
+use Rattle.told.specs.Kept.{toldChange}
 use Rattle.clock.specs.declared.Clock.{Clock}
+use Rattle.keep.specs.declared.Kept.{Kept}
 
 -- number, place, step and looks
 told-same : (r q : Told) → toldHanded r ≡ toldHanded q → r .looks ≡ q .looks → r ≡ q
@@ -49,3 +52,6 @@ told-verdict-one h r q a b = let e = a ∙ sym b in λ i. record { number = e i 
 pub told-proposal-one : (o : proposal.Outcome) (r q : ToldVerdict) (loads other : List ℕ) → ToldProposal o r loads → ToldProposal o q other
     → (r ≡ q) × (loads ≡ other)
 told-proposal-one o r q loads other a b = (told-verdict-one (o .handed) r q (a .answers) (b .answers), a .leaves ∙ sym (b .leaves))
+
+pub told-change-one : (h : Handed Kept) (r q : ToldChange) → toldChange r ≡ h → toldChange q ≡ h → r ≡ q
+told-change-one h r q a b = let e = a ∙ sym b in λ i. record { number = e i .number; place = e i .place; kept = e i .value }

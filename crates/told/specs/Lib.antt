@@ -1,3 +1,4 @@
 pub mod Told
 pub mod Clocked
 pub mod Verdicts
+pub mod Kept

@@ -1,6 +1,7 @@
 // What crosses to C and Rust. An enum does not cross, so a policy comes as its number, and an answer goes as document 01's numbers: 0 for
 // an acceptance. Contracts cite `specs/Told`, which reads the numbers as the calls' own promises. `embed` exports these calls.
 pub mod clocked;
+pub mod kept;
 pub mod verdicts;
 
 use kinds::Answer;

@@ -187,5 +187,6 @@ pub fn answer(call: &Call) -> Vec<u8> {
         Call::Import { entries, text } => import_answer(*entries, text),
         Call::Export(exporting) => export_answer(exporting),
         Call::Proposal(proposing) => proposal_answer(proposing),
+        Call::Keep(keeping) => keeping.answer(),
     }
 }

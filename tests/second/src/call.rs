@@ -4,6 +4,7 @@ use crate::clock_run::Run;
 use crate::definition::admission::Question;
 use crate::definition::kinds::{Granted, Policy, Record, Sheet, MOST_TASKS};
 use crate::definition::wide::{WideQuestion, WideRecord};
+use crate::keeping::Keeping;
 
 /// The most bytes of a payload.
 pub const MOST_PAYLOAD: usize = 2_000;
@@ -88,10 +89,11 @@ pub enum Call {
     Import { entries: u8, text: Vec<u8> },
     Export(Exporting),
     Proposal(Proposing),
+    Keep(Keeping),
 }
 
 /// The names of the kinds of call, from kind 1.
-pub const KIND_NAMES: [&str; 13] = [
+pub const KIND_NAMES: [&str; 14] = [
     "plain finder",
     "quick finder",
     "margin",
@@ -105,6 +107,7 @@ pub const KIND_NAMES: [&str; 13] = [
     "import",
     "export",
     "proposal",
+    "kept order",
 ];
 
 /// The rows or results that the stream has of a count.
@@ -295,6 +298,7 @@ impl Call {
             Call::Import { .. } => 11,
             Call::Export(..) => 12,
             Call::Proposal(..) => 13,
+            Call::Keep(..) => 14,
         }
     }
 
@@ -331,6 +335,7 @@ impl Call {
                 put_rows(&mut bytes, &exporting.rows);
             }
             Call::Proposal(proposing) => put_proposing(&mut bytes, proposing),
+            Call::Keep(keeping) => keeping.put(&mut bytes),
         }
         bytes
     }

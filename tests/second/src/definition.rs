@@ -7,6 +7,7 @@ pub mod change_over;
 pub mod checked;
 pub mod clock;
 pub mod finder;
+pub mod keep;
 pub mod kinds;
 pub mod load;
 pub mod margin;

@@ -7,12 +7,14 @@ mod edges_of_checked;
 pub mod edges_of_clock;
 mod edges_of_editions;
 mod edges_of_finders;
+mod edges_of_keeping;
 mod edges_of_notches;
 pub mod edges_of_office;
 mod edges_of_proposals;
 mod edges_of_sheets;
 mod edges_of_swaps;
 pub mod edges_of_wide;
+mod keepings;
 mod mix;
 mod office_texts;
 pub mod proposals;
@@ -41,6 +43,7 @@ impl Calls {
         fixed.extend(edges_of_clock::calls());
         fixed.extend(edges_of_office::calls());
         fixed.extend(edges_of_proposals::calls());
+        fixed.extend(edges_of_keeping::calls());
         Calls { seed, fixed }
     }
 

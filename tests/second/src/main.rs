@@ -6,6 +6,7 @@ mod clock_run;
 mod command;
 mod definition;
 mod generator;
+mod keeping;
 mod random;
 mod readable;
 #[cfg(test)]

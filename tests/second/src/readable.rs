@@ -4,6 +4,7 @@ use crate::answer::{BUFFER_SENTINEL, PERIOD_SENTINEL, PROCESSOR_SENTINEL, ROW_SE
 use crate::call::{Call, Rooms, Settings, Table, WideTable, KIND_NAMES};
 use crate::clock_run::released_text;
 use crate::definition::kinds::{Granted, Record, MOST_TASKS};
+use crate::keeping::kept_text;
 use std::fmt::Write;
 
 /// Bytes in hex, a space between them.
@@ -93,6 +94,7 @@ pub fn call_text(call: &Call) -> String {
             text.push_str(&rooms_line(*rooms));
         }
         Call::Clock(run) => text.push_str(&run.text()),
+        Call::Keep(keeping) => text.push_str(&keeping.text()),
         Call::Import { entries, text: lines } => {
             let _ = writeln!(text, "  room: {entries} rows");
             let _ = writeln!(text, "  text: {:?}", String::from_utf8_lossy(lines));
@@ -254,6 +256,7 @@ fn fields_text(call: &Call, answer: &[u8]) -> Option<String> {
             let loads = fields.entries(proposing.room, 4, u64::from(PERIOD_SENTINEL))?;
             format!("{verdict}  loads: {loads}\n")
         }
+        Call::Keep(_) => format!("{}{}", fields.verdict()?, kept_text(&mut fields.rest)?),
         Call::Program(_) => program_text(fields.take(answer.len())?),
         Call::Check(_) => {
             format!("{}{}", fields.verdict()?, program_text(fields.take(fields.rest.len())?))

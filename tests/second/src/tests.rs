@@ -4,6 +4,7 @@ mod bench;
 mod clock;
 mod editions;
 mod finders;
+mod keep;
 mod office;
 mod proposals;
 mod sheets;

@@ -1,6 +1,7 @@
 //! One random call: its kind, its settings, its table or sheet, its outputs.
 
 use super::clock_runs::random_run;
+use super::keepings::random_keeping;
 use super::office_texts;
 use super::proposals;
 use super::sheets::{damaged, overlong, random_results, random_sheet, SETTINGS_COUNTS};
@@ -27,19 +28,20 @@ pub fn random_call(random: &mut Random, index: usize) -> Call {
         return long_scan(random);
     }
     match random.between(0, 99) {
-        0..=18 => plain(random),
-        19..=37 => quick(random),
-        38..=48 => margin(random),
-        49..=54 => Call::Read(sheet(random)),
-        55..=60 => Call::Write(writing(random)),
-        61..=67 => Call::ChangeOver { standing: sheet(random), proposed: sheet(random) },
-        68..=73 => Call::Program(sheet(random)),
-        74..=78 => Call::Check(checked_sheet(random)),
-        79..=83 => Call::Clock(random_run(random)),
-        84..=87 => several_cores(random),
-        88..=90 => office_texts::import(random),
-        91..=92 => office_texts::export(random),
-        _ => proposal(random),
+        0..=17 => plain(random),
+        18..=35 => quick(random),
+        36..=45 => margin(random),
+        46..=50 => Call::Read(sheet(random)),
+        51..=55 => Call::Write(writing(random)),
+        56..=61 => Call::ChangeOver { standing: sheet(random), proposed: sheet(random) },
+        62..=66 => Call::Program(sheet(random)),
+        67..=71 => Call::Check(checked_sheet(random)),
+        72..=76 => Call::Clock(random_run(random)),
+        77..=80 => several_cores(random),
+        81..=83 => office_texts::import(random),
+        84..=85 => office_texts::export(random),
+        86..=92 => proposal(random),
+        _ => Call::Keep(random_keeping(random)),
     }
 }
 

@@ -4,8 +4,10 @@ use super::HALF_SPRING;
 use crate::answer::answer;
 use crate::call::{framed, Call, Proposing, Rooms, Settings, Table, Writing, MOST_PAYLOAD};
 use crate::clock_run::MOST_CALLS;
+use crate::definition::keep::{Change, Kept};
 use crate::definition::kinds::Record;
 use crate::generator::Calls;
+use crate::keeping::Keeping;
 use std::collections::BTreeSet;
 
 #[test]
@@ -97,6 +99,27 @@ fn a_proposal_and_its_answer_byte_by_byte() {
 }
 
 #[test]
+fn changes_of_a_kept_table_and_their_answers_byte_by_byte() {
+    let mut kept = Kept::fresh(&[Record { c: 4, ..HALF_SPRING }], 1);
+    // what stands past the ends, and an index of 258 entries that is not its own
+    kept.rows[31] = Record::new(1, 2, 3, 4);
+    (kept.entries, kept.index[0], kept.index[31]) = (258, 772, 1286);
+    let row = [4, 0, 0, 0, 10, 0, 0, 0, 20, 0, 0, 0, 0xE8, 3, 0, 0];
+    let last = [1, 0, 0, 0, 2, 0, 0, 0, 3, 0, 0, 0, 4, 0, 0, 0];
+    let given = [&[1, 0][..], &row, &[0; 480], &last, &[2, 1, 4, 3], &[0; 60], &[6, 5]].concat();
+    let call = |change, q| Call::Keep(Keeping { kept: kept.clone(), w: 1, q, change });
+    let leave = call(Change::Leave(513), 5);
+    assert_eq!(leave.payload(), [&[14, 1, 1, 0, 5, 0][..], &given, &[1, 2]].concat());
+    assert_eq!(answer(&leave), [&[12, 1, 2, 0, 0][..], &given].concat());
+    let join = call(Change::Join(Record { c: 4, ..HALF_SPRING }), 0);
+    assert_eq!(join.payload(), [&[14, 0, 1, 0, 0, 0][..], &given, &row].concat());
+    assert_eq!(answer(&join), [&[2, 0, 0, 0, 0][..], &given].concat());
+    let join = call(Change::Join(Record { c: 4, ..HALF_SPRING }), 5);
+    let joined = [&[2, 0][..], &row, &row, &[0; 480], &[2, 0, 0, 0, 1, 0], &[0; 60]].concat();
+    assert_eq!(answer(&join), [&[0; 5][..], &joined].concat());
+}
+
+#[test]
 fn the_rows_present_are_those_of_the_count_and_at_most_32() {
     let calls = Calls::of_seed(3);
     for index in 0..15_000 {
@@ -129,7 +152,7 @@ fn the_rows_present_are_those_of_the_count_and_at_most_32() {
                 assert_eq!(table.rows.len(), usize::from(table.count).min(32));
                 assert!(proposal.len() <= 40 && room <= 40);
             }
-            Call::Read(_) | Call::ChangeOver { .. } => {}
+            Call::Read(_) | Call::ChangeOver { .. } | Call::Keep(_) => {}
         }
     }
 }
@@ -172,12 +195,12 @@ fn random_calls_reach_every_answer_under_policy_5() {
 #[test]
 fn the_first_15000_calls_reach_every_number_that_a_call_can_give() {
     let calls = Calls::of_seed(1);
-    let mut reached = vec![BTreeSet::new(); 14];
+    let mut reached = vec![BTreeSet::new(); 15];
     for index in 0..15_000 {
         let call = calls.call(index);
         reached[usize::from(call.kind())].insert(number_of(&call, &answer(&call)));
     }
-    let expected: [&[u8]; 13] = [
+    let expected: [&[u8]; 14] = [
         &[0, 1, 2, 3, 5, 6, 7, 15],
         &[0, 1, 2, 3, 4, 5, 6, 7, 15],
         &[0, 1, 2, 3, 4, 6, 15],
@@ -191,6 +214,7 @@ fn the_first_15000_calls_reach_every_number_that_a_call_can_give() {
         &[0, 3, 5, 16],
         &[0, 3, 5],
         &[0, 2, 3, 5, 6, 13, 14],
+        &[0, 2, 3, 6, 12],
     ];
     for (index, numbers) in expected.iter().enumerate() {
         assert_eq!(reached[index + 1], numbers.iter().copied().collect(), "kind {}", index + 1);

@@ -1,0 +1,184 @@
+-- The records after a join and after a leave: which stand where, zeros past them, and which of them is the first bad one.
+-- Assumes nothing.
+use Prim.Native.Nat.{ℕ, _+_, _-_, _≤_, _<_}
+use mathlib.Core.Bool.{true, false, not}
+use mathlib.Core.List.{List}
+use mathlib.Core.Path.{_≡_, refl, sym, ap, _∙_}
+use native.Mathlib.Omega.{arith}
+use lib.ListN.{length, set}
+use borrow.Author.Tests.{lt-ltb, le-ltb}
+use Rattle.ground.specs.Folds.{listTo}
+use Rattle.ground.specs.Padded.{padded}
+use Rattle.ground.proofs.Buffer.{list-cong}
+use Rattle.ground.proofs.Cases.{by-le}
+use Rattle.ground.proofs.First.{first-unique, first-none}
+use Rattle.ground.proofs.Padding.{padded-long, padded-next, padded-in, padded-out}
+use Rattle.kinds.specs.declared.Task.{Task}
+use Rattle.kinds.specs.Limits.{mostTasks}
+use Rattle.kinds.specs.Task.{at, noTask, priced, isGood}
+use Rattle.share.specs.Table.{firstBad, pricedRows}
+use Rattle.share.proofs.Tables.{priced-at, first-bad-is}
+use Rattle.keep.specs.Keep.{joinedRow, leftFrom, leftRow, joinedRows, leftRows}
+
+-- where a record comes from once one has left
+module _ (place i : ℕ) where
+  pub from-before : i < place → i ≡ leftFrom place i
+  from-before h = rw (lt-ltb i place h)
+
+  pub from-after : place ≤ i → i + 1 ≡ leftFrom place i
+  from-after h = rw (le-ltb i place h)
+
+-- it is one of the records that there are
+pub from-within : (place i n : ℕ) → i < n → n ≤ mostTasks → (place < n → n < mostTasks) → leftFrom place i < mostTasks
+from-within place i n l few more =
+    by-le place i
+    (λ h. omega (arith, from-after place i h, more (omega arith)))
+    (λ h. omega (arith, from-before place i h))
+
+pub from-low : (place i n : ℕ) → i < n - 1 → leftFrom place i < n
+from-low place i n l =
+    by-le place i
+    (λ h. omega (arith, from-after place i h))
+    (λ h. omega (arith, from-before place i h))
+
+-- rows with zeros past them are their own first n, with zeros past them
+padded-again : (f : ℕ → Task) (n : ℕ) → n ≤ mostTasks
+    → padded noTask mostTasks (listTo f n) ≡ padded noTask mostTasks (listTo (at (padded noTask mostTasks (listTo f n))) n)
+padded-again f n few =
+    ap (padded noTask mostTasks)
+    (list-cong f (at (padded noTask mostTasks (listTo f n))) n (λ i l. sym (padded-in noTask mostTasks f n i l few)))
+
+-- the walk that copies the records without one of them
+pub record Copied (f : ℕ → Task) (n : ℕ) (rows : List Task) (i : ℕ) : Type 0 where
+  pub at-most : i ≤ n
+  pub is : rows ≡ padded noTask mostTasks (listTo f i)
+  pub long : length rows ≡ mostTasks
+
+pub copied-none : (f : ℕ → Task) (n : ℕ) (rows : List Task) → rows ≡ padded noTask mostTasks (listTo f 0) → Copied f n rows 0
+copied-none f n rows e = record { at-most = omega arith; is = e; long = ap length e ∙ padded-long noTask mostTasks (listTo f 0) }
+
+pub copied-more : (f : ℕ → Task) (n : ℕ) (rows : List Task) (i : ℕ) (t : Task) → Copied f n rows i → i < n → t ≡ f i → Copied f n (set rows i t) (i + 1)
+copied-more f n rows i t w l e =
+    let q : set rows i t ≡ padded noTask mostTasks (listTo f (i + 1)) = rw (w .is, e) (sym (padded-next noTask mostTasks f i)) in
+    record { at-most = omega arith; is = q; long = ap length q ∙ padded-long noTask mostTasks (listTo f (i + 1)) }
+
+module _ (rows : List Task) (n : ℕ) (t : Task) where
+  last-is : joinedRow rows n t n ≡ t
+  last-is = let h : n ≤ n = omega arith in rw (le-ltb n n h)
+
+  -- a task put after the records
+  pub joined-is : set (padded noTask mostTasks (listTo (leftRow rows n) n)) n t ≡ joinedRows rows n t
+  unfolding joinedRows
+  joined-is =
+      let e = list-cong (leftRow rows n) (joinedRow rows n t) n (λ i l. rw (lt-ltb i n l)) in
+      rw (e, padded-next noTask mostTasks (joinedRow rows n t) n, last-is)
+
+  module _ (few : n < mostTasks) where
+    -- Ask 6: "A task joins at the end of the table"
+    pub joined-keeps : (i : ℕ) → i < n → at (joinedRows rows n t) i ≡ at rows i
+    unfolding joinedRows
+    joined-keeps i l = padded-in noTask mostTasks (joinedRow rows n t) (n + 1) i (omega arith) (omega arith) ∙ rw (lt-ltb i n l)
+
+    pub joined-last : at (joinedRows rows n t) n ≡ t
+    unfolding joinedRows
+    joined-last = padded-in noTask mostTasks (joinedRow rows n t) (n + 1) n (omega arith) (omega arith) ∙ last-is
+
+    pub joined-past : (i : ℕ) → n < i → at (joinedRows rows n t) i ≡ noTask
+    unfolding joinedRows
+    joined-past i h = padded-out noTask mostTasks (joinedRow rows n t) (n + 1) i (omega arith) (omega arith)
+
+    pub joined-padded : joinedRows rows n t ≡ padded noTask mostTasks (listTo (at (joinedRows rows n t)) (n + 1))
+    unfolding joinedRows
+    joined-padded = padded-again (joinedRow rows n t) (n + 1) (omega arith)
+
+    -- "a bad record, in the table or (at the count) joining": the first bad one of the table where there is one
+    module _ (w q : ℕ) where
+      pub bad-in-table : firstBad w q rows n < n → firstBad w q (joinedRows rows n t) (n + 1) ≡ firstBad w q rows n
+      bad-in-table h =
+          let f = first-bad-is w q rows n in
+          first-unique (λ i. not (isGood w q (at (joinedRows rows n t) i))) (n + 1) _ _ (first-bad-is w q (joinedRows rows n t) (n + 1))
+          (record {
+            last = omega arith;
+            there = λ l. ap (λ (x : Task). not (isGood w q x)) (joined-keeps (firstBad w q rows n) h) ∙ f .there h;
+            before = λ j l. ap (λ (x : Task). not (isGood w q x)) (joined-keeps j (omega arith)) ∙ f .before j l;
+          })
+
+      -- where all of the table are good, the joining one at the count, or none
+      module _ (all : n ≤ firstBad w q rows n) where
+        before-joining : (j : ℕ) → j < n → not (isGood w q (at (joinedRows rows n t) j)) ≡ false
+        before-joining j l = ap (λ (x : Task). not (isGood w q x)) (joined-keeps j l) ∙ first-bad-is w q rows n .before j (omega arith)
+
+        pub bad-joining : isGood w q t ≡ false → firstBad w q (joinedRows rows n t) (n + 1) ≡ n
+        bad-joining b =
+            first-unique (λ i. not (isGood w q (at (joinedRows rows n t) i))) (n + 1) _ _ (first-bad-is w q (joinedRows rows n t) (n + 1))
+            (record {
+              last = omega arith;
+              there = λ l. ap (λ (x : Task). not (isGood w q x)) joined-last ∙ ap not b;
+              before = before-joining;
+            })
+
+        pub none-bad : isGood w q t ≡ true → firstBad w q (joinedRows rows n t) (n + 1) ≡ n + 1
+        none-bad g =
+            first-unique (λ i. not (isGood w q (at (joinedRows rows n t) i))) (n + 1) _ _ (first-bad-is w q (joinedRows rows n t) (n + 1))
+            (record {
+              last = omega arith;
+              there = λ l. absurd (omega arith);
+              before =
+                  λ j l.
+                  by-le n j
+                  (λ h.
+                  let e : j ≡ n = omega arith in
+                  rw e (ap (λ (x : Task). not (isGood w q x)) joined-last ∙ ap not g))
+                  (λ h. before-joining j h);
+            })
+
+module _ (rows : List Task) (n place : ℕ) (few : n ≤ mostTasks) where
+  pub left-at : (i : ℕ) → i < n - 1 → at (leftRows rows n place) i ≡ at rows (leftFrom place i)
+  unfolding leftRows
+  left-at i l = padded-in noTask mostTasks (leftRow rows place) (n - 1) i l (omega arith)
+
+  -- Ask 6: "leaves from any place, and later records move down by one"
+  pub left-before : (i : ℕ) → i < n - 1 → i < place → at (leftRows rows n place) i ≡ at rows i
+  left-before i l h = left-at i l ∙ ap (at rows) (sym (from-before place i h))
+
+  pub left-after : (i : ℕ) → i < n - 1 → place ≤ i → at (leftRows rows n place) i ≡ at rows (i + 1)
+  left-after i l h = left-at i l ∙ ap (at rows) (sym (from-after place i h))
+
+  pub left-past : (i : ℕ) → n - 1 ≤ i → at (leftRows rows n place) i ≡ noTask
+  unfolding leftRows
+  left-past i h = padded-out noTask mostTasks (leftRow rows place) (n - 1) i (omega arith) h
+
+  pub left-padded : leftRows rows n place ≡ padded noTask mostTasks (listTo (at (leftRows rows n place)) (n - 1))
+  unfolding leftRows
+  left-padded = padded-again (leftRow rows place) (n - 1) (omega arith)
+
+  -- those that stay cost what they cost
+  pub left-priced : (w i : ℕ) → i < n - 1 → at (pricedRows w (leftRows rows n place) (n - 1)) i ≡ at (pricedRows w rows n) (leftFrom place i)
+  left-priced w i l =
+      priced-at w (leftRows rows n place) (n - 1) i l
+      ∙ (ap (priced w) (left-at i l) ∙ sym (priced-at w rows n (leftFrom place i) (from-low place i n l)))
+
+  -- and are as good as they were
+  pub left-good : (w q : ℕ) → n ≤ firstBad w q rows n → n - 1 ≤ firstBad w q (leftRows rows n place) (n - 1)
+  unfolding firstBad
+  left-good w q all =
+      omega (
+        arith,
+        first-none (λ i. not (isGood w q (at (leftRows rows n place) i))) (n - 1) (n - 1)
+            (λ i l.
+            ap (λ (x : Task). not (isGood w q x)) (left-at i l)
+            ∙ first-bad-is w q rows n .before (leftFrom place i) (omega (arith, from-low place i n l)))
+            refl,
+      )
+
+-- what joined last and leaves again leaves the records that were there, with zeros past them
+pub joined-left : (rows : List Task) (n : ℕ) (t : Task) → n < mostTasks
+    → leftRows (joinedRows rows n t) (n + 1) n ≡ padded noTask mostTasks (listTo (at rows) n)
+unfolding leftRows
+joined-left rows n t few =
+    let e : n + 1 - 1 ≡ n = omega arith in
+    rw (
+      e,
+      list-cong (leftRow (joinedRows rows n t) n) (at rows) n
+          (λ i l. ap (at (joinedRows rows n t)) (sym (from-before n i l)) ∙ joined-keeps rows n t few i l),
+    )

@@ -1,0 +1,174 @@
+// Ask 6: tasks join and leave a table, beside which the index by saturation step is kept. The promises of `join` and `leave` are `joined`
+// and `left` of `specs/Keep`; what the functions hand each other is in `specs/Handover`.
+use kinds::Index;
+use kinds::Refusal;
+use kinds::Table;
+use kinds::Task;
+use kinds::Verdict;
+ghost use mathlib.Core.Path.{_≡_};
+ghost use Prim.Native.Nat.{_+_, _≤_, _<_};
+ghost use lib.ListN.{length};
+ghost use Rattle.ground.specs.Folds.{listTo};
+ghost use Rattle.kinds.specs.Limits.{mostTasks};
+ghost use Rattle.kinds.specs.Task.{table, tableWith};
+ghost use Rattle.kinds.specs.Answer.{accepted, refused};
+ghost use Rattle.keep.specs.Keep.{kept, leftFrom, leftRow, joinedRows, joined, left, handedChange};
+ghost use Rattle.keep.specs.Handover.{JudgedUntil, ClosedUp};
+
+// A table, and beside it the index of its tasks. It is laid out as C lays it out.
+#[repr(C)]
+pub struct Kept {
+    pub table: Table,
+    pub index: Index,
+}
+
+// The answer to a change, and what is kept after it.
+pub struct Changed {
+    pub answer: Verdict,
+    pub kept: Kept,
+}
+
+// A refused change, which alters nothing.
+fn refuse(kept: Kept, refusal: Refusal) -> Changed
+    ensures { λ r. ⌜ handedChange r ≡ refused kept refusal ⌝ }
+{
+    Changed {
+        answer: Verdict::Refused(refusal),
+        kept,
+    }
+}
+
+// An accepted change: the table, and the index worked out afresh.
+fn accept(table: Table, index: Index) -> Changed
+    ensures { λ r. ⌜ handedChange r ≡ accepted (kept table index) ⌝ }
+{
+    Changed {
+        answer: Verdict::Accepted,
+        kept: Kept { table, index },
+    }
+}
+
+// Where record i comes from once the record at a place has left.
+fn left_from(place: usize, i: usize) -> usize
+    requires { ⌜ i < mostTasks ⌝ }
+    ensures { λ r. ⌜ r ≡ leftFrom place i ⌝ }
+{
+    if i < place { i } else { i + 1 }
+}
+
+// The first n records of a table without the one at a place, and zeros past them.
+fn without(old: Table, place: usize, n: usize) -> Table
+    requires { ⌜ (n ≤ mostTasks) × (place < n → n < mostTasks) ⌝ }
+    ensures { λ r. ⌜ r ≡ tableWith (listTo (leftRow (old .rows) place) n) n ⌝ }
+{
+    let mut rows = [Task::NONE; Table::MOST_TASKS];
+    for i in 0..n {
+        let from = left_from(place, i);
+        let row = old.rows[from];
+        rows[i] = row;
+    }
+    Table { rows, n }
+}
+
+// A table with one task more at its end, and zeros past it.
+fn with(old: Table, task: Task) -> Table
+    requires { ⌜ old .n < mostTasks ⌝ }
+    ensures { λ r. ⌜ r ≡ table (joinedRows (old .rows) (old .n) task) (old .n + 1) ⌝ }
+{
+    let n = old.n;
+    let mut after = without(old, n, n);
+    after.rows[n] = task;
+    after.n = n + 1;
+    after
+}
+
+// The elasticities and saturation steps of a table, worked out once for a call into two lent columns, up to the first record that is not
+// good. Returns the number of that record, or how many there are.
+fn judge(
+    table: Table,
+    swap: u16,
+    notch: u16,
+    elasticity: &mut [u32; Table::MOST_TASKS],
+    saturation: &mut [u32; Table::MOST_TASKS],
+) -> usize
+    requires { ⌜ (table .n ≤ mostTasks) × (1 ≤ notch) × (length (now elasticity) ≡ mostTasks) × (length (now saturation) ≡ mostTasks) ⌝ }
+    ensures { λ r. ⌜ JudgedUntil swap notch (table .rows) (table .n) r (now (elasticity .exit)) (now (saturation .exit)) ⌝ }
+{
+    let mut largest = [0u32; Table::MOST_TASKS];
+    let mut least = [0u32; Table::MOST_TASKS];
+    let mut cost = [0u32; Table::MOST_TASKS];
+    let mut tmin = [0u32; Table::MOST_TASKS];
+    springs::springs_of(
+        table,
+        swap,
+        notch,
+        &mut largest,
+        &mut least,
+        elasticity,
+        saturation,
+        &mut cost,
+        &mut tmin,
+    )
+}
+
+// Moves the entries of a column that stand after a place down by one.
+fn close_up(column: &mut [u32; Table::MOST_TASKS], place: usize, n: usize)
+    requires { ⌜ (n ≤ mostTasks) × (place < n) × (length (now column) ≡ mostTasks) ⌝ }
+    ensures { λ _. ⌜ ClosedUp (now (column .entry)) place n (now (column .exit)) ⌝ }
+{
+    let last = n - 1;
+    for i in place..last {
+        column[i] = column[i + 1];
+    }
+}
+
+// Joins a task at the end of a table, where a swap costs so much and a notch is so wide.
+pub fn join(kept: Kept, swap: u16, notch: u16, task: Task) -> Changed
+    ensures { λ r. ⌜ handedChange r ≡ joined swap notch kept task ⌝ }
+{
+    let old = kept.table;
+    let n = old.n;
+    if notch == 0 {
+        return refuse(kept, Refusal::NoSuchProcessors);
+    }
+    if Table::MOST_TASKS <= n {
+        return refuse(kept, Refusal::TooManyTasks(n));
+    }
+    let after = with(old, task);
+    let mut elasticity = [0u32; Table::MOST_TASKS];
+    let mut saturation = [0u32; Table::MOST_TASKS];
+    let bad = judge(after, swap, notch, &mut elasticity, &mut saturation);
+    if bad <= n {
+        return refuse(kept, Refusal::BadRecord(bad));
+    }
+    let index = order::index_of(&elasticity, &saturation, n + 1);
+    accept(after, index)
+}
+
+// Lets the task at a place leave a table; later records move down by one.
+pub fn leave(kept: Kept, swap: u16, notch: u16, place: usize) -> Changed
+    ensures { λ r. ⌜ handedChange r ≡ left swap notch kept place ⌝ }
+{
+    let old = kept.table;
+    let n = old.n;
+    if notch == 0 {
+        return refuse(kept, Refusal::NoSuchProcessors);
+    }
+    if Table::MOST_TASKS < n {
+        return refuse(kept, Refusal::TooManyTasks(n));
+    }
+    let mut elasticity = [0u32; Table::MOST_TASKS];
+    let mut saturation = [0u32; Table::MOST_TASKS];
+    let bad = judge(old, swap, notch, &mut elasticity, &mut saturation);
+    if bad < n {
+        return refuse(kept, Refusal::BadRecord(bad));
+    }
+    if n <= place {
+        return refuse(kept, Refusal::NoSuchRecord(place));
+    }
+    close_up(&mut elasticity, place, n);
+    close_up(&mut saturation, place, n);
+    let index = order::index_of(&elasticity, &saturation, n - 1);
+    let rest = without(old, place, n - 1);
+    accept(rest, index)
+}

@@ -1,0 +1,6 @@
+pub mod Counting
+pub mod Weights
+pub mod Ranks
+pub mod Columns
+pub mod Indexes
+pub mod Examples
