@@ -15,7 +15,7 @@ use Rattle.kinds.specs.declared.Policy.{Policy}
 use Rattle.kinds.specs.declared.Refusal.{Refusal}
 use Rattle.kinds.specs.declared.Verdict.{Verdict}
 use Rattle.kinds.specs.declared.Verdict.the-variants.{Accepted, Refused}
-use Rattle.kinds.specs.declared.Refusal.the-variants.{NoSuchPolicy, PolicyWithdrawn, NoSuchProcessors, TooManyTasks, PolicyNotServed, OutputTooShort, BadRecord}
+use Rattle.kinds.specs.declared.Refusal.the-variants.{NoSuchPolicy, PolicyWithdrawn, Misset, TooManyTasks, PolicyNotServed, OutputTooShort, BadRecord}
 use Rattle.kinds.specs.Answer.{check, handedVerdict}
 use Rattle.kinds.specs.Refusal.{numberOf}
 use Rattle.kinds.specs.Limits.{mostTasks, mostProcessors}
@@ -131,7 +131,7 @@ then-unlike k (Refused r) rest h g = h
 pub gate-unlike : (test : Bool) (n k : ℕ) → 6 ≤ k → Unlike k (gate test n)
 unfolding gate
 gate-unlike test n k l =
-    check-unlike k test NoSuchProcessors _ (λ e. omega arith)
+    check-unlike k test Misset _ (λ e. omega arith)
     (check-unlike k (ltb mostTasks n) (TooManyTasks n) Accepted (λ e. omega arith) (λ e. omega arith))
 
 pub roomy-unlike : (n room k : ℕ) → 6 ≤ k → Unlike k (roomy n room)

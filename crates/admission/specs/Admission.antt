@@ -8,7 +8,7 @@ use Rattle.ground.specs.Choice.{both, either}
 use Rattle.kinds.specs.declared.Task.{Task}
 use Rattle.kinds.specs.declared.Policy.{Policy}
 use Rattle.kinds.specs.declared.Settings.{Settings}
-use Rattle.kinds.specs.declared.Refusal.the-variants.{NoSuchPolicy, PolicyWithdrawn, NoSuchProcessors, TooManyTasks, PolicyNotServed, OutputTooShort, BadRecord}
+use Rattle.kinds.specs.declared.Refusal.the-variants.{NoSuchPolicy, PolicyWithdrawn, Misset, TooManyTasks, PolicyNotServed, OutputTooShort, BadRecord}
 use Rattle.kinds.specs.declared.Verdict.{Verdict}
 use Rattle.kinds.specs.declared.Verdict.the-variants.{Accepted, Refused}
 use Rattle.kinds.specs.Limits.{mostTasks, mostProcessors, shareEdition, chargeEdition}
@@ -47,7 +47,7 @@ missetUnder s = either (missetNumbers s) (unsuited (meant (s .policy)) (s .m))
 
 -- 2 and 3, for any kind of table: something is misset, more tasks than there may be
 unfoldable pub gate : Bool → ℕ → Verdict
-gate misset n = check misset (Refused NoSuchProcessors) (check (ltb mostTasks n) (Refused (TooManyTasks n)) Accepted)
+gate misset n = check misset (Refused Misset) (check (ltb mostTasks n) (Refused (TooManyTasks n)) Accepted)
 
 -- 4: policy 4 is asked of a call that does not serve it
 abbrev pub served : Bool → Policy → Verdict

@@ -82,7 +82,7 @@ pub fn gate(misset: bool, n: usize) -> Verdict
     ensures { λ r. ⌜ r ≡ gate misset n ⌝ }
 {
     if misset {
-        return Verdict::Refused(Refusal::NoSuchProcessors);
+        return Verdict::Refused(Refusal::Misset);
     }
     if Table::MOST_TASKS < n {
         return Verdict::Refused(Refusal::TooManyTasks(n));

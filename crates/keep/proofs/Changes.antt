@@ -14,7 +14,7 @@ use Rattle.kinds.specs.declared.Task.{Task}
 use Rattle.kinds.specs.declared.Table.{Table}
 use Rattle.kinds.specs.declared.Index.{Index}
 use Rattle.kinds.specs.declared.Refusal.{Refusal}
-use Rattle.kinds.specs.declared.Refusal.the-variants.{NoSuchProcessors, TooManyTasks, BadRecord, NoSuchRecord}
+use Rattle.kinds.specs.declared.Refusal.the-variants.{Misset, TooManyTasks, BadRecord, NoSuchRecord}
 use Rattle.kinds.specs.declared.Verdict.{Verdict}
 use Rattle.kinds.specs.declared.Verdict.the-variants.{Accepted, Refused}
 use Rattle.kinds.specs.Answer.{Handed, accepted, refused, check, handedVerdict}
@@ -39,7 +39,7 @@ fresh-is w rows n after index e f = λ i. accepted (kept (e i) (f i))
 
 -- the four returns of a join
 module _ (w q : ℕ) (k : Kept) (t : Task) where
-  pub join-zero : q ≡ 0 → refused k NoSuchProcessors ≡ joined w q k t
+  pub join-zero : q ≡ 0 → refused k Misset ≡ joined w q k t
   unfolding joined mayJoin
   join-zero z = rw (eq-eqb q 0 z)
 
@@ -63,7 +63,7 @@ module _ (w q : ℕ) (k : Kept) (t : Task) where
 
 -- the five returns of a leave
 module _ (w q : ℕ) (k : Kept) (place : ℕ) where
-  pub leave-zero : q ≡ 0 → refused k NoSuchProcessors ≡ left w q k place
+  pub leave-zero : q ≡ 0 → refused k Misset ≡ left w q k place
   unfolding left mayLeave
   leave-zero z = rw (eq-eqb q 0 z)
 
@@ -162,7 +162,7 @@ pub twelve-last : (w q : ℕ) (rows : List Task) (n place p : ℕ) → mayLeave 
 unfolding mayLeave
 twelve-last w q rows n place p e =
     let r = NoSuchRecord p in
-    let a = passed-by (eqb q 0) NoSuchProcessors _ r (λ z. omega arith) e in
+    let a = passed-by (eqb q 0) Misset _ r (λ z. omega arith) e in
     let b = passed-by (ltb mostTasks n) (TooManyTasks n) _ r (λ z. omega arith) (a .1) in
     let c = good-by (ltb (firstBad w q rows n) n) (BadRecord (firstBad w q rows n)) _ r (λ z. omega arith) (b .1) in
     record {

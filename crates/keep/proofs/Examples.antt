@@ -6,7 +6,7 @@ use lib.ListN.{replicate}
 use Rattle.ground.specs.First.{firstFrom, firstBelow}
 use Rattle.ground.specs.Folds.{countTo, listTo}
 use Rattle.kinds.specs.declared.Task.{Task}
-use Rattle.kinds.specs.declared.Refusal.the-variants.{NoSuchProcessors, BadRecord, NoSuchRecord}
+use Rattle.kinds.specs.declared.Refusal.the-variants.{Misset, BadRecord, NoSuchRecord}
 use Rattle.kinds.specs.Answer.{accepted, refused}
 use Rattle.kinds.specs.Task.{task, noTask, table, isWithin, isGood}
 use Rattle.share.specs.Share.{saturationAt}
@@ -56,6 +56,6 @@ bad-leaves : left 3 1 found 0 ≡ refused found (BadRecord 0)
 unfolding slow fast found left mayLeave firstBad isGood isWithin firstBelow firstFrom
 bad-leaves = refl
 
-no-notch : left 0 0 found 2 ≡ refused found NoSuchProcessors
+no-notch : left 0 0 found 2 ≡ refused found Misset
 unfolding left mayLeave
 no-notch = refl

@@ -9,7 +9,7 @@ use Rattle.ground.specs.Padded.{padded}
 use Rattle.kinds.specs.declared.Task.{Task}
 use Rattle.kinds.specs.declared.Table.{Table}
 use Rattle.kinds.specs.declared.Index.{Index}
-use Rattle.kinds.specs.declared.Refusal.the-variants.{NoSuchProcessors, TooManyTasks, NoSuchRecord}
+use Rattle.kinds.specs.declared.Refusal.the-variants.{Misset, TooManyTasks, NoSuchRecord}
 use Rattle.kinds.specs.declared.Verdict.{Verdict}
 use Rattle.kinds.specs.declared.Verdict.the-variants.{Accepted, Refused}
 use Rattle.kinds.specs.Answer.{Handed, accepted, refused, check, handedWith}
@@ -49,14 +49,14 @@ leftRows rows n place = padded noTask mostTasks (listTo (leftRow rows place) (n 
 -- bad record, in the table or (at the count) joining, by 6"
 unfoldable pub mayJoin : ℕ → ℕ → List Task → ℕ → Task → Verdict
 mayJoin w q rows n t =
-    check (eqb q 0) (Refused NoSuchProcessors)
+    check (eqb q 0) (Refused Misset)
     (check (leb mostTasks n) (Refused (TooManyTasks n))
     (recordsGood w q (joinedRows rows n t) (n + 1)))
 
 -- "then a leave of a record that is not there by 12 at its number"
 unfoldable pub mayLeave : ℕ → ℕ → List Task → ℕ → ℕ → Verdict
 mayLeave w q rows n place =
-    check (eqb q 0) (Refused NoSuchProcessors)
+    check (eqb q 0) (Refused Misset)
     (check (ltb mostTasks n) (Refused (TooManyTasks n))
     (andThen (recordsGood w q rows n) (check (leb n place) (Refused (NoSuchRecord place)) Accepted)))
 

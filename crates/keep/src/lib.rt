@@ -129,7 +129,7 @@ pub fn join(kept: Kept, swap: u16, notch: u16, task: Task) -> Changed
     let old = kept.table;
     let n = old.n;
     if notch == 0 {
-        return refuse(kept, Refusal::NoSuchProcessors);
+        return refuse(kept, Refusal::Misset);
     }
     if Table::MOST_TASKS <= n {
         return refuse(kept, Refusal::TooManyTasks(n));
@@ -152,7 +152,7 @@ pub fn leave(kept: Kept, swap: u16, notch: u16, place: usize) -> Changed
     let old = kept.table;
     let n = old.n;
     if notch == 0 {
-        return refuse(kept, Refusal::NoSuchProcessors);
+        return refuse(kept, Refusal::Misset);
     }
     if Table::MOST_TASKS < n {
         return refuse(kept, Refusal::TooManyTasks(n));

@@ -6,7 +6,7 @@ use native.Mathlib.Omega.{arith}
 use lib.Dec.{eqb}
 use Rattle.ground.specs.Choice.{pick}
 use Rattle.kinds.specs.declared.Refusal.{Refusal}
-use Rattle.kinds.specs.declared.Refusal.the-variants.{NoSuchPolicy, NoSuchProcessors, TooManyTasks, PolicyNotServed, OutputTooShort}
+use Rattle.kinds.specs.declared.Refusal.the-variants.{NoSuchPolicy, Misset, TooManyTasks, PolicyNotServed, OutputTooShort}
 use Rattle.kinds.specs.declared.Refusal.the-variants.{BadRecord, NoStepPasses, SheetEnds, WrongSettingsCount, WrongResultCount}
 use Rattle.kinds.specs.declared.Refusal.the-variants.{BytesAfterLast, NoSuchRecord, ProcessorOutOfRange, ProcessorOverfull, PolicyWithdrawn}
 use Rattle.kinds.specs.declared.Refusal.the-variants.{BadLine, BadPeriod, NoResults, WrongResult}
@@ -16,7 +16,7 @@ use Rattle.kinds.specs.Refusal.{numberOf, placeOf}
 again : ℕ → ℕ → Refusal
 again number place =
     pick (eqb number 1) NoSuchPolicy
-    (pick (eqb number 2) NoSuchProcessors
+    (pick (eqb number 2) Misset
     (pick (eqb number 3) (TooManyTasks place)
     (pick (eqb number 4) PolicyNotServed
     (pick (eqb number 5) (OutputTooShort place)
@@ -38,7 +38,7 @@ again number place =
 again-is : (r : Refusal) → again (numberOf r) (placeOf r) ≡ r
 unfolding again
 again-is NoSuchPolicy = refl
-again-is NoSuchProcessors = refl
+again-is Misset = refl
 again-is (TooManyTasks place) = refl
 again-is PolicyNotServed = refl
 again-is (OutputTooShort place) = refl
@@ -63,7 +63,7 @@ refusal-one r q n p =
 
 pub refusal-numbered : (r : Refusal) → 1 ≤ numberOf r
 refusal-numbered NoSuchPolicy = omega arith
-refusal-numbered NoSuchProcessors = omega arith
+refusal-numbered Misset = omega arith
 refusal-numbered (TooManyTasks place) = omega arith
 refusal-numbered PolicyNotServed = omega arith
 refusal-numbered (OutputTooShort place) = omega arith

@@ -2,14 +2,14 @@
 -- Assumes nothing.
 use Prim.Native.Nat.{ℕ}
 use Rattle.kinds.specs.declared.Refusal.{Refusal}
-use Rattle.kinds.specs.declared.Refusal.the-variants.{NoSuchPolicy, NoSuchProcessors, TooManyTasks, PolicyNotServed, OutputTooShort}
+use Rattle.kinds.specs.declared.Refusal.the-variants.{NoSuchPolicy, Misset, TooManyTasks, PolicyNotServed, OutputTooShort}
 use Rattle.kinds.specs.declared.Refusal.the-variants.{BadRecord, NoStepPasses, SheetEnds, WrongSettingsCount, WrongResultCount}
 use Rattle.kinds.specs.declared.Refusal.the-variants.{BytesAfterLast, NoSuchRecord, ProcessorOutOfRange, ProcessorOverfull, PolicyWithdrawn}
 use Rattle.kinds.specs.declared.Refusal.the-variants.{BadLine, BadPeriod, NoResults, WrongResult}
 
 abbrev pub numberOf : Refusal → ℕ
 numberOf NoSuchPolicy = 1
-numberOf NoSuchProcessors = 2
+numberOf Misset = 2
 numberOf (TooManyTasks place) = 3
 numberOf PolicyNotServed = 4
 numberOf (OutputTooShort place) = 5
@@ -30,7 +30,7 @@ numberOf (WrongResult place) = 19
 
 abbrev pub placeOf : Refusal → ℕ
 placeOf NoSuchPolicy = 0
-placeOf NoSuchProcessors = 0
+placeOf Misset = 0
 placeOf (TooManyTasks place) = place
 placeOf PolicyNotServed = 0
 placeOf (OutputTooShort place) = place

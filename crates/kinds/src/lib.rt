@@ -308,7 +308,7 @@ pub struct Sheet {
 // One variant for each number of documents 01 and 02, with its place where that is not 0.
 pub enum Refusal {
     NoSuchPolicy,
-    NoSuchProcessors,
+    Misset,
     TooManyTasks(usize),
     PolicyNotServed,
     OutputTooShort(usize),
@@ -334,7 +334,7 @@ impl Refusal {
     {
         match self {
             Refusal::NoSuchPolicy => 1,
-            Refusal::NoSuchProcessors => 2,
+            Refusal::Misset => 2,
             Refusal::TooManyTasks(_) => 3,
             Refusal::PolicyNotServed => 4,
             Refusal::OutputTooShort(_) => 5,
@@ -360,7 +360,7 @@ impl Refusal {
     {
         match self {
             Refusal::NoSuchPolicy => 0,
-            Refusal::NoSuchProcessors => 0,
+            Refusal::Misset => 0,
             Refusal::TooManyTasks(place) => place,
             Refusal::PolicyNotServed => 0,
             Refusal::OutputTooShort(place) => place,

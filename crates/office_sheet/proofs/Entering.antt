@@ -7,7 +7,7 @@ use native.Mathlib.Omega.{arith}
 use lib.ListN.{length, drop}
 use borrow.Author.Tests.{le-leb, lt-leb}
 use Rattle.kinds.specs.declared.Refusal.{Refusal}
-use Rattle.kinds.specs.declared.Refusal.the-variants.{NoSuchPolicy, NoSuchProcessors}
+use Rattle.kinds.specs.declared.Refusal.the-variants.{NoSuchPolicy, Misset}
 use Rattle.kinds.specs.declared.Sheet.{Sheet}
 use Rattle.kinds.specs.declared.Table.{Table}
 use Rattle.kinds.specs.Limits.{mostTasks}
@@ -55,26 +55,26 @@ module _ (argument : List ℕ) where
 module _ (policy processors text : List ℕ) where
   with-policy : Setting → List ℕ
   with-policy s =
-      orLine (handedSetting NoSuchPolicy s) (λ p. orLine (handedSetting NoSuchProcessors (settingOf processors)) (λ m. enteredText p m text))
+      orLine (handedSetting NoSuchPolicy s) (λ p. orLine (handedSetting Misset (settingOf processors)) (λ m. enteredText p m text))
 
   pub policy-bad : settingOf policy ≡ Bad → entered policy processors text ≡ refusalLine 1 0
   unfolding entered with-policy
   policy-bad e =
       ap with-policy e
-      ∙ line-of {A = ℕ} 0 NoSuchPolicy (λ p. orLine (handedSetting NoSuchProcessors (settingOf processors)) (λ m. enteredText p m text))
+      ∙ line-of {A = ℕ} 0 NoSuchPolicy (λ p. orLine (handedSetting Misset (settingOf processors)) (λ m. enteredText p m text))
 
   module _ (p : ℕ) (e : settingOf policy ≡ Is p) where
     pub processors-bad : settingOf processors ≡ Bad → entered policy processors text ≡ refusalLine 2 0
     unfolding entered with-policy
     processors-bad f =
         ap with-policy e
-        ∙ (ap (λ (s : Setting). orLine (handedSetting NoSuchProcessors s) (λ m. enteredText p m text)) f
-        ∙ line-of {A = ℕ} 0 NoSuchProcessors (λ m. enteredText p m text))
+        ∙ (ap (λ (s : Setting). orLine (handedSetting Misset s) (λ m. enteredText p m text)) f
+        ∙ line-of {A = ℕ} 0 Misset (λ m. enteredText p m text))
 
     pub text-entered : (m : ℕ) → settingOf processors ≡ Is m → entered policy processors text ≡ enteredText p m text
     unfolding entered with-policy
     text-entered m f =
-        ap with-policy e ∙ ap (λ (s : Setting). orLine (handedSetting NoSuchProcessors s) (λ m. enteredText p m text)) f
+        ap with-policy e ∙ ap (λ (s : Setting). orLine (handedSetting Misset s) (λ m. enteredText p m text)) f
 
 -- the text
 module _ (p m : ℕ) (text : List ℕ) (i : Imported) (reads : Reads text mostTasks i) where

@@ -6,7 +6,7 @@ use lib.Dec.{leb}
 use lib.ListN.{replicate}
 use Rattle.ground.specs.Choice.{pick}
 use Rattle.kinds.specs.declared.Refusal.{Refusal}
-use Rattle.kinds.specs.declared.Refusal.the-variants.{NoSuchPolicy, NoSuchProcessors}
+use Rattle.kinds.specs.declared.Refusal.the-variants.{NoSuchPolicy, Misset}
 use Rattle.kinds.specs.declared.Sheet.{Sheet}
 use Rattle.kinds.specs.declared.Table.{Table}
 use Rattle.kinds.specs.Limits.{mostTasks, fewestSettings}
@@ -59,7 +59,7 @@ enteredText policy m text =
 unfoldable pub entered : List ℕ → List ℕ → List ℕ → List ℕ
 entered policy processors text =
     orLine (handedSetting NoSuchPolicy (settingOf policy)) (λ p.
-    orLine (handedSetting NoSuchProcessors (settingOf processors)) (λ m. enteredText p m text))
+    orLine (handedSetting Misset (settingOf processors)) (λ m. enteredText p m text))
 
 -- the text of a table, for which there is always room
 unfoldable pub takenTable : Table → List ℕ

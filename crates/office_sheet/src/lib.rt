@@ -68,7 +68,7 @@ pub fn enter(policy: &[u8], processors: &[u8], text: &[u8], out: &mut [u8; sheet
         return line::put_refusal(out, Refusal::NoSuchPolicy);
     };
     let Setting::Is(m) = setting_of(processors) else {
-        return line::put_refusal(out, Refusal::NoSuchProcessors);
+        return line::put_refusal(out, Refusal::Misset);
     };
     let imported = office::import(text, Table::MOST_TASKS);
     let answer = imported.answer;
