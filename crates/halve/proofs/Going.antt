@@ -1,23 +1,23 @@
 -- The loop that halves: one look more.
 -- Assumes nothing.
 use Prim.Native.Nat.{ℕ, _-_, _≤_, _<_}
-use mathlib.Core.Bool.{Bool, true}
+use mathlib.Core.Bool.{Bool}
 use mathlib.Core.List.{List}
-use mathlib.Core.Path.{_≡_}
 use native.Mathlib.Omega.{arith}
+use borrow.Author.Tests.{leb-true, le-leb}
 use Rattle.ground.specs.Least.{Rising}
 use Rattle.ground.specs.Halving.{middle}
 use Rattle.ground.proofs.Cases.{by-bool}
+use Rattle.ground.proofs.Folds.{sum-le, max-falls}
 use Rattle.ground.proofs.Halving.{Counted, middle-in, made-few, counted-pass, counted-fail, counted-few}
-use Rattle.kinds.specs.declared.Policy.{Policy}
-use Rattle.kinds.specs.Policy.{isWeighed}
 use Rattle.springs.specs.Columns.{springIn, chargesOn}
 use Rattle.springs.specs.Handover.{Chargeable}
 use Rattle.springs.proofs.Charged.{charges-fall}
-use Rattle.policy.specs.Passing.{passesAt}
-use Rattle.policy.proofs.Tests.{passes-rising}
+use Rattle.policy.specs.declared.Weights.{Weights}
+use Rattle.policy.proofs.Tests.{test-stays}
+use Rattle.division.specs.Weighed.{weighed}
 use Rattle.halve.specs.declared.Range.{Range}
-use Rattle.halve.specs.Halves.{half}
+use Rattle.halve.specs.Halves.{chargedAt, half}
 
 abbrev pub Going : (ℕ → Bool) → ℕ → Range → Type 0
 Going test K r = Counted test K (r .from) (r .to) (r .looks)
@@ -38,8 +38,11 @@ module _ (test : ℕ → Bool) (r : Range) (l : r .from < r .to) where
       let m = middle-in (r .from) (r .to) l in
       by-bool (test (middle (r .from) (r .to))) (λ p. rw p (omega (arith, m .0, m .1))) (λ p. rw p (omega (arith, m .0, m .1)))
 
--- passing on charges stays with the step
-pub charged-rising : (p : Policy) (m q : ℕ) (largest least elasticity cost tmin : List ℕ) (n : ℕ) → isWeighed p ≡ true
-    → Chargeable q largest least elasticity cost tmin n → Rising (passesAt p m (chargesOn q cost tmin (springIn largest least elasticity)) n)
-charged-rising p m q largest least elasticity cost tmin n f h =
-    passes-rising p m (chargesOn q cost tmin (springIn largest least elasticity)) n f (charges-fall q largest least elasticity cost tmin n h)
+-- the test on charges stays once it holds
+pub charged-rising : (w : Weights) (q : ℕ) (largest least elasticity cost tmin : List ℕ) (n : ℕ) → Chargeable q largest least elasticity cost tmin n
+    → Rising (chargedAt w q cost tmin (springIn largest least elasticity) n)
+unfolding weighed
+charged-rising w q largest least elasticity cost tmin n h j k g t =
+    let charges = chargesOn q cost tmin (springIn largest least elasticity) in
+    let falls : (i : ℕ) → i < n → charges k i ≤ charges j i = λ i l. charges-fall q largest least elasticity cost tmin n h i l j k g in
+    le-leb _ _ (test-stays w _ _ _ _ (sum-le _ _ n falls) (max-falls _ _ n falls) (leb-true _ _ t))

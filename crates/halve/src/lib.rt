@@ -2,19 +2,16 @@
 // and tests each middle on the charges. Contracts cite `specs/Halves`.
 use ground::Ended;
 use ground::Step;
-use kinds::Policy;
 use kinds::Table;
-ghost use mathlib.Core.Bool.{true};
+use policy::Weights;
 ghost use mathlib.Core.Path.{_≡_};
 ghost use Prim.Native.Nat.{ℕ, _≤_, _<_};
-ghost use lib.ListN.{length, getD};
+ghost use lib.ListN.{getD};
 ghost use Rattle.ground.specs.Folds.{maxTo};
-ghost use Rattle.kinds.specs.Limits.{mostTasks, mostProcessors};
-ghost use Rattle.kinds.specs.Policy.{Served, isWeighed};
-ghost use Rattle.springs.specs.Columns.{springIn, chargesOn};
+ghost use Rattle.springs.specs.Columns.{springIn};
 ghost use Rattle.springs.specs.Handover.{Saturates, Chargeable};
-ghost use Rattle.policy.specs.Passing.{passesAt};
-ghost use Rattle.halve.specs.Halves.{half, HalvingEnds};
+ghost use Rattle.policy.specs.Handover.{Light};
+ghost use Rattle.halve.specs.Halves.{chargedAt, half, HalvingEnds};
 
 // The steps that are left, and the looks made.
 pub struct Range {
@@ -23,10 +20,9 @@ pub struct Range {
     pub looks: u32,
 }
 
-// One look: tests the middle, keeps one half, and raises the count by one. A column is lent for the charges.
+// One look: tests the middle, keeps one half, and raises the count by one.
 fn look(
-    policy: Policy,
-    m: u16,
+    w: Weights,
     notch: u16,
     largest: &[u32; Table::MOST_TASKS],
     least: &[u32; Table::MOST_TASKS],
@@ -34,29 +30,16 @@ fn look(
     cost: &[u32; Table::MOST_TASKS],
     tmin: &[u32; Table::MOST_TASKS],
     n: usize,
-    charges: &mut [u32; Table::MOST_TASKS],
     range: Range,
 ) -> Range
-    requires { ⌜ Chargeable notch (now largest) (now least) (now elasticity) (now cost) (now tmin) n × (length (now charges) ≡ mostTasks)
-        × (1 ≤ m) × (m ≤ mostProcessors) × Served policy × (range .from < range .to) × (range .to ≤ 1000000) × (range .looks ≤ 20) ⌝ }
-    ensures { λ r. ⌜ (r ≡ half (passesAt policy m (chargesOn notch (now (cost .entry)) (now (tmin .entry))
-        (springIn (now (largest .entry)) (now (least .entry)) (now (elasticity .entry)))) n) range)
-        × (length (now (charges .exit)) ≡ mostTasks) ⌝ }
+    requires { ⌜ Light w × Chargeable notch (now largest) (now least) (now elasticity) (now cost) (now tmin) n
+        × (range .from < range .to) × (range .to ≤ 1000000) × (range .looks ≤ 20) ⌝ }
+    ensures { λ r. ⌜ r ≡ half (chargedAt w notch (now (cost .entry)) (now (tmin .entry))
+        (springIn (now (largest .entry)) (now (least .entry)) (now (elasticity .entry))) n) range ⌝ }
 {
     let middle = (range.from + range.to) / 2;
-    let passed = policy::passes_charged(
-        policy,
-        m,
-        notch,
-        largest,
-        least,
-        elasticity,
-        cost,
-        tmin,
-        n,
-        middle,
-        charges,
-    );
+    let total = policy::charged_total(notch, largest, least, elasticity, cost, tmin, n, middle);
+    let passed = division::weighs(w, total);
     let looks = range.looks + 1;
     if passed {
         return Range {
@@ -73,10 +56,9 @@ fn look(
     }
 }
 
-// The least step that passes, of a policy that is weighed, and the looks that it took.
+// The least step that passes, and the looks that it took.
 pub fn least_step(
-    policy: Policy,
-    m: u16,
+    w: Weights,
     notch: u16,
     largest: &[u32; Table::MOST_TASKS],
     least: &[u32; Table::MOST_TASKS],
@@ -86,15 +68,13 @@ pub fn least_step(
     tmin: &[u32; Table::MOST_TASKS],
     n: usize,
 ) -> Ended
-    requires { ⌜ Chargeable notch (now largest) (now least) (now elasticity) (now cost) (now tmin) n
-        × Saturates (springIn (now largest) (now least) (now elasticity)) (now saturation) n
-        × (1 ≤ m) × (m ≤ mostProcessors) × (isWeighed policy ≡ true) ⌝ }
-    ensures { λ r. ⌜ HalvingEnds (passesAt policy m (chargesOn notch (now (cost .entry)) (now (tmin .entry))
-        (springIn (now (largest .entry)) (now (least .entry)) (now (elasticity .entry)))) n)
+    requires { ⌜ Light w × Chargeable notch (now largest) (now least) (now elasticity) (now cost) (now tmin) n
+        × Saturates (springIn (now largest) (now least) (now elasticity)) (now saturation) n ⌝ }
+    ensures { λ r. ⌜ HalvingEnds (chargedAt w notch (now (cost .entry)) (now (tmin .entry))
+        (springIn (now (largest .entry)) (now (least .entry)) (now (elasticity .entry))) n)
         (maxTo (λ (i : ℕ). getD (now (saturation .entry)) i 0) n) r ⌝ }
 {
     let full = springs::full_compression(saturation, n);
-    let mut charges = [0u32; Table::MOST_TASKS];
     let none = full + 1;
     let mut range = Range {
         from: 0,
@@ -102,19 +82,7 @@ pub fn least_step(
         looks: 0,
     };
     while range.from < range.to {
-        range = look(
-            policy,
-            m,
-            notch,
-            largest,
-            least,
-            elasticity,
-            cost,
-            tmin,
-            n,
-            &mut charges,
-            range,
-        );
+        range = look(w, notch, largest, least, elasticity, cost, tmin, n, range);
     }
     let looks = range.looks;
     if range.from <= full {

@@ -120,8 +120,43 @@ pub fn passes_summed(
     passes(policy, m, loads, n)
 }
 
-// Whether n tasks whose springs, costs and shortest periods are in lent columns pass at step k on their charges, for which a further
-// column is lent.
+// The total of the charges at step k of n tasks whose springs, costs and shortest periods are in lent columns.
+pub fn charged_total(
+    notch: u16,
+    largest: &[u32; Table::MOST_TASKS],
+    least: &[u32; Table::MOST_TASKS],
+    elasticity: &[u32; Table::MOST_TASKS],
+    cost: &[u32; Table::MOST_TASKS],
+    tmin: &[u32; Table::MOST_TASKS],
+    n: usize,
+    k: u32,
+) -> Total
+    requires { ⌜ Chargeable notch (now largest) (now least) (now elasticity) (now cost) (now tmin) n ⌝ }
+    ensures { λ r. ⌜ TotalIs (chargesOn notch (now (cost .entry)) (now (tmin .entry))
+        (springIn (now (largest .entry)) (now (least .entry)) (now (elasticity .entry))) k) n (r .sum) (r .max) ⌝ }
+{
+    let mut sum: u32 = 0;
+    let mut max: u32 = 0;
+    for i in 0..n {
+        let charge = springs::charge_at(
+            notch,
+            largest[i],
+            least[i],
+            elasticity[i],
+            cost[i],
+            tmin[i],
+            k,
+        );
+        sum += charge;
+        max = ground::later(max, charge);
+    }
+    Total {
+        sum: ground::widened(sum),
+        max: ground::widened(max),
+    }
+}
+
+// Whether these tasks pass at step k on their charges, for which first fit is lent a further column.
 pub fn passes_charged(
     policy: Policy,
     m: u16,
@@ -141,8 +176,14 @@ pub fn passes_charged(
         (springIn (now (largest .entry)) (now (least .entry)) (now (elasticity .entry)))) n k)
         × (length (now (charges .exit)) ≡ mostTasks) ⌝ }
 {
-    springs::charges_at(notch, largest, least, elasticity, cost, tmin, n, k, charges);
-    passes(policy, m, charges, n)
+    if policy.is_first_fit() {
+        springs::charges_at(notch, largest, least, elasticity, cost, tmin, n, k, charges);
+        let trial = fit::first_fit(charges, n, m as usize);
+        return trial.placed;
+    }
+    let w = weights_of(policy, m, n);
+    let total = charged_total(notch, largest, least, elasticity, cost, tmin, n, k);
+    left_of(w, total.sum, total.max) <= w.r
 }
 
 // The right side of the test minus the left, as a signed number, of a policy that is weighed.

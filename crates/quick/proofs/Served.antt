@@ -41,7 +41,7 @@ use Rattle.policy.proofs.Under.{first-least}
 use Rattle.admission.specs.Admission.{admission}
 use Rattle.admission.proofs.Chain.{admitted}
 use Rattle.division.specs.Weighed.{weighed, weighedAt}
-use Rattle.halve.specs.Halves.{HalvingEnds}
+use Rattle.halve.specs.Halves.{chargedAt, HalvingEnds}
 use Rattle.quick.specs.Looked.{looksAfter, looks}
 use Rattle.quick.specs.Handover.{SearchEnds, SearchUnder}
 
@@ -84,20 +84,23 @@ module _ (s : Settings) (rows : List Task) (n : ℕ) (c : Columns) (w : Sprung (
 
   -- under edition 2 the loads are the charges
   charged-is : testsCharge s ≡ true → (k : ℕ)
-      → passesAt p (s .m) (chargesOn (s .notch) (c .cost) (c .tmin) (springsIn c)) n k ≡ passesAt p (s .m) (loadsUnder s rows n) n k
+      → chargedAt (weightsOf p (s .m) n) (s .notch) (c .cost) (c .tmin) (springsIn c) n k ≡ passesAt p (s .m) (loadsUnder s rows n) n k
+  unfolding weighed
   charged-is e k =
-      passes-same p (s .m) (chargesOn (s .notch) (c .cost) (c .tmin) (springsIn c) k) (loadsUnder s rows n k) n (λ i l. rw e at (loads-are s paid n c w k i l))
+      let charges = chargesOn (s .notch) (c .cost) (c .tmin) (springsIn c) k in
+      sym (passes-weighed p (s .m) charges n f)
+      ∙ passes-same p (s .m) charges (loadsUnder s rows n k) n (λ i l. rw e at (loads-are s paid n c w k i l))
 
   column-is : maxTo (λ i. getD (c .saturation) i 0) n ≡ fullUnder s rows n
   unfolding fullCompression
   column-is = max-cong (λ i. getD (c .saturation) i 0) (λ i. saturationAt (at paid i)) n (w .saturates)
 
   second-found : (r : Ended) → testsCharge s ≡ true
-      → HalvingEnds (passesAt p (s .m) (chargesOn (s .notch) (c .cost) (c .tmin) (springsIn c)) n) (maxTo (λ i. getD (c .saturation) i 0) n) r
+      → HalvingEnds (chargedAt (weightsOf p (s .m) n) (s .notch) (c .cost) (c .tmin) (springsIn c) n) (maxTo (λ i. getD (c .saturation) i 0) n) r
       → LeastFound s rows n r
   unfolding leastStep
   second-found r e h =
-      let charged = passesAt p (s .m) (chargesOn (s .notch) (c .cost) (c .tmin) (springsIn c)) n in
+      let charged = chargedAt (weightsOf p (s .m) n) (s .notch) (c .cost) (c .tmin) (springsIn c) n in
       let test = passesAt p (s .m) (loadsUnder s rows n) n in
       record {
         least = h .least ∙ (least-cong charged test _ (charged-is e) ∙ ap (leastUpTo test) column-is);

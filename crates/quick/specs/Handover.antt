@@ -14,14 +14,12 @@ use Rattle.kinds.specs.Policy.{meant}
 use Rattle.kinds.specs.Settings.{testsCharge}
 use Rattle.springs.specs.declared.Spring.{Spring}
 use Rattle.springs.specs.Spring.{saturations}
-use Rattle.springs.specs.Columns.{chargesOn}
 use Rattle.springs.specs.Handover.{AllWithin, Saturates}
-use Rattle.policy.specs.Passing.{passesAt}
 use Rattle.policy.specs.Sides.{weightsOf}
 use Rattle.policy.specs.Looks.{looksFor}
 use Rattle.plan.specs.Handover.{FoundHeld}
 use Rattle.division.specs.Weighed.{weighedAt}
-use Rattle.halve.specs.Halves.{HalvingEnds}
+use Rattle.halve.specs.Halves.{chargedAt, HalvingEnds}
 use Rattle.ground.specs.declared.Ended.{Ended}
 use Rattle.quick.specs.declared.Looked.{Looked}
 use Rattle.quick.specs.Looked.{looks}
@@ -41,7 +39,7 @@ pub record SearchEnds (test : ℕ → Bool) (saturation : ℕ → ℕ) (n : ℕ)
 pub record SearchUnder (s : Settings) (springs : ℕ → Spring) (saturation cost tmin : List ℕ) (n : ℕ) (r : Ended) : Type 0 where
   pub first : testsCharge s ≡ false → SearchEnds (weighedAt (weightsOf (meant (s .policy)) (s .m) n) springs n) (saturations springs) n r
   pub second : testsCharge s ≡ true
-      → HalvingEnds (passesAt (meant (s .policy)) (s .m) (chargesOn (s .notch) cost tmin springs) n) (maxTo (λ i. getD saturation i 0) n) r
+      → HalvingEnds (chargedAt (weightsOf (meant (s .policy)) (s .m) n) (s .notch) cost tmin springs n) (maxTo (λ i. getD saturation i 0) n) r
 
 -- the answer and the looks, and of an acceptance the columns that its periods come from
 pub record FoundLookedHeld (s : Settings) (rows : List Task) (n room : ℕ) (r : Looked) (cost tmin shares : List ℕ) : Type 0 where

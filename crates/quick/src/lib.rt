@@ -168,11 +168,10 @@ fn search_under(
         (now (saturation .entry)) (now (cost .entry)) (now (tmin .entry)) n r ⌝ }
 {
     let asked = settings.policy;
-    let policy = asked.meant();
+    let w = policy::weights_of(asked.meant(), settings.m, n);
     if settings.tests_charge() {
         return halve::least_step(
-            policy,
-            settings.m,
+            w,
             settings.notch,
             largest,
             least,
@@ -183,7 +182,6 @@ fn search_under(
             n,
         );
     }
-    let w = policy::weights_of(policy, settings.m, n);
     search_columns(w, largest, least, elasticity, saturation, n)
 }
 

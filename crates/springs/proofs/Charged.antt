@@ -54,6 +54,15 @@ pub still-allowed : (q cost tmin least share : ℕ) → 1 ≤ q → 1 ≤ least 
 still-allowed q cost tmin least share some p h m =
     omega (arith, m, notched-rises q some (periodOf cost tmin share) (periodOf cost tmin least) (period-rises cost tmin share least p h))
 
+-- what the charge of task i relies on
+pub may-charge : (q : ℕ) (largest least elasticity cost tmin : List ℕ) (n : ℕ) → Chargeable q largest least elasticity cost tmin n → (i : ℕ) → i < n
+    → (1 ≤ q) × (1 ≤ getD tmin i 0) × (1 ≤ getD least i 0) × (getD least i 0 ≤ getD largest i 0) × (getD largest i 0 ≤ scale)
+    × (notchedUp q (periodOf (getD cost i 0) (getD tmin i 0) (getD least i 0)) ≤ longestPeriod)
+may-charge q largest least elasticity cost tmin n h i l =
+    let allowed = h .allowed in
+    let w = h .within i l in
+    (allowed .notch, allowed .ticks i l, allowed .some i l, w .least-largest, w .largest-most, allowed .most i l)
+
 -- no charge of springs within their limits is above the scale
 pub charges-most : (q : ℕ) (largest least elasticity cost tmin : List ℕ) (n k : ℕ) (charges : List ℕ) → Chargeable q largest least elasticity cost tmin n
     → ChargesAre q cost tmin (springIn largest least elasticity) n k charges → (i : ℕ) → i < n → getD charges i 0 ≤ scale

@@ -182,6 +182,24 @@ pub fn charge_on(notch: u16, cost: u32, tmin: u32, share: u32) -> u32
     rule::part(ground::widened(cost), period) as u32
 }
 
+// The charge at step k of a task with this spring, cost and shortest period.
+pub fn charge_at(
+    notch: u16,
+    largest: u32,
+    least: u32,
+    elasticity: u32,
+    cost: u32,
+    tmin: u32,
+    k: u32,
+) -> u32
+    requires { ⌜ (1 ≤ notch) × (1 ≤ tmin) × (1 ≤ least) × (least ≤ largest) × (largest ≤ scale)
+        × (notchedUp notch (periodOf cost tmin least) ≤ longestPeriod) ⌝ }
+    ensures { λ r. ⌜ (r ≡ chargeOn notch cost tmin (shareOf largest least elasticity k)) × (r ≤ scale) ⌝ }
+{
+    let share = share_on(largest, least, elasticity, k);
+    charge_on(notch, cost, tmin, share)
+}
+
 // Turns a column of shares into one of the charges at the periods that they allow.
 fn charges_of(
     notch: u16,
@@ -231,8 +249,15 @@ pub fn charges_at(
         (springIn (now (largest .entry)) (now (least .entry)) (now (elasticity .entry))) n k (now (charges .exit)) ⌝ }
 {
     for i in 0..n {
-        let share = share_on(largest[i], least[i], elasticity[i], k);
-        charges[i] = charge_on(notch, cost[i], tmin[i], share);
+        charges[i] = charge_at(
+            notch,
+            largest[i],
+            least[i],
+            elasticity[i],
+            cost[i],
+            tmin[i],
+            k,
+        );
     }
 }
 

@@ -1,13 +1,12 @@
 -- `springs::charges_at` meets its contract. Assumes nothing.
 use Prim.Native.Nat.{_-_, _≤_}
-use mathlib.Core.Path.{_≡_, ap, _∙_}
+use mathlib.Core.Path.{_∙_, ap}
 use native.Mathlib.Omega.{arith}
 use lib.ListN.{getD}
 use Rattle.ground.proofs.Buffer.{Front, front-none, front-more}
-use Rattle.rule.proofs.Shares.{share-least}
 use Rattle.springs.specs.Columns.{springIn, chargeOn, chargesOn}
 use Rattle.springs.proofs.Carried.{on-spring}
-use Rattle.springs.proofs.Charged.{still-allowed, front-at}
+use Rattle.springs.proofs.Charged.{may-charge, front-at}
 use Rattle.springs.proofs.charges_at.Statement.{statement}
 use Rattle.springs.proofs.charges_at.Tie as tie
 
@@ -21,60 +20,43 @@ abbrev μ-loop : tie.MeasureT-loop
 loop-holds : tie.Need-loop-holds Inv-loop μ-loop
 loop-holds c = (omega arith, front-none _ _)
 
-mul-share-on : tie.Need-mul-share-on Inv-loop μ-loop
-mul-share-on c = omega arith
+mul-charge-at : tie.Need-mul-charge-at Inv-loop μ-loop
+mul-charge-at c = omega arith
 
-element-copy-out-share-on : tie.Need-element-copy-out-share-on Inv-loop μ-loop
-element-copy-out-share-on c = omega arith
+element-copy-out-charge-at : tie.Need-element-copy-out-charge-at Inv-loop μ-loop
+element-copy-out-charge-at c = omega arith
 
-mul-share-on-2 : tie.Need-mul-share-on-2 Inv-loop μ-loop
-mul-share-on-2 c = omega arith
+mul-charge-at-2 : tie.Need-mul-charge-at-2 Inv-loop μ-loop
+mul-charge-at-2 c = omega arith
 
-element-copy-out-share-on-2 : tie.Need-element-copy-out-share-on-2 Inv-loop μ-loop
-element-copy-out-share-on-2 c = omega arith
+element-copy-out-charge-at-2 : tie.Need-element-copy-out-charge-at-2 Inv-loop μ-loop
+element-copy-out-charge-at-2 c = omega arith
 
-mul-share-on-3 : tie.Need-mul-share-on-3 Inv-loop μ-loop
-mul-share-on-3 c = omega arith
+mul-charge-at-3 : tie.Need-mul-charge-at-3 Inv-loop μ-loop
+mul-charge-at-3 c = omega arith
 
-element-copy-out-share-on-3 : tie.Need-element-copy-out-share-on-3 Inv-loop μ-loop
-element-copy-out-share-on-3 c = omega arith
+element-copy-out-charge-at-3 : tie.Need-element-copy-out-charge-at-3 Inv-loop μ-loop
+element-copy-out-charge-at-3 c = omega arith
 
-share-on-requires : tie.Need-share-on-requires Inv-loop μ-loop
-share-on-requires c κs =
-    let t = c .before .before .before in
-    let w = t .before .before .pre .0 .within _ (t .loop-test .taken) in
-    (w .largest-most, w .least-largest)
+mul-charge-at-4 : tie.Need-mul-charge-at-4 Inv-loop μ-loop
+mul-charge-at-4 c = omega arith
 
-mul-charge-on : tie.Need-mul-charge-on Inv-loop μ-loop
-mul-charge-on c = omega arith
+element-copy-out-charge-at-4 : tie.Need-element-copy-out-charge-at-4 Inv-loop μ-loop
+element-copy-out-charge-at-4 c = omega arith
 
-element-copy-out-charge-on : tie.Need-element-copy-out-charge-on Inv-loop μ-loop
-element-copy-out-charge-on c = omega arith
+mul-charge-at-5 : tie.Need-mul-charge-at-5 Inv-loop μ-loop
+mul-charge-at-5 c = omega arith
 
-mul-charge-on-2 : tie.Need-mul-charge-on-2 Inv-loop μ-loop
-mul-charge-on-2 c = omega arith
+element-copy-out-charge-at-5 : tie.Need-element-copy-out-charge-at-5 Inv-loop μ-loop
+element-copy-out-charge-at-5 c = omega arith
 
-element-copy-out-charge-on-2 : tie.Need-element-copy-out-charge-on-2 Inv-loop μ-loop
-element-copy-out-charge-on-2 c = omega arith
-
-charge-on-requires : tie.Need-charge-on-requires Inv-loop μ-loop
-charge-on-requires c κs =
-    let o = c .before .before in
-    let t = o .before .before .before .before in
+charge-at-requires : tie.Need-charge-at-requires Inv-loop μ-loop
+charge-at-requires c κs =
+    let copied = c .before .before .before in
+    let t = copied .before .before in
     let s = t .before .before in
     let a = s .args in
-    let i = t .before .loop .i in
-    let allowed = s .pre .0 .allowed in
-    let l = t .loop-test .taken in
-    let e = o .share-on .ensures in
-    let low = share-least (getD (a .largest .now) i 0) (getD (a .least .now) i 0) (getD (a .elasticity .now) i 0) (a .k) in
-    let from : getD (a .least .now) i 0 ≤ o .share-on .result = omega (arith, e, low) in (
-      allowed .notch,
-      allowed .ticks _ l,
-      omega (arith, from, allowed .some _ l),
-      still-allowed (a .notch) (getD (a .cost .now) i 0) (getD (a .tmin .now) i 0) (getD (a .least .now) i 0) _
-          (allowed .notch) (allowed .some _ l) from (allowed .most _ l),
-    )
+    may-charge (a .notch) (a .largest .now) (a .least .now) (a .elasticity .now) (a .cost .now) (a .tmin .now) _ (s .pre .0) _ (t .loop-test .taken)
 
 mul-charges : tie.Need-mul-charges Inv-loop μ-loop
 mul-charges c = omega arith
@@ -90,15 +72,15 @@ loop-less c = omega arith
 
 loop-again : tie.Need-loop-again Inv-loop μ-loop
 loop-again c =
-    let o = c .before .before .before in
-    let l = o .before .before .before .before .before in
+    let copied = c .before .before .before in
+    let l = copied .before .before .before .before in
     let a = l .before .args in
     let i = l .loop .i in
     let charges = chargesOn (a .notch) (a .cost .now) (a .tmin .now) (springIn (a .largest .now) (a .least .now) (a .elasticity .now)) (a .k) in
-    let share = o .share-on .ensures ∙ on-spring _ _ _ _ in (
+    let share = on-spring (getD (a .largest .now) i 0) (getD (a .least .now) i 0) (getD (a .elasticity .now) i 0) (a .k) in (
       omega arith,
       front-more charges _ _ _ _ (omega arith)
-          (c .charge-on .ensures ∙ ap (chargeOn (a .notch) (getD (a .cost .now) i 0) (getD (a .tmin .now) i 0)) share) (l .loop .inv .1),
+          (c .charge-at .ensures .0 ∙ ap (chargeOn (a .notch) (getD (a .cost .now) i 0) (getD (a .tmin .now) i 0)) share) (l .loop .inv .1),
     )
 
 returns : tie.Need-returns Inv-loop μ-loop
@@ -116,18 +98,17 @@ charges-at-spec =
     Inv-loop
     μ-loop
     loop-holds
-    mul-share-on
-    element-copy-out-share-on
-    mul-share-on-2
-    element-copy-out-share-on-2
-    mul-share-on-3
-    element-copy-out-share-on-3
-    share-on-requires
-    mul-charge-on
-    element-copy-out-charge-on
-    mul-charge-on-2
-    element-copy-out-charge-on-2
-    charge-on-requires
+    mul-charge-at
+    element-copy-out-charge-at
+    mul-charge-at-2
+    element-copy-out-charge-at-2
+    mul-charge-at-3
+    element-copy-out-charge-at-3
+    mul-charge-at-4
+    element-copy-out-charge-at-4
+    mul-charge-at-5
+    element-copy-out-charge-at-5
+    charge-at-requires
     mul-charges
     element-write-charges
     add-i

@@ -1,0 +1,43 @@
+-- `springs::charge_at` meets its contract. Assumes nothing.
+use Prim.Native.Nat.{_≤_}
+use mathlib.Core.Path.{_≡_, ap, _∙_}
+use native.Mathlib.Omega.{arith}
+use Rattle.rule.specs.Rule.{shareOf}
+use Rattle.rule.proofs.Shares.{share-least, share-high}
+use Rattle.rule.proofs.Periods.{charge-high}
+use Rattle.springs.specs.Columns.{chargeOn}
+use Rattle.springs.proofs.Charged.{still-allowed}
+use borrow.Author.Needs.{needs}
+use Rattle.springs.proofs.charge_at.Statement.{statement}
+use Rattle.springs.proofs.charge_at.Tie as tie
+
+-- the share is from the least to the largest
+low : (c : tie.After-share-on) → c .before .args .least ≤ c .share-on .result
+low c = let a = c .before .args in omega (arith, c .share-on .ensures, share-least (a .largest) (a .least) (a .elasticity) (a .k))
+
+share-on-requires : tie.Need-share-on-requires
+share-on-requires c κs = (c .pre .4, c .pre .3)
+
+charge-on-requires : tie.Need-charge-on-requires
+charge-on-requires c κs =
+    let s = c .before in
+    let a = s .args in
+    let p = s .pre in
+    (p .0, p .1, omega (arith, low c, p .2), still-allowed (a .notch) (a .cost) (a .tmin) (a .least) _ (p .0) (p .2) (low c) (p .5))
+
+returns : tie.Need-returns
+returns c =
+    let h = c .before in
+    let s = h .before in
+    let a = s .args in
+    let p = s .pre in
+    let share = h .share-on .result in
+    let some : 1 ≤ share = omega (arith, low h, p .2) in
+    let high : share ≤ a .largest = omega (arith, h .share-on .ensures, share-high (a .largest) (a .least) (a .elasticity) (a .k) (p .3)) in
+    let most = charge-high (a .notch) (p .0) (a .cost) (a .tmin) share (p .1) some in (
+      c .charge-on .ensures ∙ ap (chargeOn (a .notch) (a .cost) (a .tmin)) (h .share-on .ensures),
+      omega (arith, c .charge-on .ensures, most, high, p .4),
+    )
+
+pub charge-at-spec : {M : Type 1} → statement M
+charge-at-spec = tie.close (tie.spec share-on-requires charge-on-requires returns)
