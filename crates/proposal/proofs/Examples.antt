@@ -31,7 +31,8 @@ asked : ℕ → ℕ → List ℕ → Outcome
 asked edition k proposal = outcome (settings (Further 0) 3 0 1 edition) rows 7 k proposal lent
 
 -- at step 5 what first fit places there, with every processor full; at step 7, which first fit fails, another; nothing is written past the 3
--- loads. Under edition 2 the first task, whose period is 4,412, is charged 36 parts less than its share. The fourth task on a processor that is not there; the second processor overfull; a proposal for six tasks
+-- loads. Under edition 2 the first task, whose period is 4,412, is charged 36 parts less than its share. The fourth task on a processor that
+-- is not there; the second processor overfull; a proposal for six tasks
 worked :
     (asked 1 5 (1 ∷ 2 ∷ 2 ∷ 3 ∷ 1 ∷ 2 ∷ 3 ∷ []) ≡ record { handed = accepted tt; loads = 1000000 ∷ 1000000 ∷ 1000000 ∷ 9 ∷ [] })
     × (asked 1 7 (1 ∷ 3 ∷ 1 ∷ 2 ∷ 3 ∷ 3 ∷ 2 ∷ []) ≡ record { handed = accepted tt; loads = 1000000 ∷ 1000000 ∷ 980000 ∷ 9 ∷ [] })
@@ -39,5 +40,7 @@ worked :
     × (asked 1 5 (1 ∷ 2 ∷ 2 ∷ 4 ∷ 1 ∷ 0 ∷ 3 ∷ []) ≡ record { handed = refused tt (ProcessorOutOfRange 3); loads = lent })
     × (asked 1 5 (1 ∷ 2 ∷ 2 ∷ 3 ∷ 2 ∷ 2 ∷ 3 ∷ []) ≡ record { handed = refused tt (ProcessorOverfull 2); loads = lent })
     × (asked 1 5 (1 ∷ 2 ∷ 2 ∷ 3 ∷ 1 ∷ 2 ∷ []) ≡ record { handed = refused tt (OutputTooShort 7); loads = lent })
-unfolding asked rows lent outcome judged admission gate firstBad isGood isWithin placing loadOn loadsTo firstOutOfRange beforeOverfull firstBelow firstFrom sumTo listTo shareAt periodAt chargeAt loadAt pricedRows
+unfolding
+    asked rows lent outcome judged admission gate firstBad isGood isWithin placing loadOn loadsTo firstOutOfRange beforeOverfull firstBelow
+    firstFrom sumTo listTo shareAt periodAt chargeAt loadAt pricedRows
 worked = (refl, refl, refl, refl, refl, refl)
