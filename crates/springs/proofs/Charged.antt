@@ -17,7 +17,9 @@ use Rattle.kinds.specs.Task.{at, Good, OnNotch}
 use Rattle.rule.specs.Rule.{periodOf, notchedUp}
 use Rattle.rule.proofs.Shares.{part-falls, share-falls, saturation-high}
 use Rattle.rule.proofs.Periods.{period-rises, notched-from, notched-rises, charge-high}
-use Rattle.share.specs.Share.{shareAt, periodAt, chargeAt, loadAt}
+use Rattle.share.specs.Share.{costOf, largestOf, shareAt, periodAt, chargeAt, loadAt}
+use Rattle.share.proofs.Tasks.{at-zero}
+use Rattle.share.proofs.Charges.{charge-at-zero}
 use Rattle.springs.specs.declared.Spring.{Spring}
 use Rattle.springs.specs.Spring.{shareOn, saturationOn}
 use Rattle.springs.specs.Handover.{Saturates, Sprung, Held, Allowed, Chargeable, LoadsBy, ChargesAre}
@@ -58,10 +60,11 @@ still-allowed q cost tmin least share some p h m =
 pub may-charge : (q : ℕ) (largest least elasticity cost tmin : List ℕ) (n : ℕ) → Chargeable q largest least elasticity cost tmin n → (i : ℕ) → i < n
     → (1 ≤ q) × (1 ≤ getD tmin i 0) × (1 ≤ getD least i 0) × (getD least i 0 ≤ getD largest i 0) × (getD largest i 0 ≤ scale)
     × (notchedUp q (periodOf (getD cost i 0) (getD tmin i 0) (getD least i 0)) ≤ longestPeriod)
+    × (chargeOn q (getD cost i 0) (getD tmin i 0) (getD largest i 0) ≡ getD largest i 0)
 may-charge q largest least elasticity cost tmin n h i l =
     let allowed = h .allowed in
     let w = h .within i l in
-    (allowed .notch, allowed .ticks i l, allowed .some i l, w .least-largest, w .largest-most, allowed .most i l)
+    (allowed .notch, allowed .ticks i l, allowed .some i l, w .least-largest, w .largest-most, allowed .most i l, h .whole i l)
 
 -- no charge of springs within their limits is above the scale
 pub charges-most : (q : ℕ) (largest least elasticity cost tmin : List ℕ) (n k : ℕ) (charges : List ℕ) → Chargeable q largest least elasticity cost tmin n
@@ -108,6 +111,18 @@ pub sprung-allowed : (rows : List Task) (n : ℕ) (c : Columns) → Sprung rows 
 sprung-allowed rows n c w q some good on =
     all-allowed rows n (c .cost) (c .tmin) (c .least) (w .costs) (w .tmins) (λ i l. omega (arith, ap (λ (x : Spring). x .least) (w .springs i l)))
     q some good on
+
+-- and their largest shares are charged whole, at Tmin
+pub sprung-whole : (rows : List Task) (n : ℕ) (c : Columns) → Sprung rows n c → (q : ℕ)
+    → ((i : ℕ) → i < n → Good (at rows i)) → ((i : ℕ) → i < n → OnNotch q (at rows i))
+    → (i : ℕ) → i < n → chargeIn q (c .cost) (c .tmin) (c .largest) i ≡ getD (c .largest) i 0
+unfolding chargeAt periodAt
+sprung-whole rows n c w q good on i l =
+    let t = at rows i in
+    let first = at-zero t (good i l) in
+    let largest : getD (c .largest) i 0 ≡ largestOf t = ap (λ (x : Spring). x .largest) (w .springs i l) in
+    let whole : chargeOn q (costOf t) (t .tmin) (shareAt t 0) ≡ shareAt t 0 = charge-at-zero t (good i l) q (on i l) in
+    rw (w .costs i l, w .tmins i l, largest, ← first) whole
 
 -- on the springs of a table the loads are the records'
 module _ (s : Settings) (rows : List Task) (n : ℕ) where

@@ -74,11 +74,13 @@ pub record Allowed (q : ℕ) (cost tmin shares : List ℕ) (n : ℕ) : Type 0 wh
   pub some : (i : ℕ) → i < n → 1 ≤ getD shares i 0
   pub most : (i : ℕ) → i < n → periodIn q cost tmin shares i ≤ longestPeriod
 
--- columns hold the springs of n tasks within their limits, and costs and shortest periods to which even the least shares allow periods
+-- columns hold the springs of n tasks within their limits, and costs and shortest periods to which even the least shares allow periods; the
+-- largest share is charged whole
 pub record Chargeable (q : ℕ) (largest least elasticity cost tmin : List ℕ) (n : ℕ) : Type 0 where
   pub few : n ≤ mostTasks
   pub within : AllWithin (springIn largest least elasticity) n
   pub allowed : Allowed q cost tmin least n
+  pub whole : (i : ℕ) → i < n → chargeIn q cost tmin largest i ≡ getD largest i 0
 
 -- each column has room for the most tasks
 pub record Roomy (s : Columns) : Type 0 where

@@ -182,7 +182,8 @@ pub fn charge_on(notch: u16, cost: u32, tmin: u32, share: u32) -> u32
     rule::part(ground::widened(cost), period) as u32
 }
 
-// The charge at step k of a task with this spring, cost and shortest period.
+// The charge at step k of a task with this spring, cost and shortest period. The largest share is charged whole, at Tmin, which spares a
+// rigid task its divisions.
 pub fn charge_at(
     notch: u16,
     largest: u32,
@@ -193,10 +194,13 @@ pub fn charge_at(
     k: u32,
 ) -> u32
     requires { ⌜ (1 ≤ notch) × (1 ≤ tmin) × (1 ≤ least) × (least ≤ largest) × (largest ≤ scale)
-        × (notchedUp notch (periodOf cost tmin least) ≤ longestPeriod) ⌝ }
+        × (notchedUp notch (periodOf cost tmin least) ≤ longestPeriod) × (chargeOn notch cost tmin largest ≡ largest) ⌝ }
     ensures { λ r. ⌜ (r ≡ chargeOn notch cost tmin (shareOf largest least elasticity k)) × (r ≤ scale) ⌝ }
 {
     let share = share_on(largest, least, elasticity, k);
+    if share == largest {
+        return share;
+    }
     charge_on(notch, cost, tmin, share)
 }
 

@@ -54,7 +54,7 @@ least-step-requires c κs =
     let half-lent = c .before .before .before in
     let b = begun (half-lent .before .before .before) in
     let p = b .ready .passed in
-    (b .sprung .roomy .largest, record { few = p .few; within = b .within; allowed = b .allowed }, p .m-some, p .m-most, passed-served true _ _ _ _ p)
+    (b .sprung .roomy .largest, record { few = p .few; within = b .within; allowed = b .allowed; whole = b .whole }, p .m-some, p .m-most, passed-served true _ _ _ _ p)
 
 decide-requires-2 : tie.Need-decide-requires-2
 decide-requires-2 c κs = search needs

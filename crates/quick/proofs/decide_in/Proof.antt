@@ -65,7 +65,7 @@ search-under-requires c κs =
     let d = t .before .before in
     let b = begun t in
     let p = b .ready .passed in (
-      record { few = p .few; within = b .within; allowed = b .allowed },
+      record { few = p .few; within = b .within; allowed = b .allowed; whole = b .whole },
       sprung-saturates _ _ (springs d) (b .sprung),
       p .m-some,
       p .m-most,

@@ -1,6 +1,6 @@
 -- `springs::charge_at` meets its contract. Assumes nothing.
 use Prim.Native.Nat.{_≤_}
-use mathlib.Core.Path.{_≡_, ap, _∙_}
+use mathlib.Core.Path.{_≡_, sym, ap, _∙_}
 use native.Mathlib.Omega.{arith}
 use Rattle.rule.specs.Rule.{shareOf}
 use Rattle.rule.proofs.Shares.{share-least, share-high}
@@ -20,14 +20,22 @@ share-on-requires c κs = (c .pre .4, c .pre .3)
 
 charge-on-requires : tie.Need-charge-on-requires
 charge-on-requires c κs =
-    let s = c .before in
+    let h = c .before in
+    let s = h .before in
     let a = s .args in
     let p = s .pre in
-    (p .0, p .1, omega (arith, low c, p .2), still-allowed (a .notch) (a .cost) (a .tmin) (a .least) _ (p .0) (p .2) (low c) (p .5))
+    (p .0, p .1, omega (arith, low h, p .2), still-allowed (a .notch) (a .cost) (a .tmin) (a .least) _ (p .0) (p .2) (low h) (p .5))
 
 returns : tie.Need-returns
 returns c =
     let h = c .before in
+    let s = h .before in
+    let e = c .if1 .taken in
+    (e ∙ (sym (s .pre .6) ∙ ap (chargeOn (s .args .notch) (s .args .cost) (s .args .tmin)) (sym e ∙ h .share-on .ensures)), omega (arith, e, s .pre .4))
+
+returns-2 : tie.Need-returns-2
+returns-2 c =
+    let h = c .before .before in
     let s = h .before in
     let a = s .args in
     let p = s .pre in
@@ -40,4 +48,4 @@ returns c =
     )
 
 pub charge-at-spec : {M : Type 1} → statement M
-charge-at-spec = tie.close (tie.spec share-on-requires charge-on-requires returns)
+charge-at-spec = tie.close (tie.spec share-on-requires returns charge-on-requires returns-2)
