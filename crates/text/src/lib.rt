@@ -1,0 +1,71 @@
+// Text for people, put at a place of a lent buffer as far as there is room: words, numbers in a column, parts in percent, gauges. What stands
+// there afterwards is tested and not promised; each call is proved to stay within what is lent.
+
+// Puts one byte; returns the place after it.
+pub fn byte(out: &mut [u8], at: usize, one: u8) -> usize {
+    if at < out.len() {
+        out[at] = one;
+        return at + 1;
+    }
+    at
+}
+
+pub fn words(out: &mut [u8], at: usize, bytes: &[u8]) -> usize {
+    let mut next = at;
+    let mut i: usize = 0;
+    while i < bytes.len() {
+        next = byte(out, next, bytes[i]);
+        i += 1;
+    }
+    next
+}
+
+pub fn repeated(out: &mut [u8], at: usize, one: u8, count: usize) -> usize {
+    let mut next = at;
+    let mut i: usize = 0;
+    while i < count {
+        next = byte(out, next, one);
+        i += 1;
+    }
+    next
+}
+
+// A number in decimal digits, at the right of a column.
+pub fn number(out: &mut [u8], at: usize, n: u64, width: u32) -> usize {
+    let mut digits = [0u8; 20];
+    let k = io::decimal(n, &mut digits);
+    let blank = ground::less_or_zero(width as u64, k as u64);
+    let next = repeated(out, at, b' ', blank as usize);
+    words(out, next, &digits[..k])
+}
+
+// Parts of a million in percent, exactly, in eight columns.
+pub fn percent(out: &mut [u8], at: usize, parts: u32) -> usize {
+    let whole = number(out, at, (parts / 10_000) as u64, 3);
+    let point = byte(out, whole, b'.');
+    let first = byte(out, point, 48 + (parts / 1000 % 10) as u8);
+    let second = byte(out, first, 48 + (parts / 100 % 10) as u8);
+    let third = byte(out, second, 48 + (parts / 10 % 10) as u8);
+    byte(out, third, 48 + (parts % 10) as u8)
+}
+
+// How many of a gauge's cells are full: none where the value is 0, all where it is the most, and otherwise at least one and not all.
+fn full_cells(value: u32, most: u32, cells: u32) -> u64 {
+    if value == 0 {
+        return 0;
+    }
+    if most <= value {
+        return cells as u64;
+    }
+    ground::larger(1, ground::times(value, cells) / most as u64)
+}
+
+// A gauge of so many cells between brackets.
+pub fn gauge(out: &mut [u8], at: usize, value: u32, most: u32, cells: u32) -> usize {
+    let full = full_cells(value, most, cells);
+    let empty = ground::less_or_zero(cells as u64, full);
+    let opened = byte(out, at, b'[');
+    let filled = repeated(out, opened, b'#', full as usize);
+    let whole = repeated(out, filled, b'.', empty as usize);
+    byte(out, whole, b']')
+}
