@@ -1,0 +1,24 @@
+//! Finds the library to link: `libeelbasket.a` in the folder that EELBASKET_LIB names, as `scripts/install` puts it there, or in this
+//! repository `libembed.a`, as `rt staticlib embed` writes it.
+
+use std::env;
+use std::path::{Path, PathBuf};
+
+fn main() {
+    println!("cargo:rerun-if-env-changed=EELBASKET_LIB");
+    let architecture = env::var("CARGO_CFG_TARGET_ARCH").unwrap_or_default();
+    assert!(architecture == "x86_64", "the library is for x86-64, and not for {architecture}");
+    let (folder, name) = match env::var_os("EELBASKET_LIB") {
+        Some(folder) => (PathBuf::from(folder), "eelbasket"),
+        None => (Path::new(env!("CARGO_MANIFEST_DIR")).join("../../target/staticlib"), "embed"),
+    };
+    let file = folder.join(format!("lib{name}.a"));
+    assert!(
+        file.exists(),
+        "there is no {}: let EELBASKET_LIB name the folder of libeelbasket.a, or run `rt staticlib embed`",
+        file.display()
+    );
+    println!("cargo:rerun-if-changed={}", file.display());
+    println!("cargo:rustc-link-search=native={}", folder.display());
+    println!("cargo:rustc-link-lib=static={name}");
+}
