@@ -1,5 +1,6 @@
 // Text for people, put at a place of a lent buffer as far as there is room: words, numbers in a column, parts in percent, gauges. What stands
 // there afterwards is tested and not promised; each call is proved to stay within what is lent.
+use libc::STDOUT_FILENO;
 
 // Puts one byte; returns the place after it.
 pub fn byte(out: &mut [u8], at: usize, one: u8) -> usize {
@@ -10,22 +11,24 @@ pub fn byte(out: &mut [u8], at: usize, one: u8) -> usize {
     at
 }
 
-pub fn words(out: &mut [u8], at: usize, bytes: &[u8]) -> usize {
+// The first bytes of some, as many as there are of so many.
+pub fn front(out: &mut [u8], at: usize, bytes: &[u8], count: usize) -> usize {
+    let n = ground::shorter(count, bytes.len());
     let mut next = at;
-    let mut i: usize = 0;
-    while i < bytes.len() {
+    for i in 0..n {
         next = byte(out, next, bytes[i]);
-        i += 1;
     }
     next
 }
 
+pub fn words(out: &mut [u8], at: usize, bytes: &[u8]) -> usize {
+    front(out, at, bytes, bytes.len())
+}
+
 pub fn repeated(out: &mut [u8], at: usize, one: u8, count: usize) -> usize {
     let mut next = at;
-    let mut i: usize = 0;
-    while i < count {
+    for _ in 0..count {
         next = byte(out, next, one);
-        i += 1;
     }
     next
 }
@@ -68,4 +71,11 @@ pub fn gauge(out: &mut [u8], at: usize, value: u32, most: u32, cells: u32) -> us
     let filled = repeated(out, opened, b'#', full as usize);
     let whole = repeated(out, filled, b'.', empty as usize);
     byte(out, whole, b']')
+}
+
+// Writes so many bytes of a buffer to standard output, where it has them.
+pub fn write(out: &[u8], count: usize) {
+    if count <= out.len() {
+        io::write_all(STDOUT_FILENO, &out[..count]);
+    }
 }

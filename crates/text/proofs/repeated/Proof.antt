@@ -7,10 +7,10 @@ use Rattle.text.proofs.repeated.Statement.{statement}
 use Rattle.text.proofs.repeated.Tie as tie
 
 abbrev Inv-loop : tie.InvT-loop
-Inv-loop out₀ at one count next₀ i₀ out next i = (i ≤ count) × (length out ≡ length out₀)
+Inv-loop out₀ at one count next₀ counter₀ out next counter = (counter ≤ count) × (length out ≡ length out₀)
 
 abbrev μ-loop : tie.MeasureT-loop
-μ-loop out₀ at one count next₀ i₀ out next i = count - i
+μ-loop out₀ at one count next₀ counter₀ out next counter = count - counter
 
 loop-holds : tie.Need-loop-holds Inv-loop μ-loop
 loop-holds c = (search needs, refl)
@@ -18,8 +18,8 @@ loop-holds c = (search needs, refl)
 byte-requires : tie.Need-byte-requires Inv-loop μ-loop
 byte-requires c κs = tt
 
-add-i : tie.Need-add-i Inv-loop μ-loop
-add-i c = search needs
+add-counter : tie.Need-add-counter Inv-loop μ-loop
+add-counter c = search needs
 
 loop-less : tie.Need-loop-less Inv-loop μ-loop
 loop-less c = search needs
@@ -41,7 +41,7 @@ repeated-spec =
     μ-loop
     loop-holds
     byte-requires
-    add-i
+    add-counter
     loop-less
     loop-again
     same-length

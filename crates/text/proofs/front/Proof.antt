@@ -1,19 +1,22 @@
--- `text::words` ends and stays within what is lent. Assumes nothing.
+-- `text::front` ends and stays within what is lent. Assumes nothing.
 use Prim.Native.Nat.{_-_, _≤_}
 use mathlib.Core.Path.{_≡_, refl}
 use lib.ListN.{length}
 use borrow.Author.Needs.{needs}
-use Rattle.text.proofs.words.Statement.{statement}
-use Rattle.text.proofs.words.Tie as tie
+use Rattle.text.proofs.front.Statement.{statement}
+use Rattle.text.proofs.front.Tie as tie
 
 abbrev Inv-loop : tie.InvT-loop
-Inv-loop out₀ at bytes next₀ i₀ out next i = (i ≤ length bytes) × (length out ≡ length out₀)
+Inv-loop out₀ at bytes count n next₀ i₀ out next i = (i ≤ n) × ((n ≤ length bytes) × (length out ≡ length out₀))
 
 abbrev μ-loop : tie.MeasureT-loop
-μ-loop out₀ at bytes next₀ i₀ out next i = length bytes - i
+μ-loop out₀ at bytes count n next₀ i₀ out next i = n - i
+
+shorter-requires : tie.Need-shorter-requires Inv-loop μ-loop
+shorter-requires c κs = tt
 
 loop-holds : tie.Need-loop-holds Inv-loop μ-loop
-loop-holds c = (search needs, refl)
+loop-holds c = (search needs, (search needs, refl))
 
 shared-slice-read-byte : tie.Need-shared-slice-read-byte Inv-loop μ-loop
 shared-slice-read-byte c = search needs
@@ -36,12 +39,13 @@ same-length c = search needs
 returns : tie.Need-returns Inv-loop μ-loop
 returns c = tt
 
-pub words-spec : {M : Type 1} → statement M
-words-spec =
+pub front-spec : {M : Type 1} → statement M
+front-spec =
     tie.close
     (tie.spec
     Inv-loop
     μ-loop
+    shorter-requires
     loop-holds
     shared-slice-read-byte
     byte-requires

@@ -1,0 +1,129 @@
+// The program behind `./plan`: shows the plan of the office's text on standard input, with the settings that its words name, or writes the filled
+// sheet where the first word is `--sheet`. The settings are given in their order on a sheet, and the last ones may be left out. What cannot be
+// planned is told in words.
+use kinds::Counted;
+use kinds::Granted;
+use kinds::Policy;
+use kinds::Refusal;
+use kinds::Results;
+use kinds::Settings;
+use kinds::Sheet;
+use kinds::Table;
+use libc::STDIN_FILENO;
+use office_sheet::Setting;
+
+// The settings that the words name, or the refusal of one that is no number.
+enum Asked {
+    Is(Settings),
+    Refused(Refusal),
+}
+
+// Whether the first word is `--sheet`: the only one of its length that begins so.
+fn wants_sheet() -> bool {
+    let mut word = [0u8; 16];
+    let n = os::arg(1, &mut word);
+    n == 7 && word[0] == b'-' && word[1] == b'-'
+}
+
+// Which word names the first setting.
+fn first_setting(as_sheet: bool) -> u16 {
+    if as_sheet { 2 } else { 1 }
+}
+
+// The setting that a word names, or what is filled in where there is none.
+fn setting(i: usize, fill_in: u16) -> Setting {
+    if os::arg_count() <= i {
+        return Setting::Is(fill_in);
+    }
+    let mut word = [0u8; 16];
+    let n = os::arg(i, &mut word);
+    office_sheet::setting_of(&word[..n])
+}
+
+// The settings by the words from a place on.
+fn settings_from(first: u16) -> Asked {
+    let Setting::Is(policy) = setting(first as usize, 0) else {
+        return Asked::Refused(Refusal::NoSuchPolicy);
+    };
+    let Setting::Is(m) = setting(first as usize + 1, 0) else {
+        return Asked::Refused(Refusal::NoSuchProcessors);
+    };
+    let Setting::Is(swap) = setting(first as usize + 2, 0) else {
+        return Asked::Refused(Refusal::NoSuchProcessors);
+    };
+    let Setting::Is(notch) = setting(first as usize + 3, 1) else {
+        return Asked::Refused(Refusal::NoSuchProcessors);
+    };
+    Asked::Is(Settings::new(Policy::of(policy), m, swap, notch))
+}
+
+// The unfilled sheet of a table, with as many settings as words are given.
+fn unfilled(settings: Settings, table: Table, count: usize) -> Sheet {
+    let results = Results {
+        rows: [Granted::NONE; Table::MOST_TASKS],
+        n: 0,
+    };
+    Sheet {
+        count,
+        settings,
+        table,
+        results,
+    }
+}
+
+fn put_front(out: &mut [u8], bytes: &[u8; sheet::LONGEST], count: usize) -> usize {
+    text::front(out, 0, bytes, count)
+}
+
+// Puts the filled sheet, or says why there is none.
+fn put_filled(x: Sheet, out: &mut [u8]) -> usize {
+    let mut bytes = [0u8; sheet::LONGEST];
+    let mut filled = [0u8; sheet::LONGEST];
+    let Counted::Count(k) = writer::write(x, &mut bytes) else {
+        return 0;
+    };
+    if sheet::LONGEST < k {
+        return 0;
+    }
+    let Counted::Count(n) = fill::fill_in(&bytes[..k], &mut filled) else {
+        return view_text::put_sheet(x, out);
+    };
+    put_front(out, &filled, n)
+}
+
+// Puts what a text and the words come to.
+fn put_plan(table_text: &[u8], as_sheet: bool, out: &mut [u8]) -> usize {
+    let first = first_setting(as_sheet);
+    let asked = settings_from(first);
+    let Asked::Is(settings) = asked else {
+        return put_unasked(asked, out);
+    };
+    let imported = office::import(table_text, Table::MOST_TASKS);
+    let answer = imported.answer;
+    if let Counted::Refused(refusal) = answer {
+        return view_text::put_line(refusal, out);
+    }
+    let given = ground::less_or_zero(os::arg_count() as u64, first as u64);
+    let count = ground::shorter(given as usize, Settings::MOST);
+    let x = unfilled(settings, imported.table, count);
+    if as_sheet {
+        return put_filled(x, out);
+    }
+    view_text::put_sheet(x, out)
+}
+
+fn put_unasked(asked: Asked, out: &mut [u8]) -> usize {
+    match asked {
+        Asked::Is(_) => 0,
+        Asked::Refused(refusal) => view_text::put_line(refusal, out),
+    }
+}
+
+fn main() {
+    let as_sheet = wants_sheet();
+    let mut table_text = [0u8; office::LONGEST + 1];
+    let n = io::read_full(STDIN_FILENO, &mut table_text);
+    let mut out = [0u8; view_text::LONGEST];
+    let k = put_plan(&table_text[..n], as_sheet, &mut out);
+    text::write(&out, k);
+}

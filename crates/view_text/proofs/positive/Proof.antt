@@ -1,0 +1,33 @@
+-- `view_text::positive` casts no negative number. Assumes nothing.
+use mathlib.Core.Bool.{Bool, true}
+use mathlib.Core.Path.{_≡_, sym, subst}
+use native.Mathlib.Nat.{lt-of-le-of-lt}
+use lib.IntN.{ℤ, pos, negsuc, natAbs}
+use lib.Dec.{T, lit<}
+use lib.Signed.{ltZ, nonNeg, natAbs-le}
+use mir.Syntax.{w64}
+use mir.Val.{Fits, toZ, ofZ}
+use mir.ValLaws.{toZ-ofZ}
+use borrow.Author.Needs.{needs}
+use Rattle.view_text.proofs.positive.Statement.{statement}
+use Rattle.view_text.proofs.positive.Tie as tie
+
+-- what is above 0 is not negative
+not-negative : (z : ℤ) → ltZ (pos 0) z ≡ true → T (nonNeg z)
+not-negative (pos n) e = tt
+not-negative (negsuc n) e = subst (λ (b : Bool). T b) (sym e) tt
+
+cast-result : tie.Need-cast-result
+cast-result c =
+    let x = c .before .args .x in
+    let f = c .before .fits .x in
+    (not-negative (toZ w64 (ofZ w64 x)) (c .if1 .taken), subst (λ (z : ℤ). Fits w64 (natAbs z)) (sym (toZ-ofZ w64 x f)) (record { fits = lt-of-le-of-lt (natAbs-le x (f .sfits)) (lit< tt) }))
+
+returns : tie.Need-returns
+returns c = search needs
+
+returns-2 : tie.Need-returns-2
+returns-2 c = search needs
+
+pub positive-spec : {M : Type 1} → statement M
+positive-spec = tie.close (tie.spec cast-result returns returns-2)
