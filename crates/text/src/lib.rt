@@ -42,6 +42,12 @@ pub fn number(out: &mut [u8], at: usize, n: u64, width: u32) -> usize {
     words(out, next, &digits[..k])
 }
 
+// A name, and a number behind it.
+pub fn named(out: &mut [u8], at: usize, name: &[u8], n: u64) -> usize {
+    let after = words(out, at, name);
+    number(out, after, n, 0)
+}
+
 // Parts of a million in percent, exactly, in eight columns.
 pub fn percent(out: &mut [u8], at: usize, parts: u32) -> usize {
     let whole = number(out, at, (parts / 10_000) as u64, 3);

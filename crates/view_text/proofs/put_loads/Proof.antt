@@ -24,14 +24,8 @@ add-processor c = search needs
 rows-on-requires : tie.Need-rows-on-requires Inv-loop μ-loop
 rows-on-requires c κs = tt
 
-alone-requires : tie.Need-alone-requires Inv-loop μ-loop
-alone-requires c κs = tt
-
-margin-at-requires : tie.Need-margin-at-requires Inv-loop μ-loop
-margin-at-requires c κs = tt
-
-taken-requires : tie.Need-taken-requires Inv-loop μ-loop
-taken-requires c κs = tt
+load-of-requires : tie.Need-load-of-requires Inv-loop μ-loop
+load-of-requires c κs = tt
 
 put-load-requires : tie.Need-put-load-requires Inv-loop μ-loop
 put-load-requires c κs = tt
@@ -58,9 +52,7 @@ put-loads-spec =
     loop-holds
     add-processor
     rows-on-requires
-    alone-requires
-    margin-at-requires
-    taken-requires
+    load-of-requires
     put-load-requires
     loop-less
     loop-again

@@ -1,4 +1,4 @@
--- `view_text::positive` casts no negative number. Assumes nothing.
+-- `view_table::positive` casts no negative number. Assumes nothing.
 use mathlib.Core.Bool.{Bool, true}
 use mathlib.Core.Path.{_≡_, sym, subst}
 use native.Mathlib.Nat.{lt-of-le-of-lt}
@@ -9,8 +9,8 @@ use mir.Syntax.{w64}
 use mir.Val.{Fits, toZ, ofZ}
 use mir.ValLaws.{toZ-ofZ}
 use borrow.Author.Needs.{needs}
-use Rattle.view_text.proofs.positive.Statement.{statement}
-use Rattle.view_text.proofs.positive.Tie as tie
+use Rattle.view_table.proofs.positive.Statement.{statement}
+use Rattle.view_table.proofs.positive.Tie as tie
 
 -- what is above 0 is not negative
 not-negative : (z : ℤ) → ltZ (pos 0) z ≡ true → T (nonNeg z)
