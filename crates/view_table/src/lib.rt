@@ -51,7 +51,8 @@ fn put_record(out: &mut [u8], at: usize, number: usize, task: Task) -> usize {
     let cost = text::number(out, numbered, task.c as u64, 11);
     let shortest = text::number(out, cost, task.tmin as u64, 11);
     let longest = text::number(out, shortest, task.tmax as u64, 11);
-    text::number(out, longest, task.e as u64, 8)
+    let blank = text::byte(out, longest, b' ');
+    text::number(out, blank, task.e as u64, 7)
 }
 
 // The same station with one processor, on which loads are added up.
