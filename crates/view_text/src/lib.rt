@@ -96,7 +96,7 @@ fn put_room(
     put_margin(out, at, margin::margin_at(table, settings, step), step)
 }
 
-// The number of the first reason for which a record is not good; past the last where it is good.
+// The number of the first reason for which a record that is not good is so; none where q is 0, which is refused before.
 fn reason_of(task: Task, settings: Settings) -> u16 {
     let q = settings.notch as u32;
     if task.c == 0 {
