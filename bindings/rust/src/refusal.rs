@@ -2,6 +2,17 @@
 
 use std::fmt;
 
+/// The reasons for which a record is not good, in the order in which they are looked for.
+const REASONS: [&str; 7] = [
+    "C is 0",
+    "C + 2w is above Tmin",
+    "Tmin is above Tmax",
+    "Tmax is above 1,000,000,000",
+    "E is above 1,000,000",
+    "Tmin is not a multiple of q",
+    "Tmax is not a multiple of q",
+];
+
 /// Why a call was refused: a number of documents 01 and 02, with its place p where that is not 0. Its `Display` is one sentence on what to
 /// look at.
 #[derive(Clone, Copy, Debug, PartialEq, Eq, Hash)]
@@ -132,7 +143,7 @@ impl fmt::Display for Refusal {
                 write!(f, "what is lent is too short: {place} entries or bytes are needed")
             }
             Refusal::BadRecord(place) => {
-                write!(f, "task {place} is not good: C is 0, C + 2w is above Tmin, Tmin is above Tmax, Tmax is above 1,000,000,000, E is above 1,000,000, Tmin is not a multiple of q or Tmax is not a multiple of q")
+                write!(f, "task {place} is not good: {}", REASONS.join(", or "))
             }
             Refusal::NoStepPasses => {
                 write!(f, "the tasks fit at no step: lower C, or raise Tmax, E or m")

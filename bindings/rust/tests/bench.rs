@@ -117,7 +117,7 @@ fn every_refusal_has_its_number_its_place_and_its_words() {
     }
     assert_eq!(Refusal::of(0, 0), None);
     assert_eq!(Refusal::of(20, 0), None);
-    assert!(Refusal::BadRecord(3).to_string().starts_with("task 3 is not good: C is 0, "));
+    assert!(Refusal::BadRecord(3).to_string().starts_with("task 3 is not good: C is 0, or "));
     assert_eq!(Refusal::SheetEnds(7).to_string(), "the sheet ends at byte 7, where more is due");
 }
 

@@ -21,7 +21,8 @@ cast-result : tie.Need-cast-result
 cast-result c =
     let x = c .before .args .x in
     let f = c .before .fits .x in
-    (not-negative (toZ w64 (ofZ w64 x)) (c .if1 .taken), subst (λ (z : ℤ). Fits w64 (natAbs z)) (sym (toZ-ofZ w64 x f)) (record { fits = lt-of-le-of-lt (natAbs-le x (f .sfits)) (lit< tt) }))
+    let few : Fits w64 (natAbs x) = record { fits = lt-of-le-of-lt (natAbs-le x (f .sfits)) (lit< tt) } in
+    (not-negative (toZ w64 (ofZ w64 x)) (c .if1 .taken), subst (λ (z : ℤ). Fits w64 (natAbs z)) (sym (toZ-ofZ w64 x f)) few)
 
 returns : tie.Need-returns
 returns c = search needs
