@@ -12,6 +12,7 @@ pub struct Station {
     pub m: u16,
     pub w: u16,
     pub q: u16,
+    pub edition: u16,
 }
 
 #[repr(C)]
@@ -77,6 +78,25 @@ pub struct Part {
 }
 
 #[repr(C)]
+pub struct Index {
+    pub entries: [u16; MOST_TASKS],
+    pub n: usize,
+}
+
+#[repr(C)]
+pub struct Kept {
+    pub table: Table,
+    pub index: Index,
+}
+
+#[repr(C)]
+pub struct Changed {
+    pub number: u32,
+    pub place: usize,
+    pub kept: Kept,
+}
+
+#[repr(C)]
 pub struct Started {
     pub number: u32,
     pub place: usize,
@@ -113,6 +133,16 @@ extern "C" {
     ) -> Told;
     pub fn eelbasket_margin(rows: *const Task, tasks: usize, station: Station, step: u32)
         -> Margin;
+    pub fn eelbasket_check_proposal(
+        rows: *const Task,
+        tasks: usize,
+        station: Station,
+        step: u32,
+        proposal: *const u16,
+        proposal_len: usize,
+        loads: *mut u32,
+        loads_len: usize,
+    ) -> Verdict;
     pub fn eelbasket_wide(
         rows: *const WideTask,
         tasks: usize,
@@ -136,6 +166,8 @@ extern "C" {
         proposed: *const u8,
         proposed_len: usize,
     ) -> Part;
+    pub fn eelbasket_join(kept: Kept, w: u16, q: u16, task: Task) -> Changed;
+    pub fn eelbasket_leave(kept: Kept, w: u16, q: u16, record: usize) -> Changed;
     pub fn eelbasket_import(
         text: *const u8,
         text_len: usize,

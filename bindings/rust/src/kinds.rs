@@ -107,20 +107,23 @@ pub struct Station {
     pub w: u16,
     /// The notch in ticks: each period is a multiple of it. It is not 0.
     pub q: u16,
+    /// The edition of the charge: 1 tests shares, 2 charges.
+    pub edition: u16,
 }
 
 impl Station {
-    /// A station where swaps cost nothing and every tick can be timed.
+    /// A station where swaps cost nothing, every tick can be timed, and shares are tested.
     pub const fn new(policy: Policy, m: u16) -> Station {
-        Station { policy, m, w: 0, q: 1 }
+        Station { policy, m, w: 0, q: 1, edition: 1 }
     }
 
     pub(crate) fn numbers(self) -> boundary::Station {
-        boundary::Station { policy: self.policy.number(), m: self.m, w: self.w, q: self.q }
+        let Station { policy, m, w, q, edition } = self;
+        boundary::Station { policy: policy.number(), m, w, q, edition }
     }
 
     pub(crate) fn of(numbers: boundary::Station) -> Station {
-        let boundary::Station { policy, m, w, q } = numbers;
-        Station { policy: Policy::of(policy), m, w, q }
+        let boundary::Station { policy, m, w, q, edition } = numbers;
+        Station { policy: Policy::of(policy), m, w, q, edition }
     }
 }

@@ -25,13 +25,15 @@
 mod boundary;
 mod clock;
 mod finders;
+mod keep;
 mod kinds;
 mod office;
 mod refusal;
 mod sheets;
 
 pub use clock::Clock;
-pub use finders::{find, margin, plain, quick, wide, Looked, Plan};
+pub use finders::{check_proposal, find, margin, plain, quick, wide, Looked, Plan};
+pub use keep::Kept;
 pub use kinds::{Granted, Policy, Station, Task, WideTask, MOST_TASKS};
 pub use office::{export, import};
 pub use refusal::Refusal;

@@ -20,8 +20,8 @@ const REASONS: [&str; 7] = [
 pub enum Refusal {
     /// 1: the policy must be 1, 2, 4 or 5.
     NoSuchPolicy,
-    /// 2: m must be 1 to 16 (1 under policy 5), and q not 0.
-    NoSuchProcessors,
+    /// 2: m must be 1 to 16 (1 under policy 5), q not 0, edition 1 or 2.
+    Misset,
     /// 3: there are more than 32 tasks.
     TooManyTasks(usize),
     /// 4: policy 4 has no quick finder and no margin.
@@ -34,7 +34,7 @@ pub enum Refusal {
     NoStepPasses,
     /// 8: the sheet ends at byte p, where more is due.
     SheetEnds(usize),
-    /// 9: the sheet must begin with a settings count of 2 to 4.
+    /// 9: the sheet must begin with a settings count of 2 to 5.
     WrongSettingsCount,
     /// 10: the result count is neither 0 nor the task count.
     WrongResultCount(usize),
@@ -63,7 +63,7 @@ impl Refusal {
     pub fn number(self) -> u32 {
         match self {
             Refusal::NoSuchPolicy => 1,
-            Refusal::NoSuchProcessors => 2,
+            Refusal::Misset => 2,
             Refusal::TooManyTasks(_) => 3,
             Refusal::PolicyNotServed => 4,
             Refusal::OutputTooShort(_) => 5,
@@ -107,7 +107,7 @@ impl Refusal {
     pub fn of(number: u32, place: usize) -> Option<Refusal> {
         Some(match number {
             1 => Refusal::NoSuchPolicy,
-            2 => Refusal::NoSuchProcessors,
+            2 => Refusal::Misset,
             3 => Refusal::TooManyTasks(place),
             4 => Refusal::PolicyNotServed,
             5 => Refusal::OutputTooShort(place),
@@ -134,8 +134,8 @@ impl fmt::Display for Refusal {
     fn fmt(&self, f: &mut fmt::Formatter<'_>) -> fmt::Result {
         match self {
             Refusal::NoSuchPolicy => write!(f, "the policy must be 1, 2, 4 or 5"),
-            Refusal::NoSuchProcessors => {
-                write!(f, "m must be 1 to 16 (1 under policy 5), and q not 0")
+            Refusal::Misset => {
+                write!(f, "m must be 1 to 16 (1 under policy 5), q not 0, edition 1 or 2")
             }
             Refusal::TooManyTasks(_) => write!(f, "there are more than 32 tasks"),
             Refusal::PolicyNotServed => write!(f, "policy 4 has no quick finder and no margin"),
@@ -152,7 +152,7 @@ impl fmt::Display for Refusal {
                 write!(f, "the sheet ends at byte {place}, where more is due")
             }
             Refusal::WrongSettingsCount => {
-                write!(f, "the sheet must begin with a settings count of 2 to 4")
+                write!(f, "the sheet must begin with a settings count of 2 to 5")
             }
             Refusal::WrongResultCount(_) => {
                 write!(f, "the result count is neither 0 nor the task count")

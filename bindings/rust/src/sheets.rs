@@ -5,15 +5,15 @@ use crate::kinds::{Granted, Station, Task, MOST_TASKS};
 use crate::refusal::Refusal;
 
 /// The bytes of the longest sheet.
-pub const LONGEST_SHEET: usize = 718;
+pub const LONGEST_SHEET: usize = 720;
 
 /// A station sheet.
 #[derive(Clone, Debug, PartialEq, Eq)]
 pub struct Sheet {
-    /// How many numbers its settings section has: the first 2, 3 or 4 of policy, m, w and q. A reading keeps it, and only
+    /// How many numbers its settings section has: the first 2 to 5 of policy, m, w, q and edition. A reading keeps it, and only
     /// [`write`](Sheet::write) looks at it.
     pub settings_count: usize,
-    /// The settings; a reading fills in w = 0 and q = 1 where the sheet has none.
+    /// The settings; a reading fills in w = 0, q = 1 and edition 1 where the sheet has none.
     pub station: Station,
     /// The task section.
     pub tasks: Vec<Task>,

@@ -1,8 +1,8 @@
 //! "Bench settings to try", with document 01's answers, and what the requests give for them.
 
 use eelbasket::{
-    check, filled, find, margin, quick, Clock, Granted, Looked, Plan, Policy, Refusal, Sheet,
-    Station, Task, LONGEST_SHEET, MOST_TASKS,
+    check, check_proposal, filled, find, margin, quick, Clock, Granted, Kept, Looked, Plan, Policy,
+    Refusal, Sheet, Station, Task, LONGEST_SHEET, MOST_TASKS,
 };
 
 /// Case B's task.
@@ -69,7 +69,7 @@ fn case_l_at_the_limits() {
     accepted(&[Task::new(1, 10, 1_000_000_000, 0)], one, 0, &[10], 1);
     refused(&[light, Task::new(1, 10, 1_000_000_001, 0)], one, Refusal::BadRecord(1), 0);
     accepted(&[SIX; 2], Station::new(Policy::Pooled, 16), 0, &[10, 10], 1);
-    refused(&[SIX; 2], Station::new(Policy::Pooled, 17), Refusal::NoSuchProcessors, 0);
+    refused(&[SIX; 2], Station::new(Policy::Pooled, 17), Refusal::Misset, 0);
 }
 
 #[test]
@@ -80,7 +80,41 @@ fn case_b_on_one_core_with_swaps_and_with_notches() {
     accepted(&[SIX; 2], Station { w: 1, ..one }, 300, &[16, 16], 2);
     refused(&[SIX; 2], Station { w: 3, ..one }, Refusal::BadRecord(0), 0);
     accepted(&[SIX; 2], Station { q: 5, ..one }, 100, &[15, 15], 2);
-    refused(&[SIX; 2], Station { q: 0, ..one }, Refusal::NoSuchProcessors, 0);
+    refused(&[SIX; 2], Station { q: 0, ..one }, Refusal::Misset, 0);
+}
+
+#[test]
+fn cases_b_d_and_j_in_edition_2() {
+    let charged = Station { edition: 2, ..Station::new(Policy::Pooled, 1) };
+    accepted(&[SIX; 2], charged, 55, &[12, 12], 8);
+    accepted(&[Task::new(6, 10, 11, 1000), Task::new(6, 10, 30, 1000)], charged, 139, &[11, 14], 9);
+    accepted(&[Task::new(1, 1, 1_000_000_000, 1); 2], charged, 1, &[2, 2], 20);
+    refused(&[SIX; 2], Station { edition: 3, ..charged }, Refusal::Misset, 0);
+}
+
+#[test]
+fn a_proposal_for_case_k() {
+    let (station, mut loads) = (Station::new(Policy::FirstFit, 3), [0; 3]);
+    let ours = [1, 2, 2, 3, 1, 2, 3];
+    assert_eq!(check_proposal(&case_k(), station, 5, &ours, &mut loads), Ok(()));
+    assert_eq!(loads, [1_000_000; 3]);
+    let far = check_proposal(&case_k(), station, 5, &[1, 4, 2, 3, 1, 2, 3], &mut loads);
+    assert_eq!(far, Err(Refusal::ProcessorOutOfRange(1)));
+    let heaped = check_proposal(&case_k(), station, 5, &[1, 1, 2, 3, 1, 2, 3], &mut loads);
+    assert_eq!(heaped, Err(Refusal::ProcessorOverfull(1)));
+}
+
+#[test]
+fn tasks_join_and_leave() {
+    let mut kept = Kept::EMPTY;
+    for task in [Task::new(6, 10, 30, 1000), Task::new(5, 10, 20, 0), Task::new(6, 10, 11, 1000)] {
+        assert_eq!(kept.join(0, 1, task), Ok(()));
+    }
+    assert_eq!((kept.n, &kept.index[..kept.entries]), (3, &[2, 0][..]));
+    assert_eq!(kept.leave(0, 1, 3), Err(Refusal::NoSuchRecord(3)));
+    assert_eq!(kept.leave(0, 1, 1), Ok(()));
+    assert_eq!((kept.n, &kept.index[..kept.entries]), (2, &[1, 0][..]));
+    assert_eq!(kept.join(0, 0, SIX), Err(Refusal::Misset));
 }
 
 #[test]

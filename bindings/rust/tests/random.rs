@@ -2,15 +2,17 @@
 //! its definitions.
 
 use eelbasket::{
-    change_over, check, export, filled, import, margin, plain, quick, wide, Clock, Granted, Looked,
-    Policy, Refusal, Sheet, Station, Task, Which, WideTask,
+    change_over, check, check_proposal, export, filled, import, margin, plain, quick, wide, Clock,
+    Granted, Kept, Looked, Policy, Refusal, Sheet, Station, Task, Which, WideTask,
 };
 use second::answer::{BUFFER_SENTINEL, PERIOD_SENTINEL, PROCESSOR_SENTINEL, ROW_SENTINEL};
-use second::call::{Call, Rooms, Settings, Table, WideTable, Writing};
+use second::call::{Call, Proposing, Rooms, Settings, Table, WideTable, Writing};
 use second::clock_run::{Beginning, Run};
 use second::definition as by;
+use second::definition::keep::Change;
 use second::definition::kinds::Record;
 use second::generator::Calls;
+use second::keeping::Keeping;
 use std::time::{SystemTime, UNIX_EPOCH};
 
 const RANDOM_CALLS: usize = 2_000;
@@ -44,7 +46,8 @@ fn station(settings: Settings) -> Station {
         true => Policy::Further(settings.number),
         false => Policy::of(settings.number),
     };
-    Station { policy, m: settings.m, w: settings.w, q: settings.q }
+    let Settings { m, w, q, edition, .. } = settings;
+    Station { policy, m, w, q, edition }
 }
 
 /// Two lent outputs.
@@ -83,7 +86,7 @@ fn sheet(sheet: &by::kinds::Sheet) -> Sheet {
     let policy = Policy::of(sheet.policy.number());
     Sheet {
         settings_count: usize::from(sheet.settings_count),
-        station: Station { policy, m: sheet.m, w: sheet.w, q: sheet.q },
+        station: Station { policy, m: sheet.m, w: sheet.w, q: sheet.q, edition: sheet.edition },
         tasks: sheet.rows[..usize::from(sheet.task_count)].iter().map(task).collect(),
         results: sheet.results[..usize::from(sheet.result_count)].iter().map(granted).collect(),
     }
@@ -164,6 +167,33 @@ fn same_run(run: &Run) {
     }
 }
 
+fn same_proposal(asked: &Proposing) {
+    let Proposing { table, step, proposal, room } = asked;
+    let mut loads = vec![PERIOD_SENTINEL; usize::from(*room)];
+    let mut due = loads.clone();
+    let answer = by::proposal::check_proposal(&table.question(), *step, proposal, &mut due);
+    let tasks = rows(&table.rows, table.count, task);
+    let verdict = check_proposal(&tasks, station(table.settings), *step, proposal, &mut loads);
+    assert_eq!(verdict, ours(answer));
+    assert_eq!(loads, due);
+}
+
+fn kept(kept: &by::keep::Kept) -> Kept {
+    let (n, entries) = (usize::from(kept.count), usize::from(kept.entries));
+    Kept { rows: kept.rows.each_ref().map(task), n, index: kept.index, entries }
+}
+
+fn same_change(keeping: &Keeping) {
+    let Keeping { w, q, change, .. } = *keeping;
+    let (mut now, mut due) = (kept(&keeping.kept), keeping.kept.clone());
+    let answer = match change {
+        Change::Join(record) => now.join(w, q, task(&record)),
+        Change::Leave(record) => now.leave(w, q, record as usize),
+    };
+    assert_eq!(answer, ours(due.change(w, q, change)));
+    assert_eq!(now, kept(&due));
+}
+
 fn same_import(entries: u8, text: &[u8]) {
     let mut due = vec![ROW_SENTINEL; usize::from(entries)];
     let mut out: Vec<Task> = due.iter().map(task).collect();
@@ -195,6 +225,8 @@ fn same(call: &Call) {
         Call::Clock(run) => same_run(run),
         Call::Import { entries, text } => same_import(*entries, text),
         Call::Export(asked) => same_export(asked),
+        Call::Proposal(asked) => same_proposal(asked),
+        Call::Keep(keeping) => same_change(keeping),
     }
 }
 

@@ -46,15 +46,18 @@ fn settings_from(first: u16) -> Asked {
         return Asked::Refused(Refusal::NoSuchPolicy);
     };
     let Setting::Is(m) = setting(first as usize + 1, 0) else {
-        return Asked::Refused(Refusal::NoSuchProcessors);
+        return Asked::Refused(Refusal::Misset);
     };
     let Setting::Is(swap) = setting(first as usize + 2, 0) else {
-        return Asked::Refused(Refusal::NoSuchProcessors);
+        return Asked::Refused(Refusal::Misset);
     };
     let Setting::Is(notch) = setting(first as usize + 3, 1) else {
-        return Asked::Refused(Refusal::NoSuchProcessors);
+        return Asked::Refused(Refusal::Misset);
     };
-    Asked::Is(Settings::new(Policy::of(policy), m, swap, notch))
+    let Setting::Is(edition) = setting(first as usize + 4, 1) else {
+        return Asked::Refused(Refusal::Misset);
+    };
+    Asked::Is(Settings::new(Policy::of(policy), m, swap, notch, edition))
 }
 
 // The unfilled sheet of a table, with as many settings as words are given.

@@ -15,7 +15,7 @@ pub fn sentence(out: &mut [u8], at: usize, number: u16, place: usize) -> usize {
         2 => text::words(
             out,
             at,
-            b"m must be 1 to 16 (1 under policy 5), and q not 0",
+            b"m must be 1 to 16 (1 under policy 5), q not 0, edition 1 or 2",
         ),
         3 => text::words(out, at, b"there are more than 32 tasks"),
         4 => text::words(out, at, b"policy 4 has no quick finder and no margin"),
@@ -49,7 +49,7 @@ fn from_six(out: &mut [u8], at: usize, number: u16, place: usize) -> usize {
         9 => text::words(
             out,
             at,
-            b"the sheet must begin with a settings count of 2 to 4",
+            b"the sheet must begin with a settings count of 2 to 5",
         ),
         10 => text::words(out, at, b"the result count is neither 0 nor the task count"),
         _ => from_eleven(out, at, number, place),
