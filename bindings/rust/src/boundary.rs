@@ -1,5 +1,6 @@
 //! What crosses to C: the structs and the calls of `include/eelbasket.h`, in its order.
 
+use crate::kept::{Kept, Table};
 use crate::kinds::{Granted, Task, WideTask, MOST_TASKS};
 use crate::refusal::Refusal;
 use crate::sheets::LONGEST_SHEET;
@@ -24,16 +25,16 @@ pub struct Told {
 }
 
 #[repr(C)]
+pub struct Verdict {
+    pub number: u32,
+    pub place: usize,
+}
+
+#[repr(C)]
 pub struct Margin {
     pub number: u32,
     pub place: usize,
     pub margin: i64,
-}
-
-#[repr(C)]
-pub struct Table {
-    pub rows: [Task; MOST_TASKS],
-    pub n: usize,
 }
 
 #[repr(C)]
@@ -65,28 +66,10 @@ pub struct Counted {
 }
 
 #[repr(C)]
-pub struct Verdict {
-    pub number: u32,
-    pub place: usize,
-}
-
-#[repr(C)]
 pub struct Part {
     pub which: u32,
     pub place: usize,
     pub size: usize,
-}
-
-#[repr(C)]
-pub struct Index {
-    pub entries: [u16; MOST_TASKS],
-    pub n: usize,
-}
-
-#[repr(C)]
-pub struct Kept {
-    pub table: Table,
-    pub index: Index,
 }
 
 #[repr(C)]

@@ -1,4 +1,4 @@
-//! The finders, the margin and the checker of proposals.
+//! The finders and the margin.
 
 use crate::boundary::{self, judged};
 use crate::kinds::{Granted, Station, Task, WideTask};
@@ -13,7 +13,7 @@ pub struct Plan {
     pub granted: Vec<Granted>,
 }
 
-/// The quick finder's answer, and how many looks it made: at most one more than there are tasks, and in edition 2 at most 20.
+/// The quick finder's answer, and how many looks it made: in edition 1 at most one more than there are tasks, in edition 2 at most 20.
 #[derive(Clone, Copy, Debug, PartialEq, Eq)]
 pub struct Looked {
     /// The step, or the refusal.
@@ -89,33 +89,6 @@ pub fn margin(tasks: &[Task], station: Station, step: u32) -> Result<i64, Refusa
     let told =
         unsafe { boundary::eelbasket_margin(tasks.as_ptr(), tasks.len(), station.numbers(), step) };
     judged(told.number, told.place, told.margin)
-}
-
-/// Whether a planner's proposal of a processor for each task fits at a step: each is from 1 to m, and no load is above a whole processor. The
-/// loads of the m processors are written where it does. The policy is not looked at.
-///
-/// Refusals 2, 3, 5, 6, 13, 14; 5 where the proposal has fewer entries than there are tasks, then where the loads have fewer than m.
-pub fn check_proposal(
-    tasks: &[Task],
-    station: Station,
-    step: u32,
-    proposal: &[u16],
-    loads: &mut [u32],
-) -> Result<(), Refusal> {
-    // As in `plain`.
-    let verdict = unsafe {
-        boundary::eelbasket_check_proposal(
-            tasks.as_ptr(),
-            tasks.len(),
-            station.numbers(),
-            step,
-            proposal.as_ptr(),
-            proposal.len(),
-            loads.as_mut_ptr(),
-            loads.len(),
-        )
-    };
-    judged(verdict.number, verdict.place, ())
 }
 
 /// The least passing step of tasks that need several cores, on m processors, with each task's period and core count in the lent outputs.

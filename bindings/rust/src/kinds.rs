@@ -96,6 +96,37 @@ impl Policy {
     }
 }
 
+/// What the tests of the policies, the loads of a proposal and the margin go by. The periods and full compression go by the shares in both.
+#[derive(Clone, Copy, Debug, PartialEq, Eq, Hash)]
+pub enum Edition {
+    /// 1: a task counts with its share at the step.
+    Share,
+    /// 2: a task counts with what the period granted at the step charges it, (C + 2w) * 1,000,000 / period rounded up.
+    Charge,
+    /// Any other number, which a sheet may have; one that holds 1 or 2 means that edition.
+    Further(u16),
+}
+
+impl Edition {
+    /// The edition of a number.
+    pub fn of(number: u16) -> Edition {
+        match number {
+            1 => Edition::Share,
+            2 => Edition::Charge,
+            _ => Edition::Further(number),
+        }
+    }
+
+    /// The number of an edition.
+    pub fn number(self) -> u16 {
+        match self {
+            Edition::Share => 1,
+            Edition::Charge => 2,
+            Edition::Further(number) => number,
+        }
+    }
+}
+
 /// The settings of a station.
 #[derive(Clone, Copy, Debug, PartialEq, Eq, Hash)]
 pub struct Station {
@@ -107,23 +138,23 @@ pub struct Station {
     pub w: u16,
     /// The notch in ticks: each period is a multiple of it. It is not 0.
     pub q: u16,
-    /// The edition of the charge: 1 tests shares, 2 charges.
-    pub edition: u16,
+    /// Whether tasks count with their shares or with their charges.
+    pub edition: Edition,
 }
 
 impl Station {
-    /// A station where swaps cost nothing, every tick can be timed, and shares are tested.
+    /// A station where swaps cost nothing, every tick can be timed, and tasks count with their shares.
     pub const fn new(policy: Policy, m: u16) -> Station {
-        Station { policy, m, w: 0, q: 1, edition: 1 }
+        Station { policy, m, w: 0, q: 1, edition: Edition::Share }
     }
 
     pub(crate) fn numbers(self) -> boundary::Station {
         let Station { policy, m, w, q, edition } = self;
-        boundary::Station { policy: policy.number(), m, w, q, edition }
+        boundary::Station { policy: policy.number(), m, w, q, edition: edition.number() }
     }
 
     pub(crate) fn of(numbers: boundary::Station) -> Station {
         let boundary::Station { policy, m, w, q, edition } = numbers;
-        Station { policy: Policy::of(policy), m, w, q, edition }
+        Station { policy: Policy::of(policy), m, w, q, edition: Edition::of(edition) }
     }
 }

@@ -3,7 +3,8 @@
 //!
 //! Each function here is a call of the proved library (`include/eelbasket.h`) with Rust's own types. Every call is total: any numbers and
 //! bytes may be passed, and bad ones are refused. A [`Refusal`] has the number that the documents give it, its place, and a sentence on what to
-//! look at; a refused call leaves what was lent as it was. Nothing here allocates but [`find`], [`Sheet`] and [`filled`].
+//! look at; a refused call leaves what was lent as it was. Nothing here allocates but [`find`], [`check_proposal`], [`Sheet`] and
+//! [`filled`].
 //!
 //! ```
 //! use eelbasket::{find, Policy, Refusal, Station, Task};
@@ -25,16 +26,18 @@
 mod boundary;
 mod clock;
 mod finders;
-mod keep;
+mod kept;
 mod kinds;
 mod office;
+mod proposal;
 mod refusal;
 mod sheets;
 
 pub use clock::Clock;
-pub use finders::{check_proposal, find, margin, plain, quick, wide, Looked, Plan};
-pub use keep::Kept;
-pub use kinds::{Granted, Policy, Station, Task, WideTask, MOST_TASKS};
+pub use finders::{find, margin, plain, quick, wide, Looked, Plan};
+pub use kept::{Index, Kept, Table};
+pub use kinds::{Edition, Granted, Policy, Station, Task, WideTask, MOST_TASKS};
 pub use office::{export, import};
+pub use proposal::{check_proposal, check_proposal_into};
 pub use refusal::Refusal;
 pub use sheets::{change_over, check, fill, filled, Part, Sheet, Which, LONGEST_SHEET};

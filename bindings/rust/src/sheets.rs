@@ -1,6 +1,7 @@
 //! Station sheets.
 
 use crate::boundary::{self, judged};
+use crate::kept::Table;
 use crate::kinds::{Granted, Station, Task, MOST_TASKS};
 use crate::refusal::Refusal;
 
@@ -52,7 +53,7 @@ impl Sheet {
         let sheet = boundary::Sheet {
             settings_count: self.settings_count,
             station: self.station.numbers(),
-            table: boundary::Table { rows: front(&self.tasks), n: self.tasks.len() },
+            table: Table { rows: front(&self.tasks), n: self.tasks.len() },
             results: boundary::Results { rows: front(&self.results), n: self.results.len() },
         };
         // The pointer comes with its own length, and the sheet is passed by value.

@@ -2,8 +2,9 @@
 //! its definitions.
 
 use eelbasket::{
-    change_over, check, check_proposal, export, filled, import, margin, plain, quick, wide, Clock,
-    Granted, Kept, Looked, Policy, Refusal, Sheet, Station, Task, Which, WideTask,
+    change_over, check, check_proposal, check_proposal_into, export, filled, import, margin, plain,
+    quick, wide, Clock, Edition, Granted, Index, Kept, Looked, Policy, Refusal, Sheet, Station,
+    Task, Which, WideTask,
 };
 use second::answer::{BUFFER_SENTINEL, PERIOD_SENTINEL, PROCESSOR_SENTINEL, ROW_SENTINEL};
 use second::call::{Call, Proposing, Rooms, Settings, Table, WideTable, Writing};
@@ -47,7 +48,7 @@ fn station(settings: Settings) -> Station {
         false => Policy::of(settings.number),
     };
     let Settings { m, w, q, edition, .. } = settings;
-    Station { policy, m, w, q, edition }
+    Station { policy, m, w, q, edition: Edition::of(edition) }
 }
 
 /// Two lent outputs.
@@ -81,12 +82,27 @@ fn same_margin(table: &Table, step: u32) {
     assert_eq!(answer, ours(by::margin::margin(&table.question(), step)));
 }
 
+fn same_proposal(asked: &Proposing) {
+    let Proposing { table, step, proposal, room } = asked;
+    let (tasks, station) = (rows(&table.rows, table.count, task), station(table.settings));
+    let mut loads = vec![PERIOD_SENTINEL; usize::from(*room)];
+    let mut due = loads.clone();
+    let answer = by::proposal::check_proposal(&table.question(), *step, proposal, &mut due);
+    assert_eq!(check_proposal_into(&tasks, station, *step, proposal, &mut loads), ours(answer));
+    assert_eq!(loads, due);
+    // with an output of just m
+    let mut due = vec![0; usize::from(station.m)];
+    let answer = by::proposal::check_proposal(&table.question(), *step, proposal, &mut due);
+    let answer = ours(answer).map(|()| due);
+    assert_eq!(check_proposal(&tasks, station, *step, proposal), answer);
+}
+
 /// A sheet of the second program as ours.
 fn sheet(sheet: &by::kinds::Sheet) -> Sheet {
-    let policy = Policy::of(sheet.policy.number());
+    let (policy, edition) = (Policy::of(sheet.policy.number()), Edition::of(sheet.edition));
     Sheet {
         settings_count: usize::from(sheet.settings_count),
-        station: Station { policy, m: sheet.m, w: sheet.w, q: sheet.q, edition: sheet.edition },
+        station: Station { policy, m: sheet.m, w: sheet.w, q: sheet.q, edition },
         tasks: sheet.rows[..usize::from(sheet.task_count)].iter().map(task).collect(),
         results: sheet.results[..usize::from(sheet.result_count)].iter().map(granted).collect(),
     }
@@ -146,6 +162,27 @@ fn same_wide(table: &WideTable, rooms: Rooms) {
     assert_eq!((periods, cores), due);
 }
 
+/// A kept table of the second program as ours, with what stands past its ends.
+fn kept(kept: &by::keep::Kept) -> Kept {
+    Kept {
+        table: eelbasket::Table {
+            rows: kept.rows.each_ref().map(task),
+            n: usize::from(kept.count),
+        },
+        index: Index { entries: kept.index, n: usize::from(kept.entries) },
+    }
+}
+
+fn same_keep(asked: &Keeping) {
+    let (mut ours_now, mut theirs) = (kept(&asked.kept), asked.kept.clone());
+    let answer = match asked.change {
+        Change::Join(joining) => ours_now.join(asked.w, asked.q, task(&joining)),
+        Change::Leave(record) => ours_now.leave(asked.w, asked.q, usize::from(record)),
+    };
+    assert_eq!(answer, ours(theirs.change(asked.w, asked.q, asked.change)));
+    assert_eq!(ours_now, kept(&theirs));
+}
+
 fn clock(clock: by::clock::Clock) -> Clock {
     Clock { periods: clock.periods, next: clock.next, n: usize::from(clock.count) }
 }
@@ -165,33 +202,6 @@ fn same_run(run: &Run) {
         assert_eq!(ours_now.call(*tick), ours(theirs.call(*tick)));
         assert_eq!(ours_now, clock(theirs.clone()));
     }
-}
-
-fn same_proposal(asked: &Proposing) {
-    let Proposing { table, step, proposal, room } = asked;
-    let mut loads = vec![PERIOD_SENTINEL; usize::from(*room)];
-    let mut due = loads.clone();
-    let answer = by::proposal::check_proposal(&table.question(), *step, proposal, &mut due);
-    let tasks = rows(&table.rows, table.count, task);
-    let verdict = check_proposal(&tasks, station(table.settings), *step, proposal, &mut loads);
-    assert_eq!(verdict, ours(answer));
-    assert_eq!(loads, due);
-}
-
-fn kept(kept: &by::keep::Kept) -> Kept {
-    let (n, entries) = (usize::from(kept.count), usize::from(kept.entries));
-    Kept { rows: kept.rows.each_ref().map(task), n, index: kept.index, entries }
-}
-
-fn same_change(keeping: &Keeping) {
-    let Keeping { w, q, change, .. } = *keeping;
-    let (mut now, mut due) = (kept(&keeping.kept), keeping.kept.clone());
-    let answer = match change {
-        Change::Join(record) => now.join(w, q, task(&record)),
-        Change::Leave(record) => now.leave(w, q, record as usize),
-    };
-    assert_eq!(answer, ours(due.change(w, q, change)));
-    assert_eq!(now, kept(&due));
 }
 
 fn same_import(entries: u8, text: &[u8]) {
@@ -226,7 +236,7 @@ fn same(call: &Call) {
         Call::Import { entries, text } => same_import(*entries, text),
         Call::Export(asked) => same_export(asked),
         Call::Proposal(asked) => same_proposal(asked),
-        Call::Keep(keeping) => same_change(keeping),
+        Call::Keep(asked) => same_keep(asked),
     }
 }
 
