@@ -20,9 +20,9 @@ const REASONS: [&str; 7] = [
 pub enum Refusal {
     /// 1: the policy must be 1, 2, 4 or 5.
     NoSuchPolicy,
-    /// 2: m must be 1 to 16 (1 under policy 5), q not 0, edition 1 or 2.
+    /// 2: m must be 1 to 16 (policy 5: 1), q not 0, the edition 1 or 2.
     Misset,
-    /// 3: there are more than 32 tasks.
+    /// 3: a table has at most 32 tasks.
     TooManyTasks(usize),
     /// 4: policy 4 has no quick finder and no margin.
     PolicyNotServed,
@@ -135,9 +135,9 @@ impl fmt::Display for Refusal {
         match self {
             Refusal::NoSuchPolicy => write!(f, "the policy must be 1, 2, 4 or 5"),
             Refusal::Misset => {
-                write!(f, "m must be 1 to 16 (1 under policy 5), q not 0, edition 1 or 2")
+                write!(f, "m must be 1 to 16 (policy 5: 1), q not 0, the edition 1 or 2")
             }
-            Refusal::TooManyTasks(_) => write!(f, "there are more than 32 tasks"),
+            Refusal::TooManyTasks(_) => write!(f, "a table has at most 32 tasks"),
             Refusal::PolicyNotServed => write!(f, "policy 4 has no quick finder and no margin"),
             Refusal::OutputTooShort(place) => {
                 write!(f, "what is lent is too short: {place} entries or bytes are needed")

@@ -42,19 +42,19 @@ fn setting(i: usize, fill_in: u16) -> Setting {
 
 // The settings by the words from a place on.
 fn settings_from(first: u16) -> Asked {
-    let Setting::Is(policy) = setting(first as usize, 0) else {
+    let Setting::Is(policy) = setting(first as usize, Settings::FILL_INS[0]) else {
         return Asked::Refused(Refusal::NoSuchPolicy);
     };
-    let Setting::Is(m) = setting(first as usize + 1, 0) else {
+    let Setting::Is(m) = setting(first as usize + 1, Settings::FILL_INS[1]) else {
         return Asked::Refused(Refusal::Misset);
     };
-    let Setting::Is(swap) = setting(first as usize + 2, 0) else {
+    let Setting::Is(swap) = setting(first as usize + 2, Settings::FILL_INS[2]) else {
         return Asked::Refused(Refusal::Misset);
     };
-    let Setting::Is(notch) = setting(first as usize + 3, 1) else {
+    let Setting::Is(notch) = setting(first as usize + 3, Settings::FILL_INS[3]) else {
         return Asked::Refused(Refusal::Misset);
     };
-    let Setting::Is(edition) = setting(first as usize + 4, 1) else {
+    let Setting::Is(edition) = setting(first as usize + 4, Settings::FILL_INS[4]) else {
         return Asked::Refused(Refusal::Misset);
     };
     Asked::Is(Settings::new(Policy::of(policy), m, swap, notch, edition))

@@ -15,9 +15,9 @@ pub fn sentence(out: &mut [u8], at: usize, number: u16, place: usize) -> usize {
         2 => text::words(
             out,
             at,
-            b"m must be 1 to 16 (1 under policy 5), q not 0, edition 1 or 2",
+            b"m must be 1 to 16 (policy 5: 1), q not 0, the edition 1 or 2",
         ),
-        3 => text::words(out, at, b"there are more than 32 tasks"),
+        3 => text::words(out, at, b"a table has at most 32 tasks"),
         4 => text::words(out, at, b"policy 4 has no quick finder and no margin"),
         5 => around(
             out,

@@ -1,6 +1,6 @@
-// The settings of a station and a line for each of its tasks, for people to read: its record, and in a plan its share or charge, its period, its
-// processor and how far it is stretched. A share is what the margin of its task, alone on one processor, does not leave free. The text is tested and not
-// promised.
+// The settings of a station and a line for each of its tasks, for people to read: its record, and in a plan its share, its period, its processor
+// and how far it is stretched. A share is what the margin of its task, alone on one processor, does not leave free in edition 1. The text is tested
+// and not promised.
 use kinds::Margin;
 use kinds::Policy;
 use kinds::Settings;
@@ -26,34 +26,29 @@ fn put_policy(out: &mut [u8], at: usize, policy: Policy) -> usize {
     policy_name(out, colon, policy.meant())
 }
 
-// What swaps cost, the notch, and the edition.
-fn put_later_settings(out: &mut [u8], at: usize, settings: Settings) -> usize {
+// The settings that may be left out.
+fn put_further(out: &mut [u8], at: usize, settings: Settings) -> usize {
     let swapped = text::named(out, at, b", w ", settings.swap as u64);
     let notched = text::named(out, swapped, b", q ", settings.notch as u64);
     text::named(out, notched, b", edition ", settings.edition as u64)
 }
 
-// The settings, in one line.
+// The settings, in two lines.
 pub fn put_settings(out: &mut [u8], at: usize, settings: Settings) -> usize {
     let policy = settings.policy;
     let policed = put_policy(out, at, policy);
-    let processed = text::named(out, policed, b"; processors ", settings.m as u64);
-    let whole = put_later_settings(out, processed, settings);
-    text::byte(out, whole, b'\n')
+    let processed = text::named(out, policed, b"\nprocessors ", settings.m as u64);
+    let ended = put_further(out, processed, settings);
+    text::byte(out, ended, b'\n')
 }
 
-// The head of the columns of a record, without an end.
-fn put_head(out: &mut [u8], at: usize) -> usize {
-    text::words(out, at, b"\nno.          C       Tmin       Tmax       E")
-}
-
-// The head of the columns of a plan: what a task takes is its share, or in edition 2 its charge.
-fn put_plan_head(out: &mut [u8], at: usize, charged: bool) -> usize {
-    let recorded = put_head(out, at);
-    if charged {
-        return text::words(out, recorded, b" charge %     period  on  stretch\n");
+// The head of the table of tasks; that of a plan has more columns.
+fn put_head(out: &mut [u8], at: usize, planned: bool) -> usize {
+    let ended = text::words(out, at, b"\nno.          C       Tmin       Tmax       E");
+    if planned {
+        return text::words(out, ended, b"  share %     period  on  stretch\n");
     }
-    text::words(out, recorded, b"  share %     period  on  stretch\n")
+    text::byte(out, ended, b'\n')
 }
 
 // The number of a task and its record.
@@ -66,14 +61,14 @@ fn put_record(out: &mut [u8], at: usize, number: usize, task: Task) -> usize {
     text::number(out, blank, task.e as u64, 7)
 }
 
-// The same station with one processor, on which loads are added up.
+// The same station with one processor, in the edition whose loads are shares.
 fn alone(settings: Settings) -> Settings {
     Settings::new(
         Policy::Pooled,
         1,
         settings.swap,
         settings.notch,
-        settings.edition,
+        Settings::SHARE_EDITION,
     )
 }
 
@@ -95,14 +90,10 @@ fn taken(margin: Margin) -> u32 {
     ground::less_or_zero(Share::SCALE, free(margin)) as u32
 }
 
-// What the tasks of a table take together of one processor at a step; no more than all of it.
-pub fn load_of(table: Table, settings: Settings, step: u32) -> u32 {
-    taken(margin::margin_at(table, alone(settings), step))
-}
-
-// What a task takes of a processor at a step: its share, or in edition 2 its charge.
+// The share of a task at a step.
 fn share_of(task: Task, settings: Settings, step: u32) -> u32 {
-    load_of(Table::new([task; Table::MOST_TASKS], 1), settings, step)
+    let table = Table::new([task; Table::MOST_TASKS], 1);
+    taken(margin::margin_at(table, alone(settings), step))
 }
 
 // Where a period lies between Tmin and Tmax.
@@ -144,8 +135,7 @@ fn put_granted(
 // The records of a table.
 pub fn put_records(out: &mut [u8], at: usize, table: Table) -> usize {
     let n = ground::shorter(table.n, Table::MOST_TASKS);
-    let head = put_head(out, at);
-    let mut next = text::byte(out, head, b'\n');
+    let mut next = put_head(out, at, false);
     for i in 0..n {
         let task = table.rows[i];
         let record = put_record(out, next, i, task);
@@ -165,7 +155,7 @@ pub fn put_plan(
     processors: &[u16; Table::MOST_TASKS],
 ) -> usize {
     let n = ground::shorter(table.n, Table::MOST_TASKS);
-    let mut next = put_plan_head(out, at, settings.tests_charge());
+    let mut next = put_head(out, at, true);
     for i in 0..n {
         let task = table.rows[i];
         let record = put_record(out, next, i, task);

@@ -1,5 +1,5 @@
 // What people read of a station sheet, put into a lent buffer: its settings, its tasks and their plan, and what that leaves free, or why it is
-// refused. All of it comes from proved calls: the reader, the plain finder, the margin and the checker. The text is tested and not promised.
+// refused. All of it comes from proved calls: the reader, the plain finder, the margin and both checkers. The text is tested and not promised.
 use kinds::Answer;
 use kinds::Margin;
 use kinds::Refusal;
@@ -13,34 +13,8 @@ use kinds::Verdict;
 // Room for every view: 32 tasks, 16 processors and ten lines besides, of 80 columns.
 pub const LONGEST: usize = 4_800;
 
-// The table with one task more, where it is wanted and there is room.
-fn with_row(table: Table, task: Task, wanted: bool) -> Table {
-    let at = table.n;
-    if !wanted {
-        return table;
-    }
-    if Table::MOST_TASKS <= at {
-        return table;
-    }
-    let mut next = table;
-    next.rows[at] = task;
-    next.n = at + 1;
-    next
-}
-
-// The tasks of a table that stand on a processor.
-fn rows_on(table: Table, processors: &[u16; Table::MOST_TASKS], processor: u16) -> Table {
-    let n = ground::shorter(table.n, Table::MOST_TASKS);
-    let mut held = Table::new([Task::NONE; Table::MOST_TASKS], 0);
-    for i in 0..n {
-        let task = table.rows[i];
-        held = with_row(held, task, processors[i] == processor);
-    }
-    held
-}
-
 // A line with the load of a processor.
-fn put_load(out: &mut [u8], at: usize, processor: u16, load: u32) -> usize {
+fn put_load(out: &mut [u8], at: usize, processor: usize, load: u32) -> usize {
     let named = text::words(out, at, b"processor ");
     let numbered = text::number(out, named, processor as u64, 2);
     let blank = text::byte(out, numbered, b' ');
@@ -59,13 +33,16 @@ fn put_loads(
     step: u32,
     processors: &[u16; Table::MOST_TASKS],
 ) -> usize {
+    let mut loads = [0u32; Settings::MOST_PROCESSORS as usize];
+    let verdict = proposal::check(table, settings, step, processors, &mut loads);
+    let Verdict::Accepted = verdict else {
+        return at;
+    };
+    let m = ground::shorter(settings.m as usize, Settings::MOST_PROCESSORS as usize);
     let mut next = text::byte(out, at, b'\n');
-    let mut processor: u16 = 0;
-    while processor < settings.m {
-        processor += 1;
-        let held = rows_on(table, processors, processor);
-        let load = view_table::load_of(held, settings, step);
-        next = put_load(out, next, processor, load);
+    for j in 0..m {
+        let load = loads[j];
+        next = put_load(out, next, j + 1, load);
     }
     next
 }

@@ -1,7 +1,8 @@
 -- `view_table::put_plan` ends and stays within what is lent. Assumes nothing.
 use Prim.Native.Nat.{_-_, _≤_}
-use mathlib.Core.Path.{_≡_}
+use mathlib.Core.Path.{_≡_, refl}
 use lib.ListN.{length}
+use native.Mathlib.Omega.{arith}
 use borrow.Author.Needs.{needs}
 use Rattle.view_table.proofs.put_plan.Statement.{statement}
 use Rattle.view_table.proofs.put_plan.Tie as tie
@@ -15,14 +16,11 @@ abbrev μ-loop : tie.MeasureT-loop
 shorter-requires : tie.Need-shorter-requires Inv-loop μ-loop
 shorter-requires c κs = tt
 
-tests-charge-requires : tie.Need-tests-charge-requires Inv-loop μ-loop
-tests-charge-requires c κs = tt
-
-put-plan-head-requires : tie.Need-put-plan-head-requires Inv-loop μ-loop
-put-plan-head-requires c κs = tt
+put-head-requires : tie.Need-put-head-requires Inv-loop μ-loop
+put-head-requires c κs = tt
 
 loop-holds : tie.Need-loop-holds Inv-loop μ-loop
-loop-holds c = (search needs, (search needs, search needs))
+loop-holds c = (search needs, (search needs, refl))
 
 mul-task : tie.Need-mul-task Inv-loop μ-loop
 mul-task c = search needs
@@ -76,8 +74,7 @@ put-plan-spec =
     Inv-loop
     μ-loop
     shorter-requires
-    tests-charge-requires
-    put-plan-head-requires
+    put-head-requires
     loop-holds
     mul-task
     element-copy-out-task

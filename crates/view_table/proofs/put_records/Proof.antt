@@ -1,16 +1,17 @@
 -- `view_table::put_records` ends and stays within what is lent. Assumes nothing.
 use Prim.Native.Nat.{_-_, _≤_}
-use mathlib.Core.Path.{_≡_}
+use mathlib.Core.Path.{_≡_, refl}
 use lib.ListN.{length}
+use native.Mathlib.Omega.{arith}
 use borrow.Author.Needs.{needs}
 use Rattle.view_table.proofs.put_records.Statement.{statement}
 use Rattle.view_table.proofs.put_records.Tie as tie
 
 abbrev Inv-loop : tie.InvT-loop
-Inv-loop out₀ at table n head next₀ i₀ out next i = (i ≤ n) × ((n ≤ 32) × (length out ≡ length out₀))
+Inv-loop out₀ at table n next₀ i₀ out next i = (i ≤ n) × ((n ≤ 32) × (length out ≡ length out₀))
 
 abbrev μ-loop : tie.MeasureT-loop
-μ-loop out₀ at table n head next₀ i₀ out next i = n - i
+μ-loop out₀ at table n next₀ i₀ out next i = n - i
 
 shorter-requires : tie.Need-shorter-requires Inv-loop μ-loop
 shorter-requires c κs = tt
@@ -18,11 +19,8 @@ shorter-requires c κs = tt
 put-head-requires : tie.Need-put-head-requires Inv-loop μ-loop
 put-head-requires c κs = tt
 
-byte-requires : tie.Need-byte-requires Inv-loop μ-loop
-byte-requires c κs = tt
-
 loop-holds : tie.Need-loop-holds Inv-loop μ-loop
-loop-holds c = (search needs, (search needs, search needs))
+loop-holds c = (search needs, (search needs, refl))
 
 mul-task : tie.Need-mul-task Inv-loop μ-loop
 mul-task c = search needs
@@ -33,8 +31,8 @@ element-copy-out-task c = search needs
 put-record-requires : tie.Need-put-record-requires Inv-loop μ-loop
 put-record-requires c κs = tt
 
-byte-requires-2 : tie.Need-byte-requires-2 Inv-loop μ-loop
-byte-requires-2 c = search needs
+byte-requires : tie.Need-byte-requires Inv-loop μ-loop
+byte-requires c κs = tt
 
 add-i : tie.Need-add-i Inv-loop μ-loop
 add-i c = search needs
@@ -59,12 +57,11 @@ put-records-spec =
     μ-loop
     shorter-requires
     put-head-requires
-    byte-requires
     loop-holds
     mul-task
     element-copy-out-task
     put-record-requires
-    byte-requires-2
+    byte-requires
     add-i
     loop-less
     loop-again
