@@ -8,6 +8,7 @@ ghost use mathlib.Core.Path.{_≡_};
 ghost use Prim.Native.Nat.{ℕ, _≤_, _<_};
 ghost use lib.ListN.{getD};
 ghost use Rattle.ground.specs.Folds.{maxTo};
+ghost use Rattle.kinds.specs.Limits.{scale};
 ghost use Rattle.springs.specs.Columns.{springIn};
 ghost use Rattle.springs.specs.Handover.{Saturates, Chargeable};
 ghost use Rattle.policy.specs.Handover.{Light};
@@ -33,7 +34,7 @@ fn look(
     range: Range,
 ) -> Range
     requires { ⌜ Light w × Chargeable notch (now largest) (now least) (now elasticity) (now cost) (now tmin) n
-        × (range .from < range .to) × (range .to ≤ 1000000) × (range .looks ≤ 20) ⌝ }
+        × (range .from < range .to) × (range .to ≤ scale) × (range .looks ≤ 20) ⌝ }
     ensures { λ r. ⌜ r ≡ half (chargedAt w notch (now (cost .entry)) (now (tmin .entry))
         (springIn (now (largest .entry)) (now (least .entry)) (now (elasticity .entry))) n) range ⌝ }
 {

@@ -9,7 +9,7 @@ use Rattle.kinds.specs.declared.Refusal.{Refusal}
 use Rattle.kinds.specs.declared.Refusal.the-variants.{NoSuchPolicy, Misset}
 use Rattle.kinds.specs.declared.Sheet.{Sheet}
 use Rattle.kinds.specs.declared.Table.{Table}
-use Rattle.kinds.specs.Limits.{mostTasks, fewestSettings}
+use Rattle.kinds.specs.Limits.{mostTasks, fewestSettings, shareEdition}
 use Rattle.kinds.specs.Policy.{policyOf}
 use Rattle.kinds.specs.Settings.{settings}
 use Rattle.kinds.specs.Answer.{Handed, accepted, refused}
@@ -45,7 +45,7 @@ abbrev pub sheetWith : ℕ → ℕ → Table → Sheet
 sheetWith policy m table =
     record {
       count = fewestSettings;
-      settings = settings (policyOf policy) m 0 1 1;
+      settings = settings (policyOf policy) m 0 1 shareEdition;
       table = table;
       results = record { rows = replicate mostTasks noGranted; n = 0 };
     }

@@ -11,7 +11,7 @@ use Rattle.ground.specs.Folds.{listTo}
 use Rattle.ground.proofs.Buffer.{list-cong}
 use Rattle.ground.proofs.Cases.{by-eq, by-bool, true-false}
 use Rattle.kinds.specs.declared.Task.{Task}
-use Rattle.kinds.specs.Limits.{scale, longestPeriod, mostTasks}
+use Rattle.kinds.specs.Limits.{longestPeriod, mostTasks}
 use Rattle.kinds.specs.Task.{at, priced, Good, OnNotch, isGood}
 use Rattle.kinds.proofs.Records.{good-is}
 use Rattle.rule.specs.Rule.{periodOf, notchedUp}
@@ -19,7 +19,6 @@ use Rattle.rule.proofs.Periods.{period-shortest, notched-least}
 use Rattle.share.specs.Share.{costOf, leastOf, shareAt, saturationAt, periodAt}
 use Rattle.share.specs.Table.{periodsAt}
 use Rattle.share.proofs.Tasks.{at-least, least-some, largest-most, least-largest}
-use Rattle.share.proofs.Tasks as tasks
 use Rattle.springs.specs.declared.Spring.{Spring}
 use Rattle.springs.specs.Spring.{springOf, shareOn, saturationOn}
 use Rattle.springs.specs.Handover.{Within, AllWithin, Saturates, Roomy, Sprung, SharesAre, SharesOf, Held, Allowed}
@@ -146,11 +145,6 @@ shares-of rows n s w k shares h i l = h .are i l ∙ shares-are rows n s w k i l
 pub held-columns : (rows : List Task) (n k : ℕ) (s : Columns) (shares : List ℕ) → Sprung rows n s → SharesOf rows n k shares
     → Held rows n k (s .cost) (s .tmin) shares
 held-columns rows n k s shares w h = record { costs = w .costs; tmins = w .tmins; shares-are = h }
-
--- no share is above the scale
-pub held-most : (rows : List Task) (n k : ℕ) (shares : List ℕ) → ((i : ℕ) → i < n → Good (at rows i)) → SharesOf rows n k shares
-    → (i : ℕ) → i < n → getD shares i 0 ≤ scale
-held-most rows n k shares good held i l = omega (arith, held i l, tasks.share-most (at rows i) (good i l) k)
 
 -- shares of no less than the least allow each task of a good table a period
 module _ (rows : List Task) (n : ℕ) (cost tmin shares : List ℕ)
