@@ -1,6 +1,9 @@
 pub mod Cases
 pub mod Rounding
 pub mod Folds
+pub mod Tests
+pub mod Sums
+pub mod Totals
 pub mod Buffer
 pub mod Padding
 pub mod First
