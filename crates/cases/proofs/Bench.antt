@@ -16,6 +16,7 @@ use Rattle.quick.specs.Looked.{looks}
 use Rattle.cases.specs.Bench.{workedOutOf, bench, BenchRight}
 
 pub bench-right : BenchRight
-unfolding bench workedOutOf outcome found looks gate admission firstBad isGood isWithin leastStep leastUpTo firstBelow firstFrom passes sumTo maxTo countTo anyTo listTo shareAt saturationAt periodAt loadAt
-    fullCompression periodsAt pricedRows processorsAt marginOf isNew distinct distinctBelow looksOf
+unfolding bench workedOutOf outcome found looks gate admission firstBad isGood isWithin leastStep leastUpTo firstBelow firstFrom passes sumTo maxTo
+    countTo anyTo listTo shareAt saturationAt periodAt loadAt fullCompression periodsAt pricedRows processorsAt marginOf isNew distinct distinctBelow
+    looksOf
 bench-right = refl

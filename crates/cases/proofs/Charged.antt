@@ -17,6 +17,6 @@ use Rattle.cases.specs.Bench.{workedOutOf}
 use Rattle.cases.specs.Charged.{charged, ChargedRight}
 
 pub charged-right : ChargedRight
-unfolding charged workedOutOf outcome found looks gate admission firstBad isGood isWithin leastStep leastUpTo firstBelow firstFrom testsMade testsFrom passes sumTo maxTo listTo shareAt saturationAt periodAt
-    chargeAt loadAt fullCompression periodsAt pricedRows processorsAt marginOf
+unfolding charged workedOutOf outcome found looks gate admission firstBad isGood isWithin leastStep leastUpTo firstBelow firstFrom testsMade testsFrom
+    passes sumTo maxTo listTo shareAt saturationAt periodAt chargeAt loadAt fullCompression periodsAt pricedRows processorsAt marginOf
 charged-right = refl

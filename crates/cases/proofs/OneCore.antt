@@ -18,6 +18,7 @@ use Rattle.cases.specs.Bench.{workedOutOf}
 use Rattle.cases.specs.OneCore.{oneCore, OneCoreRight}
 
 pub one-core-right : OneCoreRight
-unfolding oneCore workedOutOf outcome found looks gate admission firstBad isGood isWithin leastStep leastUpTo firstBelow firstFrom passes sumTo maxTo countTo anyTo listTo shareAt saturationAt periodAt loadAt
-    fullCompression periodsAt pricedRows processorsAt marginOf bounds boundOf isNew distinct distinctBelow looksOf
+unfolding oneCore workedOutOf outcome found looks gate admission firstBad isGood isWithin leastStep leastUpTo firstBelow firstFrom passes sumTo maxTo
+    countTo anyTo listTo shareAt saturationAt periodAt loadAt fullCompression periodsAt pricedRows processorsAt marginOf bounds boundOf isNew distinct
+    distinctBelow looksOf
 one-core-right = refl

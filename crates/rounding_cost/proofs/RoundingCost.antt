@@ -61,7 +61,8 @@ module _ (serves : Bool) (s : Settings) (rows : List Task) (n : ℕ) (pooled : m
     near =
         let good = all-good (s .swap) (s .notch) rows n (ready .none-bad) i l in
         let on = all-on (s .swap) (s .notch) rows n (ready .none-bad) (ready .notched) i l in
-        subst (λ (t : Task). loadsUnder s rows n 0 i * t .tmin < scale * t .c + t .tmin) (priced-at (s .swap) rows n i l) (load-near s (at (rowsUnder s rows n) i) good on)
+        let close = load-near s (at (rowsUnder s rows n) i) good on in
+        subst (λ (t : Task). loadsUnder s rows n 0 i * t .tmin < scale * t .c + t .tmin) (priced-at (s .swap) rows n i l) close
 
     tmin-some : 0 < at rows i .tmin
     tmin-some =

@@ -265,11 +265,11 @@ enum Head {
 
 // The settings section and the task count, from the place where a sheet starts. Document 01: "a count is judged as soon as its two bytes
 // are there."
-fn read_head(s: &[u8], at: usize) -> Head
-    requires { ⌜ at ≡ settingsPlace ⌝ }
+fn read_head(s: &[u8], start: usize) -> Head
+    requires { ⌜ start ≡ settingsPlace ⌝ }
     ensures { λ r. ⌜ HeadTells (now (s .entry)) r ⌝ }
 {
-    let Field16::Value(number, first) = field::read_u16(s, at) else {
+    let Field16::Value(number, first) = field::read_u16(s, start) else {
         return Head::Refused(Refusal::SheetEnds(s.len()));
     };
     let count = number as usize;

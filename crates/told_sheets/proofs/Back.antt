@@ -7,6 +7,7 @@ use lib.Dec.{leb}
 use lib.ListN.{length}
 use borrow.Author.Tests.{ne-eqb}
 use Rattle.kinds.specs.declared.Policy.{Policy}
+use Rattle.kinds.specs.declared.Settings.{Settings}
 use Rattle.kinds.specs.declared.Sheet.{Sheet}
 use Rattle.kinds.specs.declared.Refusal.the-variants.{OutputTooShort}
 use Rattle.kinds.specs.Answer.{Handed, accepted, judged, after}
@@ -28,7 +29,8 @@ use Rattle.told_sheets.specs.Back.{backHanded, afterBack}
 sheet-back : (x : Sheet) → meant (x .settings .policy) ≡ x .settings .policy → sheetOf (numbersOf x) ≡ x
 sheet-back x e =
     let st = x .settings in
-    ap (λ (p : Policy). record { count = x .count; settings = settings p (st .m) (st .swap) (st .notch) (st .edition); table = x .table; results = x .results }) e
+    let under : Policy → Settings = λ p. settings p (st .m) (st .swap) (st .notch) (st .edition) in
+    ap (λ (p : Policy). record { count = x .count; settings = under p; table = x .table; results = x .results }) e
 
 module _ (s : List ℕ) (t : ToldReading) (told : toldReading t ≡ inNumbers (readSheet s)) (old : List ℕ) where
   number-is : readSheet s .number ≡ t .number

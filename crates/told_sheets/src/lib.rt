@@ -141,12 +141,12 @@ pub fn write_back_told(bytes: &[u8], out: &mut [u8]) -> ToldCount
 {
     field::all_bytes(bytes);
     let reading = read_told(bytes);
-    let count = 0;
+    let none = 0;
     if reading.number != 0 {
         return ToldCount {
             number: reading.number,
             place: reading.place,
-            count,
+            count: none,
         };
     }
     let sheet = reading.sheet;

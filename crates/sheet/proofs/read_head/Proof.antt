@@ -2,7 +2,8 @@
 use mathlib.Core.Path.{sym, _∙_}
 use borrow.Author.Tests.{not-true, not-false}
 use borrow.Author.Needs.{needs}
-use Rattle.sheet.proofs.HeadSteps.{no-settings, settings-counted, settings-wrong, settings-due, settings-end, settings-read, count-end, head-read, many, begun}
+use Rattle.sheet.proofs.HeadSteps.{no-settings, settings-counted, settings-wrong, settings-due, settings-end, settings-read}
+use Rattle.sheet.proofs.HeadSteps.{count-end, head-read, many, begun}
 use Rattle.sheet.proofs.read_head.Statement.{statement}
 use Rattle.sheet.proofs.read_head.Tie as tie
 
@@ -28,14 +29,16 @@ returns-2 : tie.Need-returns-2
 returns-2 c =
     let judged = c .before in
     let has-count = judged .before .before in
-    let counted = settings-counted _ (has-count .before .before .before .before .pre) (has-count .before .before .read-u16 .ensures) (has-count .number .given .1) in
+    let read-count = has-count .before .before in
+    let counted = settings-counted _ (read-count .before .before .pre) (read-count .read-u16 .ensures) (has-count .number .given .1) in
     settings-wrong counted (sym (judged .settings-fit .ensures) ∙ not-true _ (c .if1 .taken))
 
 read-settings-requires : tie.Need-read-settings-requires
 read-settings-requires c κs =
     let judged = c .before in
     let has-count = judged .before .before in
-    let counted = settings-counted _ (has-count .before .before .before .before .pre) (has-count .before .before .read-u16 .ensures) (has-count .number .given .1) in
+    let read-count = has-count .before .before in
+    let counted = settings-counted _ (read-count .before .before .pre) (read-count .read-u16 .ensures) (has-count .number .given .1) in
     settings-due counted (sym (judged .settings-fit .ensures) ∙ not-false _ (c .if1 .left))
 
 returns-3 : tie.Need-returns-3
@@ -44,7 +47,8 @@ returns-3 c =
     let fits = read .before in
     let judged = fits .before in
     let has-count = judged .before .before in
-    let counted = settings-counted _ (has-count .before .before .before .before .pre) (has-count .before .before .read-u16 .ensures) (has-count .number .given .1) in
+    let read-count = has-count .before .before in
+    let counted = settings-counted _ (read-count .before .before .pre) (read-count .read-u16 .ensures) (has-count .number .given .1) in
     let fit = sym (judged .settings-fit .ensures) ∙ not-false _ (fits .if1 .left) in
     settings-end counted fit (read .read-settings .ensures) (not-true _ (c .if2 .taken))
 
@@ -64,7 +68,8 @@ returns-4 c =
     let fits = read .before in
     let judged = fits .before in
     let has-count = judged .before .before in
-    let counted = settings-counted _ (has-count .before .before .before .before .pre) (has-count .before .before .read-u16 .ensures) (has-count .number .given .1) in
+    let read-count = has-count .before .before in
+    let counted = settings-counted _ (read-count .before .before .pre) (read-count .read-u16 .ensures) (has-count .number .given .1) in
     let fit = sym (judged .settings-fit .ensures) ∙ not-false _ (fits .if1 .left) in
     let settings = settings-read counted fit (read .read-settings .ensures) (not-false _ (there .if2 .left)) in
     count-end settings (c .before .before .read-u162 .ensures) (c .enum-told2 .given .1)
@@ -80,7 +85,8 @@ returns-5 c =
     let fits = read .before in
     let judged = fits .before in
     let has-count = judged .before .before in
-    let counted = settings-counted _ (has-count .before .before .before .before .pre) (has-count .before .before .read-u16 .ensures) (has-count .number .given .1) in
+    let read-count = has-count .before .before in
+    let counted = settings-counted _ (read-count .before .before .pre) (read-count .read-u16 .ensures) (has-count .number .given .1) in
     let fit = sym (judged .settings-fit .ensures) ∙ not-false _ (fits .if1 .left) in
     let settings = settings-read counted fit (read .read-settings .ensures) (not-false _ (there .if2 .left)) in
     let head = head-read settings (has-tasks .before .before .read-u162 .ensures) (has-tasks .tasks .given .1) in
@@ -98,7 +104,8 @@ returns-6 c =
     let fits = read .before in
     let judged = fits .before in
     let has-count = judged .before .before in
-    let counted = settings-counted _ (has-count .before .before .before .before .pre) (has-count .before .before .read-u16 .ensures) (has-count .number .given .1) in
+    let read-count = has-count .before .before in
+    let counted = settings-counted _ (read-count .before .before .pre) (read-count .read-u16 .ensures) (has-count .number .given .1) in
     let fit = sym (judged .settings-fit .ensures) ∙ not-false _ (fits .if1 .left) in
     let settings = settings-read counted fit (read .read-settings .ensures) (not-false _ (there .if2 .left)) in
     let head = head-read settings (has-tasks .before .before .read-u162 .ensures) (has-tasks .tasks .given .1) in
