@@ -3,12 +3,13 @@
 use Prim.Native.Nat.{ℕ, _≤_, _<_}
 use mathlib.Core.Bool.{Bool, true, false, not}
 use mathlib.Core.List.{List}
+use mathlib.Core.Logic.{_⊎_, inl, inr}
 use mathlib.Core.Path.{_≡_, refl, ap}
 use native.Mathlib.Omega.{arith}
 use lib.Dec.{ltb, eqb, lit≤, lit<}
-use borrow.Author.Tests.{ltb-false, eqb-false}
+use borrow.Author.Tests.{ltb-false, eqb-true, eqb-false}
 use Rattle.ground.specs.Choice.{both, either}
-use Rattle.ground.proofs.Cases.{by-le, true-false}
+use Rattle.ground.proofs.Cases.{by-bool, by-le, true-false}
 use Rattle.kinds.specs.declared.Task.{Task}
 use Rattle.kinds.specs.declared.Settings.{Settings}
 use Rattle.kinds.specs.declared.Policy.{Policy}
@@ -18,13 +19,14 @@ use Rattle.kinds.specs.declared.Verdict.the-variants.{Accepted, Refused}
 use Rattle.kinds.specs.declared.Refusal.the-variants.{NoSuchPolicy, PolicyWithdrawn, Misset, TooManyTasks, PolicyNotServed, OutputTooShort, BadRecord}
 use Rattle.kinds.specs.Answer.{check, handedVerdict}
 use Rattle.kinds.specs.Refusal.{numberOf}
-use Rattle.kinds.specs.Limits.{mostTasks, mostProcessors}
-use Rattle.kinds.specs.Policy.{meant, isWeighed, isFirstFit, isWithdrawn, isFurther, Served}
+use Rattle.kinds.specs.Limits.{mostTasks, mostProcessors, shareEdition, chargeEdition}
+use Rattle.kinds.specs.Policy.{meant, isWeighed, isFirstFit, isOneCore, isWithdrawn, isFurther, Served}
 use Rattle.kinds.proofs.Policies.{known-served}
 use Rattle.kinds.specs.Task.{at}
 use Rattle.share.specs.Table.{firstBad}
 use Rattle.share.proofs.Tables.{bad-same}
-use Rattle.admission.specs.Admission.{andThen, knows, misset, noEdition, missetNumbers, missetUnder, gate, served, roomy, gateOf, recordsGood, admission}
+use Rattle.admission.specs.Admission.{andThen, knows, misset, unsuited, noEdition, missetNumbers, missetUnder}
+use Rattle.admission.specs.Admission.{gate, served, roomy, gateOf, recordsGood, admission}
 
 -- a verdict of a chain was refused nowhere
 pub unchecked : (test : Bool) (r : Refusal) (rest : Verdict) → check test (Refused r) rest ≡ Accepted → (test ≡ false) × (rest ≡ Accepted)
@@ -74,6 +76,22 @@ numbers-set s e =
     let set = neither (misset (s .m)) (either (eqb (s .notch) 0) (noEdition (s .edition))) e in
     (set .0, some-of (s .notch) (neither (eqb (s .notch) 0) (noEdition (s .edition)) (set .1) .0))
 
+-- and that there is such an edition: "1 or 2"
+pub edition-set : (s : Settings) → missetNumbers s ≡ false → (s .edition ≡ shareEdition) ⊎ (s .edition ≡ chargeEdition)
+edition-set s e =
+    let set = neither (misset (s .m)) (either (eqb (s .notch) 0) (noEdition (s .edition))) e in
+    one-of (s .edition) (neither (eqb (s .notch) 0) (noEdition (s .edition)) (set .1) .1)
+  where
+    one-of : (x : ℕ) → noEdition x ≡ false → (x ≡ shareEdition) ⊎ (x ≡ chargeEdition)
+    one-of x h =
+        by-bool (eqb x shareEdition)
+        (λ t. inl (eqb-true x shareEdition t))
+        (λ t. by-bool (eqb x chargeEdition) (λ u. inr (eqb-true x chargeEdition u)) (λ u. true-false (rw (t, u)) h))
+
+-- and of policy 5, that there is one processor
+pub one-core-set : (p : Policy) (m : ℕ) → unsuited p m ≡ false → isOneCore p ≡ true → m ≡ 1
+one-core-set p m h t = by-bool (eqb m 1) (λ u. eqb-true m 1 u) (λ u. true-false (rw (t, u)) h)
+
 -- and 5
 pub roomy-passed : (n room : ℕ) → roomy n room ≡ Accepted → n ≤ room
 roomy-passed n room e = ltb-false _ _ (unchecked _ _ _ e .0)
@@ -106,15 +124,17 @@ all-passed serves s n room e =
       roomy = roomy-passed n room (asked .1);
     }
 
--- and that there is a notch
-pub notch-passed : (serves : Bool) (s : Settings) (n room : ℕ) → gateOf serves s n room ≡ Accepted → 1 ≤ s .notch
-notch-passed serves s n room e =
+-- and that nothing is misset, a notch among it
+pub set-passed : (serves : Bool) (s : Settings) (n room : ℕ) → gateOf serves s n room ≡ Accepted → missetUnder s ≡ false
+set-passed serves s n room e =
     let p = meant (s .policy) in
     let last = andThen (served serves p) (roomy n room) in
     let known = then-admitted (knows p) (andThen (gate (missetUnder s) n) last) e in
     let set = then-admitted (gate (missetUnder s) n) last (known .1) in
-    let opens = gate-opens (missetUnder s) n (set .0) in
-    numbers-set s (neither _ _ (opens .0) .0) .1
+    gate-opens (missetUnder s) n (set .0) .0
+
+pub notch-passed : (serves : Bool) (s : Settings) (n room : ℕ) → gateOf serves s n room ≡ Accepted → 1 ≤ s .notch
+notch-passed serves s n room e = numbers-set s (neither _ _ (set-passed serves s n room e) .0) .1
 
 -- a verdict does not refuse by k
 abbrev pub Unlike : ℕ → Verdict → Type 0
@@ -180,18 +200,24 @@ passed-weighed p m n room a = passed-served false p m n room a (placed-not (isFi
     placed-not true e = e
     placed-not false e = refl
 
+-- what 1 to 6 have checked
 pub record Ready (serves : Bool) (s : Settings) (rows : List Task) (n room : ℕ) : Type 0 where
   pub passed : Passed serves (meant (s .policy)) (s .m) n room
   pub notched : 1 ≤ s .notch
+  pub edition : (s .edition ≡ shareEdition) ⊎ (s .edition ≡ chargeEdition)
+  pub one-core : isOneCore (meant (s .policy)) ≡ true → s .m ≡ 1
   pub none-bad : n ≤ firstBad (s .swap) (s .notch) rows n
 
 pub admitted : (serves : Bool) (s : Settings) (rows : List Task) (n room : ℕ) → admission serves s rows n room ≡ Accepted → Ready serves s rows n room
 unfolding admission
 admitted serves s rows n room e =
     let a = then-admitted _ _ e in
+    let set = neither (missetNumbers s) (unsuited (meant (s .policy)) (s .m)) (set-passed serves s n room (a .0)) in
     record {
       passed = all-passed serves s n room (a .0);
       notched = notch-passed serves s n room (a .0);
+      edition = edition-set s (set .0);
+      one-core = one-core-set (meant (s .policy)) (s .m) (set .1);
       none-bad = ltb-false _ _ (unchecked _ _ _ (a .1) .0);
     }
 

@@ -1,23 +1,29 @@
--- Document 01, "Bench settings to try": the cases with a star as one table, and the claim that each line of it is right.
+-- Document 01, "Bench settings to try": the cases with a star as one table, and the claim that each line of it is right: A to E and I of the
+-- calls, admission included, and F, G and H of the rule of policy 3, which is withdrawn.
 -- Assumes nothing.
 use Prim.Native.Nat.{ℕ}
+use mathlib.Core.Bool.{Bool, true}
 use mathlib.Core.List.{List, [], _∷_, map}
 use mathlib.Core.Path.{_≡_}
 use lib.IntN.{ℤ, pos, negsuc}
 use lib.ListN.{length, replicate}
+use Rattle.ground.specs.Choice.{pick}
 use Rattle.ground.specs.Folds.{listTo}
+use Rattle.kinds.specs.declared.Settings.{Settings}
 use Rattle.kinds.specs.declared.Task.{Task}
 use Rattle.kinds.specs.declared.Policy.{Policy}
 use Rattle.kinds.specs.declared.Policy.the-variants.{Pooled, GlobalEdf, GlobalRm}
 use Rattle.kinds.specs.declared.Verdict.the-variants.{Accepted}
 use Rattle.kinds.specs.Answer.{Handed, accepted}
 use Rattle.kinds.specs.Limits.{shareEdition}
+use Rattle.kinds.specs.Policy.{meant, isWithdrawn}
 use Rattle.kinds.specs.Settings.{settings}
 use Rattle.kinds.specs.Task.{task, at}
 use Rattle.share.specs.Share.{saturationAt}
 use Rattle.share.specs.Table.{shares}
 use Rattle.policy.specs.Under.{rowsUnder, leastUnder, looksUnder, marginUnder}
-use Rattle.plan.specs.Plan.{decided, periodsAfter, processorsAfter}
+use Rattle.plan.specs.Plan as plan
+use Rattle.quick.specs.Looked.{looks}
 
 -- a bench setting
 pub record Setting : Type 0 where
@@ -25,8 +31,8 @@ pub record Setting : Type 0 where
   pub m : ℕ
   pub tasks : List Task
 
--- what an admitted call hands back for it and leaves in the two outputs, and what that comes from: the saturation steps, and at the step that
--- is handed back the shares and the margin
+-- what a call hands back for it and leaves in the two outputs, the looks, and what that comes from: the saturation steps, and at the step
+-- that is handed back the shares and the margin
 pub record Outcome : Type 0 where
   pub saturations : List ℕ
   pub handed : Handed ℕ
@@ -40,22 +46,42 @@ pub record Outcome : Type 0 where
 abbrev pub lent : ℕ → List ℕ
 lent n = replicate n 7
 
--- by the definitions that the finders promise, for a call that is admitted, where a swap costs nothing and a notch is one tick: which
--- policies are served is no part of the bench
+-- Ask 8: the policy is withdrawn, and its cases are kept for the rule
+abbrev pub goesPast : Settings → Bool
+goesPast s = isWithdrawn (meant (s .policy))
+
+-- what a finder promises, admission included; past admission, what the rule gives
+abbrev pub answered : Settings → List Task → ℕ → plan.Outcome
+answered s tasks n =
+    let least = plan.decided Accepted (leastUnder s tasks n) in
+    pick (goesPast s)
+    (record {
+      handed = least;
+      periods = plan.periodsAfter least s tasks n (lent n);
+      processors = plan.processorsAfter least s tasks n (lent n);
+    })
+    (plan.outcome true s tasks n (lent n) (lent n))
+
+-- the looks that the quick finder promises, admission included; past admission, those that the rule calls for
+abbrev pub lookedAt : Settings → List Task → ℕ → ℕ
+lookedAt s tasks n = pick (goesPast s) (looksUnder s tasks n) (looks s tasks n n)
+
+-- by the definitions that the finders promise, where a swap costs nothing and a notch is one tick
 unfoldable pub workedOutOf : ℕ → Setting → Outcome
 workedOutOf edition c =
     let n = length (c .tasks) in
     let s = settings (c .policy) (c .m) 0 1 edition in
     let paid = rowsUnder s (c .tasks) n in
-    let handed = decided Accepted (leastUnder s (c .tasks) n) in
+    let call = answered s (c .tasks) n in
+    let step = call .handed .value in
     record {
       saturations = listTo (λ i. saturationAt (at paid i)) n;
-      handed = handed;
-      looks = looksUnder s (c .tasks) n;
-      periods = periodsAfter handed s (c .tasks) n (lent n);
-      processors = processorsAfter handed s (c .tasks) n (lent n);
-      sharesThere = listTo (shares paid (handed .value)) n;
-      marginThere = marginUnder s (c .tasks) n (handed .value);
+      handed = call .handed;
+      looks = lookedAt s (c .tasks) n;
+      periods = call .periods;
+      processors = call .processors;
+      sharesThere = listTo (shares paid step) n;
+      marginThere = marginUnder s (c .tasks) n step;
     }
 
 -- document 01 tests the shares, which is edition 1

@@ -2,3 +2,4 @@ pub mod Wrap
 pub mod Greatest
 pub mod Starts
 pub mod Calls
+pub mod Exactly

@@ -1,5 +1,5 @@
-// The library for C and Rust: the calls of `told` and those over lent records, exported. A slice is a pointer and then a length. Contracts
-// cite the definitions of `told`, which read the numbers that cross as the calls' own promises.
+// The library for C and Rust: the calls of `told` and `told_sheets`, exported, those on a table over lent records. A slice is a pointer and
+// then a length. Contracts cite the definitions of the two, which read the numbers that cross as the calls' own promises.
 mod clocked;
 mod kept;
 mod sheets;

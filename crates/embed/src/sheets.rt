@@ -1,4 +1,4 @@
-// Station sheets, exported. Contracts cite the definitions of `told`.
+// Station sheets, exported. Contracts cite the definitions of `told_sheets`.
 use told::verdicts::ToldVerdict;
 use told_sheets::StationSheet;
 use told_sheets::ToldCount;

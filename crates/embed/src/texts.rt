@@ -1,4 +1,4 @@
-// The office's texts over lent records, exported. Contracts cite the definitions of `told`.
+// The office's texts over lent records, exported. Contracts cite the definitions of `told_sheets`.
 use kinds::Task;
 use told_sheets::ToldCount;
 ghost use lib.ListN.{length};

@@ -5,3 +5,4 @@ pub mod Beyond
 pub mod Held
 pub mod Again
 pub mod Examples
+pub mod Withdrawn

@@ -4,3 +4,4 @@ pub mod Policy
 pub mod Settings
 pub mod Refusal
 pub mod Answer
+pub mod Chain

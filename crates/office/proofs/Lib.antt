@@ -7,3 +7,4 @@ pub mod RoundTrip
 pub mod Calls
 pub mod Examples
 pub mod Landing
+pub mod Exactly

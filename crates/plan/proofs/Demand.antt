@@ -6,9 +6,8 @@ use mathlib.Core.Bool.{Bool, true, false}
 use mathlib.Core.List.{List}
 use mathlib.Core.Path.{_≡_, sym, _∙_}
 use native.Mathlib.Omega.{arith}
-use lib.ListN.{length, getD}
+use lib.ListN.{length}
 use borrow.Author.Tests.{leb-true, leb-false}
-use Rattle.ground.specs.Least.{LeastAt}
 use Rattle.ground.proofs.Buffer.{list-at, list-past}
 use Rattle.ground.proofs.Least.{least-none}
 use Rattle.kinds.specs.declared.Task.{Task}
@@ -16,15 +15,13 @@ use Rattle.kinds.specs.declared.Policy.{Policy}
 use Rattle.kinds.specs.declared.Settings.{Settings}
 use Rattle.kinds.specs.declared.Answer.the-variants.{Accepted}
 use Rattle.kinds.specs.declared.Verdict.the-variants as verdict
-use Rattle.kinds.specs.Limits.{scale}
 use Rattle.kinds.specs.Policy.{meant, isFirstFit}
-use Rattle.kinds.specs.Task.{at, Good}
-use Rattle.rule.specs.Rule.{ShortestOn}
-use Rattle.share.specs.Share.{costOf, shareAt, periodAt}
+use Rattle.kinds.specs.Task.{at}
+use Rattle.share.specs.Share.{periodAt}
 use Rattle.share.specs.Table.{periodsAt}
 use Rattle.share.proofs.Tasks.{shortest-on}
 use Rattle.share.proofs.Tables.{all-good, all-on}
-use Rattle.fit.specs.Fit.{loadsAfter, placeAt, fits}
+use Rattle.fit.specs.Fit.{placeAt, fits}
 use Rattle.fit.proofs.Placing.{lowest, fits-placed}
 use Rattle.policy.specs.Passing.{passesAt, leastStep}
 use Rattle.policy.specs.Under.{rowsUnder, fullUnder, loadsUnder}
@@ -32,29 +29,8 @@ use Rattle.policy.proofs.Demand.{step-at, step-nothing}
 use Rattle.policy.proofs.Tests.{first-fit-passes}
 use Rattle.admission.specs.Admission.{admission}
 use Rattle.plan.specs.Plan.{processorAt, processorsAt, found, outcome, Meets}
+use Rattle.plan.specs.Granted.{Lowest, Assigned, Granted}
 use Rattle.plan.proofs.Found.{accepting, refused-seven}
-
--- "1 to m", and "the lowest-numbered processor whose load with it is at most S": the task number i, once those before it are placed
-pub record Lowest (m : ℕ) (load : ℕ → ℕ) (i processor : ℕ) : Type 0 where
-  pub from-one : 1 ≤ processor
-  pub to-m : processor ≤ m
-  pub room : (j : ℕ) → j + 1 ≡ processor → getD (loadsAfter m load i) j 0 + load i ≤ scale
-  pub none-lower : (j : ℕ) → j + 1 < processor → scale < getD (loadsAfter m load i) j 0 + load i
-
--- "1 to m under policy 4, and 0 ("any") under 1 to 3"
-pub record Assigned (p : Policy) (m : ℕ) (load : ℕ → ℕ) (i processor : ℕ) : Type 0 where
-  pub placed : isFirstFit p ≡ true → Lowest m load i processor
-  pub any : isFirstFit p ≡ false → processor ≡ 0
-
--- entry i of the outputs is that of task i, with its swaps paid for, and what stands past the tasks is as it was
-pub record Granted (s : Settings) (rows : List Task) (n k : ℕ) (oldPeriods oldProcessors periods processors : List ℕ) : Type 0 where
-  pub good : (i : ℕ) → i < n → Good (at (rowsUnder s rows n) i)
-  pub step : LeastAt (passesAt (meant (s .policy)) (s .m) (loadsUnder s rows n) n) (fullUnder s rows n) k
-  pub each-period : (i : ℕ) → i < n → let task = at (rowsUnder s rows n) i in
-      ShortestOn (s .notch) (costOf task) (task .tmin) (task .tmax) (shareAt task k) (getD periods i 0)
-  pub each-processor : (i : ℕ) → i < n → Assigned (meant (s .policy)) (s .m) (loadsUnder s rows n k) i (getD processors i 0)
-  pub periods-past : (i : ℕ) → n ≤ i → getD periods i 0 ≡ getD oldPeriods i 0
-  pub processors-past : (i : ℕ) → n ≤ i → getD processors i 0 ≡ getD oldProcessors i 0
 
 lowest-place : (m : ℕ) (load : ℕ → ℕ) (i : ℕ) → placeAt m load i < m → Lowest m load i (placeAt m load i + 1)
 lowest-place m load i placed =

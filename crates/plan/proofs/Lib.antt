@@ -3,3 +3,4 @@ pub mod Writing
 pub mod Found
 pub mod Outcomes
 pub mod Demand
+pub mod Exactly

@@ -27,7 +27,7 @@ use Rattle.admission.specs.Admission.{admission}
 abbrev pub processorOn : Policy → ℕ → (ℕ → ℕ) → ℕ → ℕ
 processorOn p m load i = pick (isFirstFit p) (placeAt m load i + 1) 0
 
--- the processor of task i at step k, with loads by step and task: "1 to m under policy 4, and 0 ("any") under 1 to 3"
+-- the processor of task i at step k, with loads by step and task: "1 to m under policy 4, and 0 ("any") under 1 to 3"; Ask 1: 0 under 5
 abbrev pub processorAt : Policy → ℕ → (ℕ → ℕ → ℕ) → ℕ → ℕ → ℕ
 processorAt p m load k i = processorOn p m (load k) i
 

@@ -5,3 +5,4 @@ pub mod Admitting
 pub mod Calls
 pub mod Fitting
 pub mod Examples
+pub mod Exactly

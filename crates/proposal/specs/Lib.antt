@@ -1,3 +1,4 @@
 pub mod Loads
 pub mod Proposal
 pub mod Handover
+pub mod Chain

@@ -73,10 +73,12 @@ module _ (w : Weights) (springs : ℕ → Spring) (n : ℕ) where
     looked = omega (arith, k .failed .count)
 
     -- what a further look relies on
-    pub look-due : n ≤ mostTasks → (before .looks ≤ mostTasks) × (due ≡ dueAfter (saturations springs) n before)
+    pub look-due : n ≤ mostTasks
+        → (before .looks ≤ mostTasks) × (due ≡ dueAfter (saturations springs) n before) × (0 < before .looks → before .step < due)
     look-due few = (
       omega (arith, looks-left w springs n (before .step) (before .looks) (k .failed) due ahead),
       k .next ∙ sym (due-later (saturations springs) n before looked),
+      λ later. ahead .above,
     )
 
     module _ (after : Search) (o : OneLook (weighedAt w springs n) (saturations springs) n before after) where

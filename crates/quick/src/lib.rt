@@ -10,7 +10,7 @@ use kinds::Verdict;
 use policy::Weights;
 ghost use mathlib.Core.Bool.{true};
 ghost use mathlib.Core.Path.{_≡_};
-ghost use Prim.Native.Nat.{_≤_};
+ghost use Prim.Native.Nat.{_≤_, _<_};
 ghost use Rattle.kinds.specs.Limits.{mostTasks, mostProcessors};
 ghost use Rattle.kinds.specs.Policy.{meant, isWeighed};
 ghost use Rattle.policy.specs.Handover.{Light};
@@ -196,7 +196,8 @@ fn look(
     due: u32,
 ) -> Search
     requires { ⌜ Light w × (n ≤ mostTasks) × AllWithin (springIn (now largest) (now least) (now elasticity)) n × (before .looks ≤ mostTasks)
-        × (due ≡ dueAfter (saturations (springIn (now largest) (now least) (now elasticity))) n before) ⌝ }
+        × (due ≡ dueAfter (saturations (springIn (now largest) (now least) (now elasticity))) n before)
+        × (0 < before .looks → before .step < due) ⌝ }
     ensures { λ after. ⌜ OneLook (weighedAt w (springIn (now (largest .entry)) (now (least .entry)) (now (elasticity .entry))) n)
         (saturations (springIn (now (largest .entry)) (now (least .entry)) (now (elasticity .entry)))) n before after
         × SumIs (springIn (now (largest .entry)) (now (least .entry)) (now (elasticity .entry))) n (after .step) (after .sum) ⌝ }

@@ -1,6 +1,6 @@
 -- A task's load, under either edition, covers its cost at its period, and at step 0 it is less than one part more than its cost at Tmin.
 -- Assumes nothing.
-use Prim.Native.Nat.{ℕ, _+_, _-_, _*_, _≤_}
+use Prim.Native.Nat.{ℕ, _+_, _-_, _*_, _≤_, _<_}
 use mathlib.Core.Path.{ap}
 use native.Mathlib.Nat.{div-mul-le-self, mul-le-mul-right}
 use native.Mathlib.Omega.{arith}
@@ -17,7 +17,7 @@ use Rattle.share.proofs.Tasks.{at-zero, shortest-on}
 use Rattle.share.proofs.Charges.{load-first, load-second, load-share}
 
 -- rounding up adds less than one
-ceil-near : (a b : ℕ) → 1 ≤ b → ceilDiv a b * b ≤ a + b
+ceil-near : (a b : ℕ) → 1 ≤ b → ceilDiv a b * b < a + b
 ceil-near a b some = omega (arith, div-mul-le-self (a + (b - 1)) b)
 
 module _ (s : Settings) (t : Task) (good : Good t) (on : OnNotch (s .notch) t) where
@@ -34,8 +34,8 @@ module _ (s : Settings) (t : Task) (good : Good t) (on : OnNotch (s .notch) t) w
       (λ e. rw (load-second s t k e) (omega (arith, charge-covers k)))
       (λ e. rw (load-first s t k e) (omega (arith, shortest-on t good (s .notch) on k .enough)))
 
-  -- load × Tmin ≤ cost × S + Tmin
-  pub load-near : loadAt s t 0 * t .tmin ≤ scale * costOf t + t .tmin
+  -- load × Tmin < cost × S + Tmin
+  pub load-near : loadAt s t 0 * t .tmin < scale * costOf t + t .tmin
   load-near =
       let rounded = ceil-near (costOf t * scale) (t .tmin) (omega (arith, good .c-some, good .c-tmin)) in
       omega (arith, rounded, mul-le-mul-right (t .tmin) (load-share s t good on 0), ap (λ (x : ℕ). x * t .tmin) (at-zero t good))

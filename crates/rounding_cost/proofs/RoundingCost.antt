@@ -1,11 +1,11 @@
 -- Ask 13, said of a call's answer under policy 1, under both editions, with any swap cost and any notch: an accepted plan's exact sum of cost over period is at
--- most m, and where the exact sum of cost over Tmin spares one part for each task the call is accepted at step 0.
+-- most m, and where the exact sum of cost over Tmin spares one part for each task the call is accepted at step 0; a part less is enough.
 -- Assumes nothing.
 use Prim.Native.Nat.{ℕ, _+_, _-_, _*_, _≤_, _<_, min}
 use mathlib.Core.Bool.{Bool, true}
 use mathlib.Core.List.{List}
 use mathlib.Core.Path.{_≡_, sym, ap, subst, _∙_}
-use native.Mathlib.Nat.{mul-le-mul-right, le-of-mul-le-mul-right}
+use native.Mathlib.Nat.{mul-le-mul-right, le-trans}
 use native.Mathlib.Omega.{arith}
 use lib.ListN.{length, getD}
 use borrow.Author.Tests.{leb-true, le-leb}
@@ -26,6 +26,7 @@ use Rattle.kinds.specs.Policy.{meant}
 use Rattle.kinds.specs.Task.{at, priced}
 use Rattle.share.specs.Share.{periodAt}
 use Rattle.share.specs.Table.{periodsAt}
+use Rattle.share.proofs.Tasks.{shortest-on}
 use Rattle.share.proofs.Tables.{priced-at, all-good, all-on}
 use Rattle.policy.specs.Passing.{passes, passesAt, leastStep}
 use Rattle.policy.specs.Under.{rowsUnder, fullUnder, loadsUnder}
@@ -35,9 +36,9 @@ use Rattle.admission.specs.Admission.{admission}
 use Rattle.admission.proofs.Chain.{Ready, admitted}
 use Rattle.plan.specs.Plan.{found, outcome, Meets}
 use Rattle.plan.proofs.Found.{accepting, admitted-found}
-use Rattle.rounding_cost.specs.Exact.{over}
-use Rattle.rounding_cost.specs.RoundingCost.{costUnder, costOverPeriod, costOverTmin, withinProcessors, sparesParts}
-use Rattle.rounding_cost.proofs.Sums.{bottom-some, sum-covers, sum-near}
+use Rattle.rounding_cost.specs.Exact.{Fraction, over}
+use Rattle.rounding_cost.specs.RoundingCost.{costUnder, costOverPeriod, costOverTmin, withinProcessors, sparesParts, sparesFewerParts}
+use Rattle.rounding_cost.proofs.Sums.{bottom-some, sum-covers, sum-within}
 use Rattle.rounding_cost.proofs.Loads.{load-covers, load-near}
 
 -- policy 1 passes exactly where the loads add up to at most m × S
@@ -56,21 +57,27 @@ module _ (serves : Bool) (s : Settings) (rows : List Task) (n : ℕ) (pooled : m
         let on = all-on (s .swap) (s .notch) rows n (ready .none-bad) (ready .notched) i l in
         omega (arith, load-covers s (at (rowsUnder s rows n) i) good on k, ap (λ (t : Task). t .c) (priced-at (s .swap) rows n i l))
 
-    near : loadsUnder s rows n 0 i * at rows i .tmin ≤ scale * costUnder s rows i + at rows i .tmin
+    near : loadsUnder s rows n 0 i * at rows i .tmin < scale * costUnder s rows i + at rows i .tmin
     near =
         let good = all-good (s .swap) (s .notch) rows n (ready .none-bad) i l in
         let on = all-on (s .swap) (s .notch) rows n (ready .none-bad) (ready .notched) i l in
-        subst (λ (t : Task). loadsUnder s rows n 0 i * t .tmin ≤ scale * t .c + t .tmin) (priced-at (s .swap) rows n i l) (load-near s (at (rowsUnder s rows n) i) good on)
+        subst (λ (t : Task). loadsUnder s rows n 0 i * t .tmin < scale * t .c + t .tmin) (priced-at (s .swap) rows n i l) (load-near s (at (rowsUnder s rows n) i) good on)
 
     tmin-some : 0 < at rows i .tmin
     tmin-some =
         let good = all-good (s .swap) (s .notch) rows n (ready .none-bad) i l in
         omega (arith, good .c-some, good .c-tmin, ap (λ (t : Task). t .tmin) (priced-at (s .swap) rows n i l))
 
-  -- "an accepted plan's exact sum of cost over period is at most m"
+    period-some : (k : ℕ) → 0 < periodAt (s .notch) (at (rowsUnder s rows n) i) k
+    period-some k =
+        let good = all-good (s .swap) (s .notch) rows n (ready .none-bad) i l in
+        let on = all-on (s .swap) (s .notch) rows n (ready .none-bad) (ready .notched) i l in
+        omega (arith, good .c-some, good .c-tmin, shortest-on (at (rowsUnder s rows n) i) good (s .notch) on k .low)
+
+  -- "an accepted plan's exact sum of cost over period is at most m", and its bottom is not 0
   pub plan-within : (k : ℕ) (oldPeriods oldProcessors periods processors : List ℕ)
       → Meets (outcome serves s rows n oldPeriods oldProcessors) (Accepted k) periods processors
-      → withinProcessors s rows n periods ≡ true
+      → (withinProcessors s rows n periods ≡ true) × (0 < costOverPeriod s rows n periods .bottom)
   unfolding outcome periodsAt
   plan-within k oldPeriods oldProcessors periods processors x =
       let room = min (length oldPeriods) (length oldProcessors) in
@@ -82,30 +89,45 @@ module _ (serves : Bool) (s : Settings) (rows : List Task) (n : ℕ) (pooled : m
       let sum = pooled-sum (meant (s .policy)) (s .m) load n pooled (step .passes) in
       let all = sum-covers scale (λ i. over (costUnder s rows i) (getD periods i 0)) load n
       (λ i l. rw (grants, list-at 0 (λ j. periodAt (s .notch) (at paid j) k) n i _ l) (covers room (g .ready) i l k)) in
+      let some = bottom-some (λ i. over (costUnder s rows i) (getD periods i 0)) n
+      (λ i l. rw (grants, list-at 0 (λ j. periodAt (s .notch) (at paid j) k) n i _ l) (period-some room (g .ready) i l k)) in
       let exact = costOverPeriod s rows n periods in
       let most : 1 * exact .top ≤ s .m * exact .bottom = omega (arith, all, mul-le-mul-right (exact .bottom) sum) in
-      le-leb _ _ most
+      (le-leb _ _ most, some)
 
-  -- "if the exact sum of cost over Tmin, times S, is at most m × S − n for n tasks, step 0 is accepted"
-  pub zero-accepted : (room : ℕ) → admission serves s rows n room ≡ verdict.Accepted → sparesParts s rows n ≡ true → found serves s rows n room ≡ accepted 0
+  -- of a call that is refused by none of 1 to 6: where m × S − (n − 1) is enough, step 0 is accepted
+  pub fewer-parts-accepted : (room : ℕ) → admission serves s rows n room ≡ verdict.Accepted → sparesFewerParts s rows n ≡ true
+      → found serves s rows n room ≡ accepted 0
   unfolding leastStep
-  zero-accepted room a spares =
+  fewer-parts-accepted room a spares =
       let ready = admitted serves s rows n room a in
       let load = loadsUnder s rows n 0 in
-      let wanted = costOverTmin s rows n in
-      let close = sum-near scale (λ i. over (costUnder s rows i) (at rows i .tmin)) load n (near room ready) in
-      let some = bottom-some (λ i. over (costUnder s rows i) (at rows i .tmin)) n (tmin-some room ready) in
-      let within : scale * wanted .top ≤ (s .m * scale - n) * wanted .bottom = leb-true _ _ spares in
-      let split : s .m * scale ≡ s .m * scale - n + n = omega (arith, ready .passed .m-some, ready .passed .few) in
-      let whole : sumTo load n * wanted .bottom ≤ (s .m * scale) * wanted .bottom =
-      omega (arith, close, within, ap (λ (x : ℕ). x * wanted .bottom) split) in
-      let passing = sum-pooled (meant (s .policy)) (s .m) load n pooled (le-of-mul-le-mul-right whole some) in
+      let tasks : ℕ → Fraction = λ i. over (costUnder s rows i) (at rows i .tmin) in
+      let room-for-all : n ≤ s .m * scale = omega (arith, ready .passed .m-some, ready .passed .few) in
+      let sum = sum-within scale tasks load n (s .m * scale) room-for-all (tmin-some room ready) (near room ready) (leb-true _ _ spares) in
+      let passing = sum-pooled (meant (s .policy)) (s .m) load n pooled sum in
       sym (admitted-found serves s rows n room verdict.Accepted (sym a) (At 0)
       (least-here (passesAt (meant (s .policy)) (s .m) (loadsUnder s rows n) n) (fullUnder s rows n) 0 (λ j h. absurd (omega arith)) (omega arith) passing))
 
-  pub zero-answered : (answer : Answer) (oldPeriods oldProcessors periods processors : List ℕ)
-      → Meets (outcome serves s rows n oldPeriods oldProcessors) answer periods processors
-      → admission serves s rows n (min (length oldPeriods) (length oldProcessors)) ≡ verdict.Accepted → sparesParts s rows n ≡ true
-      → handed answer ≡ accepted 0
-  unfolding outcome
-  zero-answered answer oldPeriods oldProcessors periods processors x a spares = x .answers ∙ zero-accepted _ a spares
+  -- what spares n parts spares n − 1
+  spares-fewer : sparesParts s rows n ≡ true → sparesFewerParts s rows n ≡ true
+  spares-fewer spares =
+      let wanted = costOverTmin s rows n in
+      let less : s .m * scale - n ≤ s .m * scale - (n - 1) = omega arith in
+      le-leb _ _ (le-trans (leb-true _ _ spares) (mul-le-mul-right (wanted .bottom) less))
+
+  -- "if the exact sum of cost over Tmin, times S, is at most m × S − n for n tasks, step 0 is accepted"
+  pub zero-accepted : (room : ℕ) → admission serves s rows n room ≡ verdict.Accepted → sparesParts s rows n ≡ true → found serves s rows n room ≡ accepted 0
+  zero-accepted room a spares = fewer-parts-accepted room a (spares-fewer spares)
+
+  -- both of a finder's answer
+  module _ (answer : Answer) (oldPeriods oldProcessors periods processors : List ℕ)
+      (meets : Meets (outcome serves s rows n oldPeriods oldProcessors) answer periods processors)
+      (admits : admission serves s rows n (min (length oldPeriods) (length oldProcessors)) ≡ verdict.Accepted) where
+    pub zero-answered : sparesParts s rows n ≡ true → handed answer ≡ accepted 0
+    unfolding outcome
+    zero-answered spares = meets .answers ∙ zero-accepted _ admits spares
+
+    pub fewer-parts-answered : sparesFewerParts s rows n ≡ true → handed answer ≡ accepted 0
+    unfolding outcome
+    fewer-parts-answered spares = meets .answers ∙ fewer-parts-accepted _ admits spares

@@ -1,9 +1,9 @@
 -- An exact sum is the sum over any common bottom, so that no reader has to believe the way it is added; and loads that are rounded up from
--- fractions lie between S times their exact sum and one part for each task more.
+-- fractions lie between S times their exact sum and less than one part for each task more.
 -- Assumes nothing.
-use Prim.Native.Nat.{ℕ, zero, suc, _+_, _*_, _≤_, _<_}
+use Prim.Native.Nat.{ℕ, zero, suc, _+_, _-_, _*_, _≤_, _<_}
 use mathlib.Core.Path.{_≡_, ap}
-use native.Mathlib.Nat.{mul-le-mul-right, mul-pos}
+use native.Mathlib.Nat.{mul-le-mul-right, mul-lt-mul-of-pos-right, lt-of-mul-lt-mul-right, mul-pos}
 use native.Mathlib.Omega.{arith}
 use Rattle.ground.specs.Folds.{sumTo}
 use Rattle.rounding_cost.specs.Exact.{Fraction, exactSum}
@@ -35,10 +35,31 @@ module _ (s : ℕ) (f : ℕ → Fraction) (load : ℕ → ℕ) where
       omega (arith, mul-le-mul-right (f n .bottom) before, mul-le-mul-right (exactSum f n .bottom) (h n (omega arith)))
 
   -- and loads that are each at most one part more than that are together at most n parts more
-  pub sum-near : (n : ℕ) → ((i : ℕ) → i < n → load i * f i .bottom ≤ s * f i .top + f i .bottom)
+  sum-near : (n : ℕ) → ((i : ℕ) → i < n → load i * f i .bottom ≤ s * f i .top + f i .bottom)
       → sumTo load n * exactSum f n .bottom ≤ s * exactSum f n .top + n * exactSum f n .bottom
   unfolding exactSum sumTo
   sum-near zero h = omega arith
   sum-near (suc n) h =
       let before = sum-near n (λ i l. h i (omega arith)) in
       omega (arith, mul-le-mul-right (f n .bottom) before, mul-le-mul-right (exactSum f n .bottom) (h n (omega arith)))
+
+  -- where each is less than one part more, they are together less than n parts more
+  sum-less : (n : ℕ) → ((i : ℕ) → i < suc n → 0 < f i .bottom) → ((i : ℕ) → i < suc n → load i * f i .bottom < s * f i .top + f i .bottom)
+      → sumTo load (suc n) * exactSum f (suc n) .bottom < s * exactSum f (suc n) .top + suc n * exactSum f (suc n) .bottom
+  unfolding exactSum sumTo
+  sum-less n some h =
+      let before = sum-near n (λ i l. omega (arith, h i (omega arith))) in
+      let last = mul-lt-mul-of-pos-right (h n (omega arith)) (bottom-some f n (λ i l. some i (omega arith))) in
+      omega (arith, mul-le-mul-right (f n .bottom) before, last)
+
+  -- so loads are at most a whole number of parts where s times the exact sum stays n − 1 parts below it
+  pub sum-within : (n whole : ℕ) → n ≤ whole → ((i : ℕ) → i < n → 0 < f i .bottom) → ((i : ℕ) → i < n → load i * f i .bottom < s * f i .top + f i .bottom)
+      → s * exactSum f n .top ≤ (whole - (n - 1)) * exactSum f n .bottom → sumTo load n ≤ whole
+  unfolding sumTo
+  sum-within zero whole few some h below = omega arith
+  sum-within (suc n) whole few some h below =
+      let bottom = exactSum f (suc n) .bottom in
+      let split : whole - (suc n - 1) + suc n ≡ whole + 1 = omega arith in
+      let less : sumTo load (suc n) * bottom < (whole + 1) * bottom = omega (arith, sum-less n some h, ap (λ (x : ℕ). x * bottom) split) in
+      let fewer : sumTo load (suc n) < whole + 1 = lt-of-mul-lt-mul-right bottom less in
+      omega arith

@@ -29,3 +29,7 @@ withinProcessors s rows n periods = timesAtMost 1 (costOverPeriod s rows n perio
 -- "the exact sum of cost over Tmin, times S, is at most m × S − n for n tasks"
 abbrev pub sparesParts : Settings → List Task → ℕ → Bool
 sparesParts s rows n = timesAtMost scale (costOverTmin s rows n) (s .m * scale - n)
+
+-- the same with a part less: at most m × S − (n − 1)
+abbrev pub sparesFewerParts : Settings → List Task → ℕ → Bool
+sparesFewerParts s rows n = timesAtMost scale (costOverTmin s rows n) (s .m * scale - (n - 1))

@@ -1,5 +1,5 @@
--- Tables worked out for auditors, on one processor under policy 1: case I, one that just meets the condition, one that just misses it and
--- is accepted all the same, and one that misses it by a little more than one part and is refused.
+-- Tables worked out for auditors, on one processor under policy 1: case I, one that just spares a part for each task, one that just spares a
+-- part for each task but one, and one that misses that by two thousandths of a part and is refused.
 -- Assumes nothing.
 use Prim.Native.Nat.{ℕ}
 use mathlib.Core.Bool.{Bool, true, false}
@@ -13,19 +13,25 @@ use Rattle.kinds.specs.Settings.{settings}
 use Rattle.kinds.specs.Task.{task}
 use Rattle.plan.specs.Plan.{found}
 use Rattle.rounding_cost.specs.Exact.{Fraction, over}
-use Rattle.rounding_cost.specs.RoundingCost.{costOverTmin, sparesParts}
+use Rattle.rounding_cost.specs.RoundingCost.{costOverTmin, sparesParts, sparesFewerParts}
 
--- the exact sum of cost over Tmin, whether it spares a part for each task, and the number that a call hands back
+-- the exact sum of cost over Tmin, whether it spares a part for each task, whether for each but one, and the number that a call hands back
 pub record Line : Type 0 where
   pub sum : Fraction
   pub spares : Bool
+  pub fewer : Bool
   pub number : ℕ
 
 unfoldable pub workedOut : ℕ → List Task → Line
 workedOut edition tasks =
     let n = length tasks in
     let s = settings Pooled 1 0 1 edition in
-    record { sum = costOverTmin s tasks n; spares = sparesParts s tasks n; number = found true s tasks n n .number }
+    record {
+      sum = costOverTmin s tasks n;
+      spares = sparesParts s tasks n;
+      fewer = sparesFewerParts s tasks n;
+      number = found true s tasks n n .number;
+    }
 
 -- rigid tasks, whose one period is Tmin
 abbrev pub rigid : ℕ → ℕ → Task
@@ -45,10 +51,10 @@ tables =
 
 unfoldable pub lines : List Line
 lines =
-    record { sum = over 27 27; spares = false; number = 7 } ∷
-    record { sum = over 999998000000 1000000000000; spares = true; number = 0 } ∷
-    record { sum = over 999999000000 1000000000000; spares = false; number = 0 } ∷
-    record { sum = over 999999002000000000 1000000000000000000; spares = false; number = 7 } ∷
+    record { sum = over 27 27; spares = false; fewer = false; number = 7 } ∷
+    record { sum = over 999998000000 1000000000000; spares = true; fewer = true; number = 0 } ∷
+    record { sum = over 999999000000 1000000000000; spares = false; fewer = true; number = 0 } ∷
+    record { sum = over 999999002000000000 1000000000000000000; spares = false; fewer = false; number = 7 } ∷
     []
 
 -- the claim, for both editions

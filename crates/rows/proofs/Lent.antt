@@ -9,7 +9,7 @@
 --           (for a core of this very crate the three lines are `use Rattle.rows.proofs.NAME ..`);
 --       the call: the four lines `use Rattle.rows.proofs.CALL ..`, `CALL-spec` twice, and `CALL.clauses`;
 --       the types, after `gathered ..`: the result's, then those of the values in their order (`of-uint w32` for a number), then the widths of the slices;
---       `tells`: `id⊢ 𝓤 _` where the core's promise names no record of the table, else `fact-to 𝓤` of `Bridge`'s `table-says` at each part that does.
+--       `tells`: `id⊢ 𝓤 _` where the core's promise names no record of the table, else `fact-to 𝓤` of the law of `Bridge` that says it of the rows, as `outcome-over`.
 --  4. A type that `Values` does not have gets two `use` lines and one definition there: `of-struct` for a struct, as `looked`, or `of-enum`, as `answer`.
 --     A type of another crate is `Rattle.CRATE.proofs.TYPE`, one of this crate `Rattle.rows.proofs.TYPE`.
 -- Assumes nothing.

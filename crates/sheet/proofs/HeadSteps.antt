@@ -23,7 +23,7 @@ use Rattle.sheet.specs.Rows.{settingRows}
 use Rattle.sheet.specs.Reading.{noSheet, settingsCount, taskCount, numbersIn, readSheet}
 use Rattle.sheet.specs.declared.Head.{Head}
 use Rattle.sheet.specs.declared.Head.the-variants as head
-use Rattle.sheet.specs.Handover.{Begins, RestDue}
+use Rattle.sheet.specs.Handover.{Begins, HeadTells, SettingsFew, RestDue}
 use Rattle.sheet.proofs.RowFields.{settings-got, settings-missed}
 use Rattle.sheet.proofs.Stages as stages
 
@@ -47,14 +47,17 @@ pub record HeadRead (s : List ℕ) (c first : ℕ) (t : SettingRows) (n from : �
   pub from-is : from ≡ recordsPlace (settingsCount s)
   pub within : recordsPlace (settingsCount s) ≤ length s
 
-module _ (s : List ℕ) {field : Field16} (e : field ≡ field16 s settingsPlace) where
+module _ (s : List ℕ) {at : ℕ} (starts : at ≡ settingsPlace) {field : Field16} (e : field ≡ field16 s at) where
+  at-front : field ≡ field16 s settingsPlace
+  at-front = e ∙ ap (field16 s) starts
+
   pub no-settings : field ≡ two.Missing → refused noSheet (SheetEnds (length s)) ≡ readSheet s
-  no-settings k = let m = missed16 s settingsPlace field e k in stages.settings-missing s (omega arith)
+  no-settings k = let m = missed16 s settingsPlace field at-front k in stages.settings-missing s (omega arith)
 
   pub settings-counted : {c first : ℕ} → field ≡ two.Value c first → SettingsCounted s c first
   unfolding settingsCount
   settings-counted {c} {first} k =
-      let g = got16 s settingsPlace field c first e k in
+      let g = got16 s settingsPlace field c first at-front k in
       record { c-is = g .is; first-is = g .next-is; within = g .within }
 
 module _ {s : List ℕ} {c first : ℕ} (p : SettingsCounted s c first) where
@@ -101,23 +104,29 @@ module _ {s : List ℕ} {c first : ℕ} {t : SettingRows} {n from : ℕ} (p : He
       let e = p .n-is in
       rw (p .settings .next-is) (stages.too-many s (p .settings .counted .within) (p .settings .taken) (p .within) (omega arith))
 
-  pub begun : {settings : Settings} → settings ≡ settingsOf (t .rows) → n ≤ mostTasks → Begins s c settings n from
+  pub begun : {settings : Settings} → settings ≡ settingsOf (t .rows) → n ≤ mostTasks → Begins s c settings n (recordsPlace c)
   begun e h =
       let k = p .n-is in
       record {
         count-is = p .settings .counted .c-is;
+        settings-few = rw (p .settings .counted .c-is) (stages.settings-few (settingsCount s) (p .settings .taken));
         settings-is = e ∙ ap settingsOf (p .settings .rows-is);
         n-is = k;
         few = h;
-        from-is = p .from-is;
+        from-is = ap recordsPlace (p .settings .counted .c-is);
         within = p .within;
         on = stages.head-whole s (p .settings .counted .within) (p .settings .taken) (p .within) (omega arith);
       }
 
 -- what is due after a head, by what the head says
 module _ (s : List ℕ) (at : ℕ) (h : Head) (due : RestDue s at h) where
-  pub due-rows : {count : ℕ} {settings : Settings} {n next : ℕ} → h ≡ head.Value count settings n next → Begins s count settings n at
+  pub due-rows : {count : ℕ} {settings : Settings} {n : ℕ} → h ≡ head.Value count settings n → Begins s count settings n at
   due-rows e = let d = subst (RestDue s at) e due in rw (d .1) (d .0)
 
   pub due-refused : {refusal : Refusal} → h ≡ head.Refused refusal → refused noSheet refusal ≡ readSheet s
   due-refused e = subst (RestDue s at) e due .0
+
+-- a head that tells of a reading has no more settings than a sheet may have
+pub head-few : (s : List ℕ) (h : Head) → HeadTells s h → SettingsFew h
+head-few s (head.Value count settings n) tells = tells .settings-few
+head-few s (head.Refused refusal) tells = tt

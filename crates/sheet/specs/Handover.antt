@@ -5,7 +5,7 @@ use mathlib.Core.List.{List}
 use mathlib.Core.Path.{_≡_}
 use lib.ListN.{length}
 use Rattle.kinds.specs.declared.Settings.{Settings}
-use Rattle.kinds.specs.Limits.{mostTasks}
+use Rattle.kinds.specs.Limits.{mostSettings, mostTasks}
 use Rattle.kinds.specs.Settings.{settingsOf}
 use Rattle.kinds.specs.Answer.{refused}
 use Rattle.sheet.specs.declared.Head.{Head}
@@ -16,6 +16,7 @@ use Rattle.sheet.specs.Reading.{noSheet, settingsCount, numbersIn, taskC
 -- the front of a sheet was read: its settings count, its settings, its task count, and where its records start
 pub record Begins (s : List ℕ) (count : ℕ) (settings : Settings) (n from : ℕ) : Type 0 where
   pub count-is : count ≡ settingsCount s
+  pub settings-few : count ≤ mostSettings
   pub settings-is : settings ≡ settingsOf (numbersIn s)
   pub n-is : n ≡ taskCount s
   pub few : n ≤ mostTasks
@@ -25,12 +26,17 @@ pub record Begins (s : List ℕ) (count : ℕ) (settings : Settings) (n from : �
 
 -- what the head says of the whole reading
 abbrev pub HeadTells : List ℕ → Head → Type 0
-HeadTells s (head.Value count settings n from) = Begins s count settings n from
+HeadTells s (head.Value count settings n) = Begins s count settings n (recordsPlace count)
 HeadTells s (head.Refused refusal) = refused noSheet refusal ≡ readSheet s
+
+-- it has no more settings than a sheet may have
+abbrev pub SettingsFew : Head → Type 0
+SettingsFew (head.Value count settings n) = count ≤ mostSettings
+SettingsFew (head.Refused refusal) = Unit {0}
 
 -- the place after a head that was read
 abbrev pub placeAfter : Head → ℕ
-placeAfter (head.Value count settings n next) = next
+placeAfter (head.Value count settings n) = recordsPlace count
 placeAfter (head.Refused refusal) = 0
 
 -- a head was read, and what follows it is due at the place after it

@@ -15,10 +15,10 @@ ghost use Prim.Native.Nat.{_≤_};
 ghost use lib.ListN.{length};
 ghost use Rattle.kinds.specs.Limits.{mostSettings, mostTasks};
 ghost use Rattle.kinds.specs.Answer.{refused};
-ghost use Rattle.sheet.specs.Sections.{recordsPlace, resultsPlace, endPlace, longestSheet, settingsFit, resultsFit};
+ghost use Rattle.sheet.specs.Sections.{settingsPlace, recordsPlace, resultsPlace, endPlace, longestSheet, settingsFit, resultsFit};
 ghost use Rattle.sheet.specs.Rows.{taskField, grantedField, settingRows, taskRows, grantedRows};
 ghost use Rattle.sheet.specs.Reading.{noSheet, readRows, readSheet, handedReading};
-ghost use Rattle.sheet.specs.Handover.{Begins, HeadTells, placeAfter, RestDue};
+ghost use Rattle.sheet.specs.Handover.{Begins, HeadTells, SettingsFew, placeAfter, RestDue};
 
 // A verdict, and the sheet: that of zeros where it was refused.
 pub struct Reading {
@@ -257,17 +257,19 @@ fn refusing(refusal: Refusal) -> Reading
     Reading { verdict, sheet }
 }
 
-// The settings count, the settings, the task count and the place after it, or the refusal.
+// The settings count, the settings and the task count, or the refusal.
 enum Head {
-    Value(usize, Settings, usize, usize),
+    Value(usize, Settings, usize),
     Refused(Refusal),
 }
 
-// The settings section and the task count. Document 01: "a count is judged as soon as its two bytes are there."
-fn read_head(s: &[u8]) -> Head
+// The settings section and the task count, from the place where a sheet starts. Document 01: "a count is judged as soon as its two bytes
+// are there."
+fn read_head(s: &[u8], at: usize) -> Head
+    requires { ⌜ at ≡ settingsPlace ⌝ }
     ensures { λ r. ⌜ HeadTells (now (s .entry)) r ⌝ }
 {
-    let Field16::Value(number, first) = field::read_u16(s, 0) else {
+    let Field16::Value(number, first) = field::read_u16(s, at) else {
         return Head::Refused(Refusal::SheetEnds(s.len()));
     };
     let count = number as usize;
@@ -281,7 +283,7 @@ fn read_head(s: &[u8]) -> Head
         return Head::Refused(Refusal::SheetEnds(s.len()));
     }
     let at_tasks = numbers.next;
-    let Field16::Value(tasks, from) = field::read_u16(s, at_tasks) else {
+    let Field16::Value(tasks, _) = field::read_u16(s, at_tasks) else {
         return Head::Refused(Refusal::SheetEnds(s.len()));
     };
     let n = tasks as usize;
@@ -289,7 +291,7 @@ fn read_head(s: &[u8]) -> Head
         return Head::Refused(Refusal::TooManyTasks(at_tasks));
     }
     let rows = numbers.rows;
-    Head::Value(count, Settings::of(rows), n, from)
+    Head::Value(count, Settings::of(rows), n)
 }
 
 // The rows of a sheet whose head was read: its tasks, its results, and nothing after them.
@@ -335,10 +337,11 @@ fn read_rows(s: &[u8], count: usize, settings: Settings, n: usize, from: usize) 
 
 // The place after a head that was read.
 fn place_after(head: Head) -> usize
+    requires { ⌜ SettingsFew head ⌝ }
     ensures { λ r. ⌜ r ≡ placeAfter head ⌝ }
 {
     match head {
-        Head::Value(_, _, _, next) => next,
+        Head::Value(count, _, _) => records_place(count),
         Head::Refused(_) => 0,
     }
 }
@@ -350,7 +353,7 @@ fn read_rest(s: &[u8], at: usize, head: Head) -> Reading
 {
     match head {
         Head::Refused(refusal) => refusing(refusal),
-        Head::Value(count, settings, n, _) => read_rows(s, count, settings, n, at),
+        Head::Value(count, settings, n) => read_rows(s, count, settings, n, at),
     }
 }
 
@@ -377,11 +380,12 @@ pub fn moved<'a>(reader: Reader<'a>, at: usize) -> Reader<'a>
     }
 }
 
-// The head of the sheet that a reader holds.
+// The head of the sheet that a reader holds, from the reader's place, where the sheet starts.
 fn front<'a>(reader: Reader<'a>) -> Head
+    requires { ⌜ reader .at ≡ settingsPlace ⌝ }
     ensures { λ r. ⌜ HeadTells (now (reader .entry .sheet)) r ⌝ }
 {
-    read_head(reader.sheet)
+    read_head(reader.sheet, reader.at)
 }
 
 // What a reader reads from its place on, where that is the place after the head.

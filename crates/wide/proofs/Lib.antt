@@ -5,3 +5,4 @@ pub mod Writing
 pub mod Outcomes
 pub mod Demand
 pub mod Worked
+pub mod Exactly

@@ -1,3 +1,4 @@
 pub mod Table
 pub mod Wide
 pub mod Handover
+pub mod Chain

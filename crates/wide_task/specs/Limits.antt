@@ -1,4 +1,4 @@
--- The limits of a task that needs several cores. `wide::limits` shows that the code has the same.
+-- The limits of a task that needs several cores. `wide_task::limits` shows that the code has the same.
 -- Assumes nothing.
 use Prim.Native.Nat.{ℕ, _+_, _*_, _-_}
 use Rattle.kinds.specs.Limits.{scale, longestPeriod}

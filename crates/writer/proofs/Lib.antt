@@ -5,3 +5,4 @@ pub mod Forth
 pub mod RoundTrip
 pub mod Examples
 pub mod Elements
+pub mod Exactly

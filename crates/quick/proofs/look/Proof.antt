@@ -20,6 +20,7 @@ returns c =
     let t = b .before in (
       record {
         step = t .before .pre .4;
+        due = t .before .pre .5;
         from = refl;
         tested = b .weighs .ensures ∙ weighed-worked-out _ _ _ _ _ (t .total-at .ensures);
         count = refl;

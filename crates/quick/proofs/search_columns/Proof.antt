@@ -32,7 +32,7 @@ stands c =
     (next-in springs (a .saturation .now) (a .n) _ _ (s .pre .1 .saturates) (c .next-due2 .ensures))
 
 look-requires : tie.Need-look-requires Inv-loop μ-loop
-look-requires c κs = (c .pre .0, c .pre .1 .few, c .pre .1 .within, omega arith, sym (due-first _ _ _ refl))
+look-requires c κs = (c .pre .0, c .pre .1 .few, c .pre .1 .within, omega arith, sym (due-first _ _ _ refl), λ later. absurd (omega arith))
 
 returns : tie.Need-returns Inv-loop μ-loop
 returns c =
@@ -61,7 +61,7 @@ look-requires-2 c κs =
     let a = s .args in
     let springs = springIn (a .largest .now) (a .least .now) (a .elasticity .now) in
     let d = look-due (a .w) springs (a .n) _ _ (l .loop .inv .0) (c .loop-test .taken) (s .pre .1 .few) in
-    (s .pre .0, s .pre .1 .few, s .pre .1 .within, d .0, d .1)
+    (s .pre .0, s .pre .1 .few, s .pre .1 .within, d .0, d .1, d .2)
 
 divide-requires : tie.Need-divide-requires Inv-loop μ-loop
 divide-requires c κs =

@@ -43,7 +43,7 @@ use Rattle.walk.proofs.Thin.{typed, fact-to}
 use Rattle.kinds.specs.declared.Sheet.{Sheet}
 use Rattle.kinds.specs.Answer.{Handed}
 use Rattle.sheet.specs.Reading.{readSheet, handedReading}
-use Rattle.sheet.specs.Handover.{HeadTells, placeAfter}
+use Rattle.sheet.specs.Handover.{HeadTells, SettingsFew, placeAfter}
 use Rattle.sheet.specs.declared.Head.{Head}
 use Rattle.sheet.specs.declared.Reader.{Reader}
 use Rattle.sheet.specs.declared.Reading.{Reading}
@@ -51,6 +51,7 @@ use Rattle.sheet.proofs.Reader as T
 use Rattle.sheet.proofs.Reader.Laws as T′
 use Rattle.sheet.proofs.Head as E
 use Rattle.sheet.proofs.Reading as S
+use Rattle.sheet.proofs.HeadSteps.{head-few}
 use Rattle.sheet.proofs.Values.{head, reading, Held, declared, laws}
 use Rattle.sheet.proofs.open as opened
 use Rattle.sheet.proofs.open.Symbol as opened-def
@@ -141,12 +142,12 @@ module _ {M : Type 1} (𝓤 : URA M) (H : Heap 𝓤) (A : Atoms 𝓤) (W : Given
 
   asks-front : ent 𝓤 (⋆ 𝓤 H A ((‵ (flft κ q) ⊛ ‵ ftrue) ∷ ‵ (OwnR 0) ∷ [])) (Asks 𝓤 H A fronted.ended (fronted.clauses 𝓤 H A mem run) .pre to-front)
   asks-front =
-      qed W ((‵ (flft κ q) ⊛ ‵ ftrue) ∷ ‵ (OwnR 0) ∷ []) ∵ nothing ! $ move ! (2 ∷ 0 ∷ []) $ fjoin ! $ move ! (1 ∷ 0 ∷ []) $ join ! $ frame ! $ done !
+      qed W ((‵ (flft κ q) ⊛ ‵ ftrue) ∷ ‵ (OwnR 0) ∷ []) ∵ says ! refl $ frame ! $ nothing ! $ move ! (1 ∷ 0 ∷ []) $ fjoin ! $ done !
 
-  asks-place : (h : Head) (u : Val)
+  asks-place : (h : Head) (u : Val) → SettingsFew h
       → ent 𝓤 (sem 𝓤 H A (E.the-row .own h (u ∷ []))) (Asks 𝓤 H A placed.ended (placed.clauses 𝓤 H A mem run) .pre (to-place h u))
-  asks-place h u =
-      qed W (‵ (E.the-row .own h (u ∷ [])) ∷ []) ∵ nothing ! $ move ! (1 ∷ 0 ∷ []) $ fjoin ! $ nothing ! $ join ! $ frame ! $ done !
+  asks-place h u few =
+      qed W (‵ (E.the-row .own h (u ∷ [])) ∷ []) ∵ says ! few $ nothing ! $ frame ! $ nothing ! $ move ! (1 ∷ 0 ∷ []) $ fjoin ! $ done !
 
   asks-moved : (n : ℕ) → ent 𝓤 (⋆ 𝓤 H A ((‵ (flft κ q) ⊛ ‵ ftrue) ∷ ‵ (usize .own n (vint w64 n ∷ [])) ∷ ‵ (OwnR 0) ∷ []))
       (Asks 𝓤 H A on.ended (on.clauses 𝓤 H A mem run) .pre (to-moved n))
@@ -201,7 +202,7 @@ module _ {M : Type 1} (𝓤 : URA M) (H : Heap 𝓤) (A : Atoms 𝓤) (W : Given
         -- [what the head owns; the token; what the reader owns; what s owns; _7; …]
         peeks ! E.the-row (Is E.the-row) (shows 𝓤 H A E.the-row) h (u ∷ []) (λ is-head.
         land ! (from ! (stop !)) (init ! 12 refl (typed head 𝓤 H A W h u is-head)) $
-        use1 W (raw (Asks 𝓤 H A placed.ended (placed.clauses 𝓤 H A mem run) .pre (to-place h u))) (asks-place h u) $
+        use1 W (raw (Asks 𝓤 H A placed.ended (placed.clauses 𝓤 H A mem run) .pre (to-place h u))) (asks-place h u (head-few (now s) h tells)) $
         gets-is ! fm placed.ended (placed.clauses 𝓤 H A mem run) (known .places) (to-place h u) (placeAfter h) (vint w64) (uint-tells w64)
         (λ r ws. id⊢ 𝓤 _) (and-then ! (load ! (from ! (stop !)) (look ! 12 refl)) (no-more !)) (λ is-place.
         -- [what the place owns; no token; the token; what the reader owns; what s owns; _7; …]

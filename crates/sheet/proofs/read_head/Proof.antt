@@ -16,7 +16,7 @@ enum-told : tie.Need-enum-told
 enum-told c = search needs
 
 returns : tie.Need-returns
-returns c = no-settings _ (c .before .before .read-u16 .ensures) (c .enum-told .given .1)
+returns c = no-settings _ (c .before .before .before .before .pre) (c .before .before .read-u16 .ensures) (c .enum-told .given .1)
 
 cast-count : tie.Need-cast-count
 cast-count c = search needs
@@ -28,14 +28,14 @@ returns-2 : tie.Need-returns-2
 returns-2 c =
     let judged = c .before in
     let has-count = judged .before .before in
-    let counted = settings-counted _ (has-count .before .before .read-u16 .ensures) (has-count .number .given .1) in
+    let counted = settings-counted _ (has-count .before .before .before .before .pre) (has-count .before .before .read-u16 .ensures) (has-count .number .given .1) in
     settings-wrong counted (sym (judged .settings-fit .ensures) ∙ not-true _ (c .if1 .taken))
 
 read-settings-requires : tie.Need-read-settings-requires
 read-settings-requires c κs =
     let judged = c .before in
     let has-count = judged .before .before in
-    let counted = settings-counted _ (has-count .before .before .read-u16 .ensures) (has-count .number .given .1) in
+    let counted = settings-counted _ (has-count .before .before .before .before .pre) (has-count .before .before .read-u16 .ensures) (has-count .number .given .1) in
     settings-due counted (sym (judged .settings-fit .ensures) ∙ not-false _ (c .if1 .left))
 
 returns-3 : tie.Need-returns-3
@@ -44,7 +44,7 @@ returns-3 c =
     let fits = read .before in
     let judged = fits .before in
     let has-count = judged .before .before in
-    let counted = settings-counted _ (has-count .before .before .read-u16 .ensures) (has-count .number .given .1) in
+    let counted = settings-counted _ (has-count .before .before .before .before .pre) (has-count .before .before .read-u16 .ensures) (has-count .number .given .1) in
     let fit = sym (judged .settings-fit .ensures) ∙ not-false _ (fits .if1 .left) in
     settings-end counted fit (read .read-settings .ensures) (not-true _ (c .if2 .taken))
 
@@ -64,7 +64,7 @@ returns-4 c =
     let fits = read .before in
     let judged = fits .before in
     let has-count = judged .before .before in
-    let counted = settings-counted _ (has-count .before .before .read-u16 .ensures) (has-count .number .given .1) in
+    let counted = settings-counted _ (has-count .before .before .before .before .pre) (has-count .before .before .read-u16 .ensures) (has-count .number .given .1) in
     let fit = sym (judged .settings-fit .ensures) ∙ not-false _ (fits .if1 .left) in
     let settings = settings-read counted fit (read .read-settings .ensures) (not-false _ (there .if2 .left)) in
     count-end settings (c .before .before .read-u162 .ensures) (c .enum-told2 .given .1)
@@ -80,7 +80,7 @@ returns-5 c =
     let fits = read .before in
     let judged = fits .before in
     let has-count = judged .before .before in
-    let counted = settings-counted _ (has-count .before .before .read-u16 .ensures) (has-count .number .given .1) in
+    let counted = settings-counted _ (has-count .before .before .before .before .pre) (has-count .before .before .read-u16 .ensures) (has-count .number .given .1) in
     let fit = sym (judged .settings-fit .ensures) ∙ not-false _ (fits .if1 .left) in
     let settings = settings-read counted fit (read .read-settings .ensures) (not-false _ (there .if2 .left)) in
     let head = head-read settings (has-tasks .before .before .read-u162 .ensures) (has-tasks .tasks .given .1) in
@@ -98,7 +98,7 @@ returns-6 c =
     let fits = read .before in
     let judged = fits .before in
     let has-count = judged .before .before in
-    let counted = settings-counted _ (has-count .before .before .read-u16 .ensures) (has-count .number .given .1) in
+    let counted = settings-counted _ (has-count .before .before .before .before .pre) (has-count .before .before .read-u16 .ensures) (has-count .number .given .1) in
     let fit = sym (judged .settings-fit .ensures) ∙ not-false _ (fits .if1 .left) in
     let settings = settings-read counted fit (read .read-settings .ensures) (not-false _ (there .if2 .left)) in
     let head = head-read settings (has-tasks .before .before .read-u162 .ensures) (has-tasks .tasks .given .1) in
