@@ -18,14 +18,14 @@ use Rattle.schedule.specs.Jobs.{Jobs, deadline, Apart, Covers}
 use Rattle.schedule.specs.Schedule.{Schedule, done, running, MeetsDeadlines}
 use Rattle.schedule.proofs.Done.{done-more}
 use Rattle.schedule.proofs.Releases.{in-turn}
-use Rattle.fluid.specs.Fluid.{Fluid}
+use Rattle.fluid.specs.Fluid.{Shareable, Fluid}
 use Rattle.fluid.specs.Parts.{inParts}
 use Rattle.fluid.specs.Wrapped.{isIn, hasPart, wrapped}
 use Rattle.fluid.proofs.Line.{in-found, in-passes}
 use Rattle.fluid.proofs.Deadlines.{fluid-meets, covers-parts}
 use Rattle.fluid.proofs.Shared.{load-had, tasks-most}
 
-module _ (m S : ℕ) (load : ℕ → ℕ) (jobs : Jobs) (unit : 1 ≤ S) where
+module _ (m S : ℕ) (load : ℕ → ℕ) (jobs : Jobs) (share : Shareable m S (jobs .tasks) load) where
   -- what runs in part u
   abbrev runs : Schedule
   runs = wrapped m S load jobs
@@ -45,7 +45,7 @@ module _ (m S : ℕ) (load : ℕ → ℕ) (jobs : Jobs) (unit : 1 ≤ S) where
       → runs (t * S + q) i j ≡ hasPart load S m i q
   unfolding wrapped
   part-is t q i j small task begun open-still =
-      let tick : (t * S + q) / S ≡ t = mul-add-div-right unit t q ∙ (ap (λ (x : ℕ). t + x) (div-eq-of-lt small) ∙ omega arith) in
+      let tick : (t * S + q) / S ≡ t = mul-add-div-right (share .some) t q ∙ (ap (λ (x : ℕ). t + x) (div-eq-of-lt small) ∙ omega arith) in
       let part : (t * S + q) % S ≡ q = mul-add-mod-self-right t S q ∙ mod-eq-of-lt small in
       rw (tick, part, lt-ltb i (jobs .tasks) task, in-passes (jobs .release i j) (deadline jobs i j) t begun open-still)
 
@@ -57,7 +57,7 @@ module _ (m S : ℕ) (load : ℕ → ℕ) (jobs : Jobs) (unit : 1 ≤ S) where
       let e : u + suc n ≡ suc (u + n) = omega arith in
       omega (arith, ap (done runs i j) e, done-more runs i j (u + n), work-on i j u n)
 
-  module _ (apart : Apart jobs) (each : (i : ℕ) → i < jobs .tasks → load i ≤ S) (fits : sumTo load (jobs .tasks) ≤ m * S) where
+  module _ (apart : Apart jobs) where
     -- so many ticks after its release, up to its deadline, a job has been given its load as many times
     given : (i : ℕ) → i < jobs .tasks → (j d : ℕ) → d ≤ jobs .period i → load i * d ≤ done runs i j ((jobs .release i j + d) * S)
     given i l j zero h = omega arith
@@ -71,7 +71,7 @@ module _ (m S : ℕ) (load : ℕ → ℕ) (jobs : Jobs) (unit : 1 ≤ S) where
           ap (done runs i j) end,
           work-on i j (t * S) S,
           had,
-          load-had load S m (jobs .tasks) i l (each i l) fits,
+          load-had load S m (jobs .tasks) i l (share .one i l) (share .all),
         )
 
     -- a task has one job at most that is released and not yet due, and runs it where it has the part
@@ -107,13 +107,12 @@ module _ (m S : ℕ) (load : ℕ → ℕ) (jobs : Jobs) (unit : 1 ≤ S) where
           given = λ i l j.
               let whole : load i * (jobs .period i * S) ≡ load i * jobs .period i * S = omega arith in
               let end : jobs .release i j * S + jobs .period i * S ≡ deadline jobs i j * S = omega arith in
-              rw (whole, mul-div-cancel (load i * jobs .period i) unit, end) (given i l j (jobs .period i) (omega arith));
+              rw (whole, mul-div-cancel (load i * jobs .period i) (share .some), end) (given i l j (jobs .period i) (omega arith));
         }
 
--- so where no load is more than a processor and all together are at most m, there is a kernel in parts of a tick, and it meets every deadline
-pub parts-met : (m S : ℕ) (load : ℕ → ℕ) (jobs : Jobs) → 1 ≤ S → Apart jobs → Covers load S jobs
-    → ((i : ℕ) → i < jobs .tasks → load i ≤ S) → sumTo load (jobs .tasks) ≤ m * S
+-- so where m processors can share the loads, there is a kernel in parts of a tick, and it meets every deadline
+pub parts-met : (m S : ℕ) (load : ℕ → ℕ) (jobs : Jobs) → Shareable m S (jobs .tasks) load → Apart jobs → Covers load S jobs
     → (runs : Schedule) × Fluid m S load (inParts S jobs) runs × MeetsDeadlines (inParts S jobs) runs
-parts-met m S load jobs unit apart covers each fits =
-    let fluid = fluid-exists m S load jobs unit apart each fits in
-    (_, fluid, fluid-meets m S load (inParts S jobs) _ unit (covers-parts S load jobs covers) fluid)
+parts-met m S load jobs share apart covers =
+    let fluid = fluid-exists m S load jobs share apart in
+    (_, fluid, fluid-meets m S load (inParts S jobs) _ (share .some) (covers-parts S load jobs covers) fluid)
