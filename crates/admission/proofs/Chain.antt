@@ -41,7 +41,7 @@ pub then-admitted : (a rest : Verdict) → andThen a rest ≡ Accepted → (a �
 then-admitted Accepted rest e = (refl, e)
 then-admitted (Refused r) rest e = absurd (let z : _≡_ {A = ℕ} 0 1 = cc in omega arith)
 
-neither : (a b : Bool) → either a b ≡ false → (a ≡ false) × (b ≡ false)
+pub neither : (a b : Bool) → either a b ≡ false → (a ≡ false) × (b ≡ false)
 neither true b e = true-false refl e
 neither false b e = (refl, e)
 

@@ -2,30 +2,27 @@
 -- `ready-admitted`.
 -- Assumes nothing.
 use Prim.Native.Nat.{ℕ}
-use mathlib.Core.Bool.{Bool, true, false, not}
+use mathlib.Core.Bool.{Bool, false, not}
 use mathlib.Core.List.{List, [], _∷_, _++_}
-use mathlib.Core.Logic.{_⊎_, ⊎-elim}
 use mathlib.Core.Path.{_≡_, refl, ap, _∙_}
-use native.Mathlib.Omega.{arith}
 use lib.Dec.{ltb}
-use borrow.Author.Tests.{le-ltb, ne-eqb}
+use borrow.Author.Tests.{le-ltb}
 use Rattle.ground.specs.Choice.{both}
-use Rattle.ground.proofs.Cases.{by-bool}
 use Rattle.kinds.specs.declared.Task.{Task}
 use Rattle.kinds.specs.declared.Settings.{Settings}
-use Rattle.kinds.specs.declared.Policy.{Policy}
 use Rattle.kinds.specs.declared.Refusal.the-variants.{NoSuchPolicy, PolicyWithdrawn, Misset, TooManyTasks, PolicyNotServed, OutputTooShort, BadRecord}
 use Rattle.kinds.specs.declared.Verdict.{Verdict}
 use Rattle.kinds.specs.declared.Verdict.the-variants.{Accepted, Refused}
 use Rattle.kinds.specs.Answer.{handedVerdict}
-use Rattle.kinds.specs.Limits.{mostTasks, mostProcessors, shareEdition, chargeEdition}
-use Rattle.kinds.specs.Policy.{meant, isFirstFit, isOneCore, isWithdrawn, isFurther}
+use Rattle.kinds.specs.Limits.{mostTasks}
+use Rattle.kinds.specs.Policy.{meant, isFirstFit, isWithdrawn, isFurther}
 use Rattle.kinds.specs.Chain.{Check, _when_, firstBy, firstOf, Exactly, numbersGiven}
 use Rattle.kinds.proofs.Chains.{first-through, first-then, verdict-exactly}
 use Rattle.share.specs.Table.{firstBad}
-use Rattle.admission.specs.Admission.{andThen, unsuited, noEdition, missetUnder, gate, admission}
+use Rattle.admission.specs.Admission.{andThen, missetUnder, gate, admission}
 use Rattle.admission.specs.Chain.{admissionChain}
 use Rattle.admission.proofs.Chain.{Ready}
+use Rattle.admission.proofs.Sentences.{two-says}
 
 -- two chains of a verdict, one after the other
 pub then-first : (xs ys : List Check) → andThen (firstOf xs) (firstOf ys) ≡ firstOf (xs ++ ys)
@@ -54,23 +51,19 @@ module _ (serves : Bool) (s : Settings) (rows : List Task) (n room : ℕ) where
   pub admission-numbers : numbersGiven (admissionChain serves s rows n room) ≡ 1 ∷ 15 ∷ 2 ∷ 3 ∷ 4 ∷ 5 ∷ 6 ∷ []
   admission-numbers = refl
 
--- what was checked is enough: nothing is misset, and so the call is admitted
-unsuited-not : (p : Policy) (m : ℕ) → (isOneCore p ≡ true → m ≡ 1) → unsuited p m ≡ false
-unsuited-not p m h = by-bool (isOneCore p) (λ t. rw (t, h t)) (λ t. rw t)
-
-edition-there : (edition : ℕ) → (edition ≡ shareEdition) ⊎ (edition ≡ chargeEdition) → noEdition edition ≡ false
-edition-there edition h = ⊎-elim (λ e. rw e) (λ e. rw e) h
-
+-- what was checked is enough
 pub ready-admitted : (serves : Bool) (s : Settings) (rows : List Task) (n room : ℕ) → Ready serves s rows n room → admission serves s rows n room ≡ Accepted
 unfolding admission gate
 ready-admitted serves s rows n room r =
     let a = r .passed in
-    let p = meant (s .policy) in
     let bad = firstBad (s .swap) (s .notch) rows n in
-    let low = le-ltb (s .m) 1 (a .m-some) in
-    let high = le-ltb mostProcessors (s .m) (a .m-most) in
-    let notch = ne-eqb (s .notch) 0 (λ z. omega (arith, r .notched)) in
-    let edition = edition-there (s .edition) (r .edition) in
-    let suited = unsuited-not p (s .m) (r .one-core) in
-    let set : missetUnder s ≡ false = rw (low, high, notch, edition, suited) in
+    let set : missetUnder s ≡ false =
+    two-says s .1
+    (record {
+      m-some = a .m-some;
+      m-most = a .m-most;
+      notched = r .notched;
+      edition = r .edition;
+      one-core = λ five. r .one-core (rw five);
+    }) in
     rw (a .known, a .standing, set, le-ltb mostTasks n (a .few), a .served, le-ltb room n (a .roomy), le-ltb bad n (r .none-bad))

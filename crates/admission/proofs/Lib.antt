@@ -1,3 +1,4 @@
 pub mod Chain
 pub mod Opened
 pub mod Exactly
+pub mod Sentences

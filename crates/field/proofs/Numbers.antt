@@ -10,6 +10,12 @@ use lib.ListN.{length, getD, take, drop, List·getD-append}
 use lib.Seq.{drop-cons, getD-append-add}
 use Rattle.field.specs.Number.{Bytes, numberAt, bytesOf, limit}
 
+-- entries that are bytes, up to the end, make a list of bytes: what is read past the end is 0
+pub all-bytes : (s : List ℕ) → ((i : ℕ) → i < length s → getD s i 0 < 256) → Bytes s
+all-bytes [] h i = omega arith
+all-bytes (x ∷ s) h zero = h 0 (omega arith)
+all-bytes (x ∷ s) h (suc i) = all-bytes s (λ j l. h (suc j) (omega arith)) i
+
 -- 2 and 4 bytes, written out
 module _ (s : List ℕ) (at : ℕ) where
   pub number-two : numberAt 2 s at ≡ getD s at 0 + 256 * getD s (at + 1) 0

@@ -3,7 +3,7 @@
 ghost use mathlib.Core.Path.{_≡_};
 ghost use Prim.Native.Nat.{_+_, _-_, _≤_, _<_};
 ghost use lib.ListN.{length};
-ghost use Rattle.field.specs.Number.{bytesOf};
+ghost use Rattle.field.specs.Number.{Bytes, bytesOf};
 ghost use Rattle.field.specs.Field.{field16, field32};
 ghost use Rattle.field.specs.Handover.{Put};
 
@@ -17,6 +17,17 @@ pub enum Field16 {
 pub enum Field32 {
     Value(u32, usize),
     Missing,
+}
+
+// Every lent slice of bytes is a list of bytes: each of its entries is below 256.
+pub fn all_bytes(s: &[u8])
+    ensures { λ _. ⌜ Bytes (now (s .entry)) ⌝ }
+{
+    let mut i: usize = 0;
+    while i < s.len() {
+        wide16(s[i]);
+        i += 1;
+    }
 }
 
 fn wide16(byte: u8) -> u16

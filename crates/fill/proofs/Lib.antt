@@ -6,3 +6,4 @@ pub mod Held
 pub mod Again
 pub mod Examples
 pub mod Withdrawn
+pub mod Exactly

@@ -1,2 +1,3 @@
 pub mod Results
 pub mod Fill
+pub mod Chain

@@ -5,3 +5,4 @@ pub mod Agrees
 pub mod Exactly
 pub mod Filled
 pub mod Lines
+pub mod Order

@@ -107,7 +107,8 @@ module _ (s : List ℕ) where
           let good = good-not-bad i l t next is in
           let more-of = from-more rows s (lineStart s i) more l t next is in
           let starts = start-more i l t next is in
-          let go = rest t (omega arith) (length-append rows (t ∷ []) ∙ omega (arith, long)) (λ j u. below-next (λ k. isBadLine s k ≡ false) i h good j (omega arith)) in
+          let none : (j : ℕ) → j < suc i → isBadLine s j ≡ false = λ j u. below-next (λ k. isBadLine s k ≡ false) i h good j (omega arith) in
+          let go = rest t (omega arith) (length-append rows (t ∷ []) ∙ omega (arith, long)) none in
           rw more-of (rw starts at go)
 
   -- a reading is refused by 16 at the first bad line, else by 3 where bytes come after line 31, and else it has rows

@@ -38,7 +38,7 @@ not-among k (n ∷ ns) h m =
     ⊎-elim (λ e. true-false (b .0) (rw (eq-eqb k n e))) (λ r. not-among k ns (b .1) r) (List·Memᴰ·cases-cons m)
 
 module _ (x : Sheet) where
-  asked-chain : asked x ≡ handedBy 0 (stepIn (leastUnder (x .settings) (x .table .rows) (x .table .n))) (askedChain x)
+  pub asked-chain : asked x ≡ handedBy 0 (stepIn (leastUnder (x .settings) (x .table .rows) (x .table .n))) (askedChain x)
   unfolding asked
   asked-chain =
       let s = x .settings in

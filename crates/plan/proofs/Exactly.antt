@@ -1,23 +1,26 @@
--- "Given exactly when", of the two finders: `plain-exactly`, `quick-exactly`; the numbers that each gives are `plain-numbers` and `quick-numbers`.
+-- "Given exactly when", of the two finders: `plain-exactly`, `quick-exactly`, and of every answer that meets their promises, `plain-answers`,
+-- `quick-answers`; the numbers that each gives are `plain-numbers` and `quick-numbers`.
 -- Assumes nothing.
-use Prim.Native.Nat.{ℕ, _+_, _≤_}
+use Prim.Native.Nat.{ℕ, _+_, _≤_, min}
 use mathlib.Core.Bool.{Bool, true, false, not}
 use mathlib.Core.List.{List, [], _∷_, _++_}
 use mathlib.Core.Path.{_≡_, refl, ap, sym, _∙_}
 use native.Mathlib.Omega.{arith}
 use lib.Dec.{ltb}
+use lib.ListN.{length}
 use Rattle.ground.specs.declared.Step.{Step}
 use Rattle.ground.specs.declared.Step.the-variants.{At, Nothing}
 use Rattle.ground.specs.Choice.{both}
-use Rattle.ground.proofs.Cases.{by-bool, true-false}
+use Rattle.ground.proofs.Cases.{true-false}
 use Rattle.ground.proofs.Least.{least-none}
 use Rattle.kinds.specs.declared.Task.{Task}
 use Rattle.kinds.specs.declared.Settings.{Settings}
+use Rattle.kinds.specs.declared.Answer.{Answer}
 use Rattle.kinds.specs.declared.Verdict.{Verdict}
 use Rattle.kinds.specs.declared.Verdict.the-variants.{Accepted, Refused}
 use Rattle.kinds.specs.declared.Refusal.the-variants.{NoSuchPolicy, PolicyWithdrawn, Misset, TooManyTasks, PolicyNotServed, OutputTooShort, BadRecord}
 use Rattle.kinds.specs.declared.Refusal.the-variants.{NoStepPasses}
-use Rattle.kinds.specs.Answer.{Handed, accepted, refused}
+use Rattle.kinds.specs.Answer.{Handed, accepted, refused, handed}
 use Rattle.kinds.specs.Limits.{mostTasks}
 use Rattle.kinds.specs.Policy.{meant, isFirstFit, isWithdrawn, isFurther}
 use Rattle.kinds.specs.Chain.{Check, _when_, firstBy, firstOf, handedBy, Exactly, numbersGiven}
@@ -26,10 +29,10 @@ use Rattle.share.specs.Table.{firstBad}
 use Rattle.policy.specs.Passing.{passesAt, leastStep}
 use Rattle.policy.specs.Under.{fullUnder, loadsUnder, leastUnder}
 use Rattle.policy.proofs.Demand.{step-nothing}
-use Rattle.admission.specs.Admission.{missetUnder, admission}
+use Rattle.admission.specs.Admission.{missetUnder}
 use Rattle.admission.specs.Chain.{admissionChain}
 use Rattle.admission.proofs.Exactly.{admission-chain}
-use Rattle.plan.specs.Plan.{decided, found}
+use Rattle.plan.specs.Plan.{decided, found, outcome, Meets}
 use Rattle.plan.specs.Chain.{nonePasses, stepIn, plainChain, quickChain}
 
 -- the last check of a finder
@@ -110,6 +113,22 @@ module _ (s : Settings) (rows : List Task) (n room : ℕ) where
 
   pub quick-numbers : numbersGiven (quickChain s rows n room) ≡ 1 ∷ 15 ∷ 2 ∷ 3 ∷ 4 ∷ 5 ∷ 6 ∷ 7 ∷ []
   quick-numbers = refl
+
+-- so it is of every answer that meets the promise of a finder's call
+module _ (s : Settings) (rows : List Task) (n : ℕ) (oldPeriods oldProcessors periods processors : List ℕ) (answer : Answer) where
+  pub plain-answers : Meets (outcome true s rows n oldPeriods oldProcessors) answer periods processors
+      → Exactly (plainChain s rows n (min (length oldPeriods) (length oldProcessors))) 0 (stepIn (leastUnder s rows n)) (handed answer)
+  unfolding outcome
+  plain-answers x =
+      let room = min (length oldPeriods) (length oldProcessors) in
+      exactly (plainChain s rows n room) 0 (stepIn (leastUnder s rows n)) (handed answer) (x .answers ∙ plain-chain s rows n room)
+
+  pub quick-answers : Meets (outcome false s rows n oldPeriods oldProcessors) answer periods processors
+      → Exactly (quickChain s rows n (min (length oldPeriods) (length oldProcessors))) 0 (stepIn (leastUnder s rows n)) (handed answer)
+  unfolding outcome
+  quick-answers x =
+      let room = min (length oldPeriods) (length oldProcessors) in
+      exactly (quickChain s rows n room) 0 (stepIn (leastUnder s rows n)) (handed answer) (x .answers ∙ quick-chain s rows n room)
 
 -- the sentence of 7 in the document's words, both ways
 pub passes-none : (step : Step) → nonePasses step ≡ true → step ≡ Nothing

@@ -26,7 +26,7 @@ pub record Lowest (m : ℕ) (load : ℕ → ℕ) (i processor : ℕ) : Type 0 wh
   pub room : (j : ℕ) → j + 1 ≡ processor → getD (loadsAfter m load i) j 0 + load i ≤ scale
   pub none-lower : (j : ℕ) → j + 1 < processor → scale < getD (loadsAfter m load i) j 0 + load i
 
--- "1 to m under policy 4, and 0 ("any") under 1 to 3"
+-- "1 to m under policy 4, and 0 ("any") under 1 to 3"; Ask 1: 0 under 5
 pub record Assigned (p : Policy) (m : ℕ) (load : ℕ → ℕ) (i processor : ℕ) : Type 0 where
   pub placed : isFirstFit p ≡ true → Lowest m load i processor
   pub any : isFirstFit p ≡ false → processor ≡ 0

@@ -5,6 +5,7 @@ use mathlib.Core.Bool.{true, false}
 use mathlib.Core.List.{List}
 use mathlib.Core.Path.{_≡_, sym, ap, subst, _∙_}
 use native.Mathlib.Omega.{arith}
+use lib.Dec.{T}
 use lib.ListN.{length}
 use Rattle.kinds.specs.declared.Settings.{Settings}
 use Rattle.kinds.specs.declared.Refusal.{Refusal}
@@ -23,7 +24,7 @@ use Rattle.sheet.specs.Rows.{settingRows}
 use Rattle.sheet.specs.Reading.{noSheet, settingsCount, taskCount, numbersIn, readSheet}
 use Rattle.sheet.specs.declared.Head.{Head}
 use Rattle.sheet.specs.declared.Head.the-variants as head
-use Rattle.sheet.specs.Handover.{Begins, HeadTells, SettingsFew, RestDue}
+use Rattle.sheet.specs.Handover.{Begins, HeadTells, headRefused, headAlone, SettingsFew, RestDue}
 use Rattle.sheet.proofs.RowFields.{settings-got, settings-missed}
 use Rattle.sheet.proofs.Stages as stages
 
@@ -130,3 +131,8 @@ module _ (s : List ℕ) (at : ℕ) (h : Head) (due : RestDue s at h) where
 pub head-few : (s : List ℕ) (h : Head) → HeadTells s h → SettingsFew h
 head-few s (head.Value count settings n) tells = tells .settings-few
 head-few s (head.Refused refusal) tells = tt
+
+-- a head that is refused says by itself what the whole reading is
+pub refused-ends : (s : List ℕ) (h : Head) → HeadTells s h → T (headRefused h) → headAlone h ≡ readSheet s
+refused-ends s (head.Value count settings n) tells z = absurd z
+refused-ends s (head.Refused refusal) tells z = tells

@@ -14,3 +14,4 @@ pub mod After
 pub mod OneReading
 pub mod Examples
 pub mod Values
+pub mod Exactly

@@ -1,13 +1,15 @@
 -- What functions hand each other: the front of a sheet that was read.
 -- Assumes nothing.
 use Prim.Native.Nat.{ℕ, _≤_}
+use mathlib.Core.Bool.{Bool, true, false}
 use mathlib.Core.List.{List}
 use mathlib.Core.Path.{_≡_}
 use lib.ListN.{length}
 use Rattle.kinds.specs.declared.Settings.{Settings}
+use Rattle.kinds.specs.declared.Sheet.{Sheet}
 use Rattle.kinds.specs.Limits.{mostSettings, mostTasks}
 use Rattle.kinds.specs.Settings.{settingsOf}
-use Rattle.kinds.specs.Answer.{refused}
+use Rattle.kinds.specs.Answer.{Handed, accepted, refused}
 use Rattle.sheet.specs.declared.Head.{Head}
 use Rattle.sheet.specs.declared.Head.the-variants as head
 use Rattle.sheet.specs.Sections.{recordsPlace}
@@ -28,6 +30,15 @@ pub record Begins (s : List ℕ) (count : ℕ) (settings : Settings) (n from : �
 abbrev pub HeadTells : List ℕ → Head → Type 0
 HeadTells s (head.Value count settings n) = Begins s count settings n (recordsPlace count)
 HeadTells s (head.Refused refusal) = refused noSheet refusal ≡ readSheet s
+
+-- whether it is refused, and what it says by itself: its refusal, or none so far
+abbrev pub headRefused : Head → Bool
+headRefused (head.Value count settings n) = false
+headRefused (head.Refused refusal) = true
+
+abbrev pub headAlone : Head → Handed Sheet
+headAlone (head.Value count settings n) = accepted noSheet
+headAlone (head.Refused refusal) = refused noSheet refusal
 
 -- it has no more settings than a sheet may have
 abbrev pub SettingsFew : Head → Type 0

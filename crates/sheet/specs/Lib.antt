@@ -2,3 +2,4 @@ pub mod Sections
 pub mod Rows
 pub mod Reading
 pub mod Handover
+pub mod Chain

@@ -18,7 +18,7 @@ ghost use Rattle.kinds.specs.Answer.{refused};
 ghost use Rattle.sheet.specs.Sections.{settingsPlace, recordsPlace, resultsPlace, endPlace, longestSheet, settingsFit, resultsFit};
 ghost use Rattle.sheet.specs.Rows.{taskField, grantedField, settingRows, taskRows, grantedRows};
 ghost use Rattle.sheet.specs.Reading.{noSheet, readRows, readSheet, handedReading};
-ghost use Rattle.sheet.specs.Handover.{Begins, HeadTells, SettingsFew, placeAfter, RestDue};
+ghost use Rattle.sheet.specs.Handover.{Begins, HeadTells, headRefused, headAlone, SettingsFew, placeAfter, RestDue};
 
 // A verdict, and the sheet: that of zeros where it was refused.
 pub struct Reading {
@@ -335,6 +335,30 @@ fn read_rows(s: &[u8], count: usize, settings: Settings, n: usize, from: usize) 
     Reading { verdict, sheet }
 }
 
+// Whether a head is refused.
+fn is_refused(head: Head) -> bool
+    ensures { λ b. ⌜ b ≡ headRefused head ⌝ }
+{
+    match head {
+        Head::Value(_, _, _) => false,
+        Head::Refused(_) => true,
+    }
+}
+
+// What a head says by itself: its refusal, or none so far.
+fn so_far(head: Head) -> Reading
+    ensures { λ r. ⌜ handedReading r ≡ headAlone head ⌝ }
+{
+    match head {
+        Head::Refused(refusal) => refusing(refusal),
+        Head::Value(_, _, _) => {
+            let sheet = no_sheet();
+            let verdict = Verdict::Accepted;
+            Reading { verdict, sheet }
+        }
+    }
+}
+
 // The place after a head that was read.
 fn place_after(head: Head) -> usize
     requires { ⌜ SettingsFew head ⌝ }
@@ -402,6 +426,9 @@ pub fn read(bytes: &[u8]) -> Reading
 {
     let reader = open(bytes);
     let head = front(reader);
+    if is_refused(head) {
+        return so_far(head);
+    }
     let next = place_after(head);
     rest(moved(reader, next), head)
 }

@@ -1,3 +1,4 @@
 pub mod Imports
+pub mod Back
 pub mod Once
 pub mod Readings

@@ -1,4 +1,5 @@
-// Station sheets in numbers: a sheet crosses as numbers, its policy as the number that it is written as. Contracts cite `specs/Sheets`.
+// Station sheets in numbers: a sheet crosses as numbers, its policy as the number that it is written as. Contracts cite `specs/Sheets`
+// and `specs/Back`.
 pub mod texts;
 
 use change_over::Which;
@@ -18,6 +19,7 @@ ghost use Rattle.filled_sheet.specs.Checked.{checked};
 ghost use Rattle.change_over.specs.ChangeOver.{changeOver};
 ghost use Rattle.told.specs.Verdicts.{toldVerdict};
 ghost use Rattle.told_sheets.specs.Sheets.{sheetOf, numbersOf, inNumbers, toldReading, toldCount, ToldCounts, toldPart};
+ghost use Rattle.told_sheets.specs.Back.{backHanded, afterBack};
 
 // A sheet in numbers: how many numbers its settings section has, and its sections.
 #[repr(C)]
@@ -130,6 +132,25 @@ pub fn write_told(sheet: StationSheet, out: &mut [u8]) -> ToldCount
     ensures { λ r. ⌜ ToldCounts (writeSheet (sheetOf sheet) (length (now (out .entry)))) (afterWrite (sheetOf sheet) (now (out .entry))) r (now (out .exit)) ⌝ }
 {
     tell_count(writer::write(sheet_of(sheet), out))
+}
+
+// Reads a station sheet and writes it back, by the two calls that C makes: the same bytes, whatever bytes read.
+pub fn write_back_told(bytes: &[u8], out: &mut [u8]) -> ToldCount
+    ensures { λ r. ⌜ ToldCounts (backHanded (now (bytes .entry)) (length (now (out .entry)))) (afterBack (now (bytes .entry)) (now (out .entry))) r
+        (now (out .exit)) ⌝ }
+{
+    field::all_bytes(bytes);
+    let reading = read_told(bytes);
+    let count = 0;
+    if reading.number != 0 {
+        return ToldCount {
+            number: reading.number,
+            place: reading.place,
+            count,
+        };
+    }
+    let sheet = reading.sheet;
+    write_told(sheet, out)
 }
 
 // Fills in the sheet that was read, or refuses it; a refusal writes nothing.

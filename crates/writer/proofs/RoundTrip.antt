@@ -1,19 +1,22 @@
 -- Both round trips between bytes and sheets, as the promises of `read` and `write` give them, and when a sheet is its own canonical form.
 -- Assumes nothing.
 use Prim.Native.Nat.{ℕ, _+_, _*_, _≤_}
+use mathlib.Core.Bool.{true}
 use mathlib.Core.List.{List, _++_}
 use mathlib.Core.Path.{_≡_, refl, sym, ap, _∙_}
-use native.Mathlib.Omega.{arith}
+use lib.Dec.{leb}
 use lib.ListN.{length, take, drop}
 use lib.Seq.{take-at}
+use borrow.Author.Tests.{le-leb}
 use Rattle.kinds.specs.declared.Task.{Task}
 use Rattle.kinds.specs.declared.Granted.{Granted}
 use Rattle.kinds.specs.declared.Sheet.{Sheet}
+use Rattle.kinds.specs.declared.Refusal.the-variants.{OutputTooShort}
 use Rattle.kinds.specs.Limits.{mostSettings, mostTasks}
 use Rattle.kinds.specs.Task.{noTask, at}
 use Rattle.kinds.specs.Policy.{meant}
 use Rattle.kinds.specs.Settings.{fillIns, setting, settingsOf, numbersOf}
-use Rattle.kinds.specs.Answer.{accepted}
+use Rattle.kinds.specs.Answer.{accepted, judged, after}
 use Rattle.kinds.proofs.Numbers.{numbers-back, settings-back, meant-of}
 use Rattle.field.specs.Number.{Bytes, u16At}
 use Rattle.sheet.specs.Sections.{settingSize, taskSize, grantedSize, numbersPlace, recordsPlace, grantedPlace, settingsFit, resultsFit}
@@ -25,10 +28,10 @@ use Rattle.kinds.specs.declared.Counted.{Counted}
 use Rattle.kinds.specs.declared.Counted.the-variants as counted
 use Rattle.kinds.proofs.Answers.{count-one}
 use Rattle.writer.specs.Encode.{encode, lengthOf}
-use Rattle.writer.specs.Writing.{writeSheet, Writes}
+use Rattle.writer.specs.Writing.{writeSheet, afterWrite, Writes}
 use Rattle.writer.specs.Canonical.{settingIn, grantedIn, canonical, SheetHeld}
 use Rattle.writer.proofs.Rows.{encode-long}
-use Rattle.writer.proofs.Answers.{accepts, accepted-after, write-accepts}
+use Rattle.writer.proofs.Answers.{accepts, accepted-after}
 use Rattle.writer.proofs.Back.{back}
 use Rattle.writer.proofs.Forth.{forth}
 
@@ -40,19 +43,35 @@ module _ (s : List ℕ) (bytes : Bytes s) (x : Sheet) (e : readSheet s ≡ accep
   read-length : lengthOf x ≡ length s
   read-length = sym (encode-long x) ∙ ap length read-encode
 
-  -- into any buffer that has the room
+  -- what the writer judges of it
+  read-taken : settingsFit (x .count) ≡ true
+  unfolding sheetIn
+  read-taken = let w = whole s x e in ap (λ (y : Sheet). settingsFit (y .count)) (w .1) ∙ w .0 .settings
+
+  read-few : x .table .n ≤ mostTasks
+  unfolding sheetIn
+  read-few = let w = whole s x e in rw (ap (λ (y : Sheet). y .table .n) (w .1)) (w .0 .few)
+
+  read-fit : resultsFit (x .results .n) (x .table .n) ≡ true
+  unfolding sheetIn
+  read-fit = let w = whole s x e in ap (λ (y : Sheet). resultsFit (y .results .n) (y .table .n)) (w .1) ∙ w .0 .fit
+
+  -- into any buffer: refused by 5 where there is too little room, else the same bytes
+  pub read-handed : (room : ℕ) → writeSheet x room ≡ judged 0 (leb (length s) room) (OutputTooShort (length s)) (accepted (length s))
+  unfolding writeSheet
+  read-handed room = rw (read-taken, le-leb (x .table .n) mostTasks read-few, read-fit, read-length)
+
+  pub read-after : (old : List ℕ) → afterWrite x old ≡ after (writeSheet x (length old)) s (length s) old
+  unfolding afterWrite
+  read-after old = rw (read-encode, read-length)
+
+  -- into one that has the room
   pub read-write : (old new : List ℕ) (r : Counted) → Writes x old r new → length s ≤ length old
       → (r ≡ counted.Count (length s)) × (new ≡ s ++ drop (length s) old)
-  unfolding sheetIn
   read-write old new r p room =
-      let w = whole s x e in
-      let l = read-length in
-      let taken = ap (λ (y : Sheet). settingsFit (y .count)) (w .1) ∙ w .0 .settings in
-      let few : x .table .n ≤ mostTasks = rw (ap (λ (y : Sheet). y .table .n) (w .1)) (w .0 .few) in
-      let fit = ap (λ (y : Sheet). resultsFit (y .results .n) (y .table .n)) (w .1) ∙ w .0 .fit in
-      let a : writeSheet x (length old) ≡ accepted (lengthOf x) = write-accepts x (length old) taken few fit (omega arith) in (
-        count-one r (counted.Count (length s)) (p .answer ∙ (a ∙ ap accepted l)),
-        p .buffer ∙ (accepted-after x old (lengthOf x) a ∙ rw (read-encode, l)),
+      let a : writeSheet x (length old) ≡ accepted (length s) = read-handed (length old) ∙ rw (le-leb (length s) (length old) room) in (
+        count-one r (counted.Count (length s)) (p .answer ∙ a),
+        p .buffer ∙ (read-after old ∙ rw a),
       )
 
 -- writing a sheet and reading it gives its canonical form

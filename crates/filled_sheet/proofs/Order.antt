@@ -1,0 +1,51 @@
+-- "Given exactly when", of the checker of filled sheets: `check-exactly`, whatever it reads; the numbers that it gives are `check-numbers`.
+-- Assumes nothing.
+use Prim.Native.Nat.{ℕ, _≤_}
+use mathlib.Core.List.{List, [], _∷_, _++_}
+use mathlib.Core.Path.{_≡_, refl, ap, _∙_}
+use Rattle.kinds.specs.declared.Sheet.{Sheet}
+use Rattle.kinds.specs.Answer.{Handed, NumberAndPlace, accepted, refused, unrefused}
+use Rattle.kinds.specs.Limits.{mostTasks}
+use Rattle.kinds.specs.Chain.{firstBy, handedBy, Exactly, numbersGiven}
+use Rattle.kinds.proofs.Chains.{exactly, first-then, not-most}
+use Rattle.plain.specs.Asked.{asked}
+use Rattle.sheet.specs.Reading.{noSheet, sheetIn, readSheet}
+use Rattle.sheet.specs.Chain.{readerChain}
+use Rattle.sheet.proofs.Exactly.{reader-chain}
+use Rattle.fill.specs.Chain.{stepFor, plannedChain, programChain}
+use Rattle.fill.proofs.Exactly.{unrefused-chain, rest-only, asked-few, read-few}
+use Rattle.filled_sheet.specs.Checked.{firstDiffering, compared, checkedSheet, checked}
+use Rattle.filled_sheet.specs.Chain.{comparedChain, checkChain}
+
+compared-chain : (x : Sheet) (k : ℕ) → compared x k ≡ handedBy tt tt (comparedChain x k)
+unfolding compared firstBy
+compared-chain x k = rw (← not-most (x .table .n) (x .results .n), ← not-most (x .table .n) (firstDiffering x k))
+
+-- a sheet that reads: the plain finder's refusals, and then the results
+sheet-chain : (x : Sheet) → x .table .n ≤ mostTasks → checkedSheet x ≡ handedBy tt tt (plannedChain x ++ comparedChain x (stepFor x))
+unfolding checkedSheet
+sheet-chain x few =
+    let k = stepFor x in
+    ap (λ (h : Handed ℕ). unrefused tt h (compared x)) (asked-few x few)
+    ∙ (unrefused-chain tt 0 k (compared x) (plannedChain x)
+    ∙ (ap (λ (last : NumberAndPlace). firstBy (refused tt) last (plannedChain x)) (compared-chain x k)
+    ∙ first-then (refused tt) (accepted tt) (plannedChain x) (comparedChain x k)))
+
+module _ (s : List ℕ) where
+  check-chain : checked s ≡ handedBy tt tt (checkChain s)
+  unfolding checked
+  check-chain =
+      let x = sheetIn s in
+      let chain = plannedChain x ++ comparedChain x (stepFor x) in
+      ap (λ (h : Handed Sheet). unrefused tt h checkedSheet) (reader-chain s)
+      ∙ (unrefused-chain tt noSheet x checkedSheet (readerChain s)
+      ∙ (rest-only (refused tt) (checkedSheet x) (handedBy tt tt chain) (readerChain s) (λ none. sheet-chain x (read-few s none))
+      ∙ first-then (refused tt) (accepted tt) (readerChain s) chain))
+
+  -- the reader's numbers from the left, then the plain finder's, then 18 and 19 are given exactly when their sentences hold first
+  pub check-exactly : Exactly (checkChain s) tt tt (checked s)
+  check-exactly = exactly (checkChain s) tt tt (checked s) check-chain
+
+  -- "Reader and finder refusals come first, then 18 .., then 19"
+  pub check-numbers : numbersGiven (checkChain s) ≡ 8 ∷ 9 ∷ 8 ∷ 3 ∷ 8 ∷ 10 ∷ 8 ∷ 11 ∷ 1 ∷ 15 ∷ 2 ∷ 6 ∷ 7 ∷ 18 ∷ 19 ∷ []
+  check-numbers = refl
