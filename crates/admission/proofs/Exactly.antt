@@ -48,6 +48,7 @@ module _ (serves : Bool) (s : Settings) (rows : List Task) (n room : ℕ) where
   pub admission-exactly : Exactly (admissionChain serves s rows n room) tt tt (handedVerdict (admission serves s rows n room))
   admission-exactly = verdict-exactly (admissionChain serves s rows n room) (admission serves s rows n room) admission-chain
 
+  -- its numbers, in their order
   pub admission-numbers : numbersGiven (admissionChain serves s rows n room) ≡ 1 ∷ 15 ∷ 2 ∷ 3 ∷ 4 ∷ 5 ∷ 6 ∷ []
   admission-numbers = refl
 

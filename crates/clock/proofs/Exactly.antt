@@ -16,6 +16,7 @@ pub start-exactly : (periods : List ℕ) (tick : ℕ) → Exactly (startChain pe
 unfolding started firstBy
 start-exactly periods tick = exactly (startChain periods) noClock (clockFrom periods tick) (started periods tick) refl
 
+-- the numbers of a start, in their order
 pub start-numbers : (periods : List ℕ) → numbersGiven (startChain periods) ≡ 3 ∷ 17 ∷ []
 start-numbers periods = refl
 
@@ -24,5 +25,6 @@ pub call-exactly : (c : Clock) (present : ℕ) → Exactly (callChain c) [] (lat
 unfolding released firstBy
 call-exactly c present = exactly (callChain c) [] (latest (lateAt c present) (c .n)) (released c present) refl
 
+-- the number of a call
 pub call-numbers : (c : Clock) → numbersGiven (callChain c) ≡ 3 ∷ []
 call-numbers c = refl

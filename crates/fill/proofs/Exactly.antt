@@ -61,6 +61,7 @@ asked-few x few =
     let after : List Check = BadRecord bad when ltb bad n ∷ NoStepPasses when nonePasses (leastUnder s (x .table .rows) n) ∷ [] in
     asked-chain x ∙ first-without (refused 0) (accepted (stepFor x)) before three after (le-ltb mostTasks n few)
 
+-- what is written for a sheet with at most 32 tasks
 sheet-chain : (x : Sheet) → x .table .n ≤ mostTasks → plannedSheet x ≡ handedBy [] (bytesFor x) (plannedChain x)
 unfolding plannedSheet
 sheet-chain x few =
@@ -73,6 +74,7 @@ module _ (s : List ℕ) where
   unfolding sheetIn
   read-few none = ltb-false mostTasks (taskCount s) (none 3 (omega arith))
 
+  -- the program is its chain
   program-chain : planned s ≡ handedBy [] (bytesFor (sheetIn s)) (programChain s)
   unfolding planned
   program-chain =
@@ -87,5 +89,6 @@ module _ (s : List ℕ) where
   pub program-exactly : Exactly (programChain s) [] (bytesFor (sheetIn s)) (planned s)
   program-exactly = exactly (programChain s) [] (bytesFor (sheetIn s)) (planned s) program-chain
 
+  -- its numbers, in their order
   pub program-numbers : numbersGiven (programChain s) ≡ 8 ∷ 9 ∷ 8 ∷ 3 ∷ 8 ∷ 10 ∷ 8 ∷ 11 ∷ 1 ∷ 15 ∷ 2 ∷ 6 ∷ 7 ∷ []
   program-numbers = refl

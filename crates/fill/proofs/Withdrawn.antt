@@ -20,13 +20,16 @@ use Rattle.fill.proofs.Readings.{planned-accepted, filled-refused}
 
 -- every sheet that reads and has policy 3, a further choice that holds 3 too
 module _ (s : List ℕ) (x : Sheet) (read : readSheet s ≡ accepted x) (three : policyNumber (x .settings .policy) ≡ 3) where
+  -- the plain finder refuses it
   sheet-withdrawn : plannedSheet x ≡ refused [] PolicyWithdrawn
   unfolding plannedSheet
   sheet-withdrawn = sym (comes-first [] (asked x) (λ k. accepted (encode (withPlan x k))) 0 PolicyWithdrawn (asked-withdrawn x three))
 
+  -- nothing is written but the line
   pub withdrawn-planned : planned s ≡ refused [] PolicyWithdrawn
   withdrawn-planned = planned-accepted s x read ∙ sheet-withdrawn
 
+  -- the line is that of 15 at 0
   pub withdrawn-line : filled s ≡ refusalLine 15 0
   withdrawn-line = filled-refused s PolicyWithdrawn withdrawn-planned
 

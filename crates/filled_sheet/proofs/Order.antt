@@ -17,6 +17,7 @@ use Rattle.fill.proofs.Exactly.{unrefused-chain, rest-only, asked-few, read-few
 use Rattle.filled_sheet.specs.Checked.{firstDiffering, compared, checkedSheet, checked}
 use Rattle.filled_sheet.specs.Chain.{comparedChain, checkChain}
 
+-- the results are compared by 18 and then 19
 compared-chain : (x : Sheet) (k : ℕ) → compared x k ≡ handedBy tt tt (comparedChain x k)
 unfolding compared firstBy
 compared-chain x k = rw (← not-most (x .table .n) (x .results .n), ← not-most (x .table .n) (firstDiffering x k))
@@ -32,6 +33,7 @@ sheet-chain x few =
     ∙ first-then (refused tt) (accepted tt) (plannedChain x) (comparedChain x k)))
 
 module _ (s : List ℕ) where
+  -- the checker is its chain
   check-chain : checked s ≡ handedBy tt tt (checkChain s)
   unfolding checked
   check-chain =

@@ -24,6 +24,7 @@ changed-chain : (chain : List Check) (old new : Kept) → changed (firstOf chain
 changed-chain chain old new = first-through (λ v. changed v old new) Refused Accepted chain
 
 module _ (w q : ℕ) (k : Kept) (t : Task) where
+  -- a join is its chain
   join-chain : joined w q k t
       ≡ handedBy k (fresh w (joinedRows (k .table .rows) (k .table .n) t) (k .table .n + 1)) (joinChain w q (k .table .rows) (k .table .n) t)
   unfolding joined mayJoin firstBy
@@ -34,6 +35,7 @@ module _ (w q : ℕ) (k : Kept) (t : Task) where
       (fresh w (joinedRows (k .table .rows) (k .table .n) t) (k .table .n + 1)) (joined w q k t)
   join-exactly = exactly (joinChain w q (k .table .rows) (k .table .n) t) k _ (joined w q k t) join-chain
 
+-- the numbers of a join, in their order
 pub join-numbers : (w q : ℕ) (rows : List Task) (n : ℕ) (t : Task) → numbersGiven (joinChain w q rows n t) ≡ 2 ∷ 3 ∷ 6 ∷ []
 join-numbers w q rows n t = refl
 
@@ -45,6 +47,7 @@ last-two true missing first place = refl
 last-two false missing first place = refl
 
 module _ (w q : ℕ) (k : Kept) (place : ℕ) where
+  -- a leave may be made where its chain says so
   may-leave-chain : mayLeave w q (k .table .rows) (k .table .n) place ≡ firstOf (leaveChain w q (k .table .rows) (k .table .n) place)
   unfolding mayLeave firstBy
   may-leave-chain =
@@ -52,6 +55,7 @@ module _ (w q : ℕ) (k : Kept) (place : ℕ) where
       let first = firstBad w q (k .table .rows) n in
       rw (last-two (ltb first n) (leb n place) first place)
 
+  -- a leave is its chain
   leave-chain : left w q k place
       ≡ handedBy k (fresh w (leftRows (k .table .rows) (k .table .n) place) (k .table .n - 1)) (leaveChain w q (k .table .rows) (k .table .n) place)
   unfolding left
@@ -64,5 +68,6 @@ module _ (w q : ℕ) (k : Kept) (place : ℕ) where
       (fresh w (leftRows (k .table .rows) (k .table .n) place) (k .table .n - 1)) (left w q k place)
   leave-exactly = exactly (leaveChain w q (k .table .rows) (k .table .n) place) k _ (left w q k place) leave-chain
 
+-- the numbers of a leave, in their order
 pub leave-numbers : (w q : ℕ) (rows : List Task) (n place : ℕ) → numbersGiven (leaveChain w q rows n place) ≡ 2 ∷ 3 ∷ 6 ∷ 12 ∷ []
 leave-numbers w q rows n place = refl

@@ -134,13 +134,15 @@ import-exactly text room =
     exactly (importChain text room) 0 (length (rowsOf (readText text))) (carryRows (readText text) room)
     (carried (readText text) (ltb (firstBadLine text) mostTasks) (ltb (lineStart text mostTasks) (length text)) (firstBadLine text) room (reading-is text))
 
+-- the numbers of an import, in their order
 pub import-numbers : (text : List ℕ) (room : ℕ) → numbersGiven (importChain text room) ≡ 16 ∷ 3 ∷ 5 ∷ []
 import-numbers text room = refl
 
--- 3 and 5 of an export
+-- 3 and 5 of an export are given exactly when their sentences hold, the earlier first
 pub export-exactly : (rows : List Task) (n room : ℕ) → Exactly (exportChain rows n room) 0 (length (textTo rows n)) (exportHanded rows n room)
 unfolding exportHanded firstBy
 export-exactly rows n room = exactly (exportChain rows n room) 0 (length (textTo rows n)) (exportHanded rows n room) refl
 
+-- the numbers of an export, in their order
 pub export-numbers : (rows : List Task) (n room : ℕ) → numbersGiven (exportChain rows n room) ≡ 3 ∷ 5 ∷ []
 export-numbers rows n room = refl

@@ -26,6 +26,7 @@ unfoldable pub lineStart : List ℕ → ℕ → ℕ
 lineStart s zero = 0
 lineStart s (suc i) = pick (ltb (lineStart s i) (length s)) (afterIt (lineAt s (lineStart s i)) (length s)) (lineStart s i)
 
+-- a line that is bad
 abbrev pub isBad : Line → Bool
 isBad (line.Row t next) = false
 isBad line.Bad = true

@@ -38,6 +38,7 @@ not-among k (n ∷ ns) h m =
     ⊎-elim (λ e. true-false (b .0) (rw (eq-eqb k n e))) (λ r. not-among k ns (b .1) r) (List·Memᴰ·cases-cons m)
 
 module _ (x : Sheet) where
+  -- room for as many entries as there are tasks is never too short, so 5 may be left out
   pub asked-chain : asked x ≡ handedBy 0 (stepIn (leastUnder (x .settings) (x .table .rows) (x .table .n))) (askedChain x)
   unfolding asked
   asked-chain =
@@ -60,6 +61,7 @@ module _ (x : Sheet) where
   pub asked-exactly : Exactly (askedChain x) 0 (stepIn (leastUnder (x .settings) (x .table .rows) (x .table .n))) (asked x)
   asked-exactly = exactly (askedChain x) 0 (stepIn (leastUnder (x .settings) (x .table .rows) (x .table .n))) (asked x) asked-chain
 
+  -- the numbers, in their order
   pub asked-numbers : numbersGiven (askedChain x) ≡ 1 ∷ 15 ∷ 2 ∷ 3 ∷ 6 ∷ 7 ∷ []
   asked-numbers = refl
 

@@ -39,6 +39,7 @@ use Rattle.plan.specs.Chain.{nonePasses, stepIn, plainChain, quickChain}
 abbrev pub seven : Step → List Check
 seven step = NoStepPasses when nonePasses step ∷ []
 
+-- an admitted call is answered by the search for a step
 last-check : (step : Step) → decided Accepted step ≡ handedBy 0 (stepIn step) (seven step)
 unfolding firstBy
 last-check (At k) = refl
@@ -61,6 +62,7 @@ unserved true = refl
 unserved false = refl
 
 module _ (s : Settings) (rows : List Task) (n room : ℕ) where
+  -- a finder is its admission's chain and then 7
   found-chain : (serves : Bool) → found serves s rows n room
       ≡ handedBy 0 (stepIn (leastUnder s rows n)) (admissionChain serves s rows n room ++ seven (leastUnder s rows n))
   unfolding found
@@ -68,6 +70,7 @@ module _ (s : Settings) (rows : List Task) (n room : ℕ) where
       ap (λ (v : Verdict). decided v (leastUnder s rows n)) (admission-chain serves s rows n room)
       ∙ decided-chain (admissionChain serves s rows n room) (leastUnder s rows n)
 
+  -- the plain finder serves policy 4, so 4 may be left out
   pub plain-chain : found true s rows n room ≡ handedBy 0 (stepIn (leastUnder s rows n)) (plainChain s rows n room)
   plain-chain =
       let p = meant (s .policy) in
@@ -83,6 +86,7 @@ module _ (s : Settings) (rows : List Task) (n room : ℕ) where
       let after : List Check = OutputTooShort n when ltb room n ∷ BadRecord bad when ltb bad n ∷ seven step in
       found-chain true ∙ first-without (refused 0) (accepted (stepIn step)) before four after (served-never (isFirstFit p))
 
+  -- the quick finder does not
   pub quick-chain : found false s rows n room ≡ handedBy 0 (stepIn (leastUnder s rows n)) (quickChain s rows n room)
   quick-chain =
       let p = meant (s .policy) in
@@ -104,6 +108,7 @@ module _ (s : Settings) (rows : List Task) (n room : ℕ) where
   pub plain-exactly : Exactly (plainChain s rows n room) 0 (stepIn (leastUnder s rows n)) (found true s rows n room)
   plain-exactly = exactly (plainChain s rows n room) 0 (stepIn (leastUnder s rows n)) (found true s rows n room) plain-chain
 
+  -- its numbers, in their order
   pub plain-numbers : numbersGiven (plainChain s rows n room) ≡ 1 ∷ 15 ∷ 2 ∷ 3 ∷ 5 ∷ 6 ∷ 7 ∷ []
   plain-numbers = refl
 
@@ -111,11 +116,13 @@ module _ (s : Settings) (rows : List Task) (n room : ℕ) where
   pub quick-exactly : Exactly (quickChain s rows n room) 0 (stepIn (leastUnder s rows n)) (found false s rows n room)
   quick-exactly = exactly (quickChain s rows n room) 0 (stepIn (leastUnder s rows n)) (found false s rows n room) quick-chain
 
+  -- its numbers, in their order
   pub quick-numbers : numbersGiven (quickChain s rows n room) ≡ 1 ∷ 15 ∷ 2 ∷ 3 ∷ 4 ∷ 5 ∷ 6 ∷ 7 ∷ []
   quick-numbers = refl
 
--- so it is of every answer that meets the promise of a finder's call
+-- the same of every answer that meets a finder's promise
 module _ (s : Settings) (rows : List Task) (n : ℕ) (oldPeriods oldProcessors periods processors : List ℕ) (answer : Answer) where
+  -- the plain finder's
   pub plain-answers : Meets (outcome true s rows n oldPeriods oldProcessors) answer periods processors
       → Exactly (plainChain s rows n (min (length oldPeriods) (length oldProcessors))) 0 (stepIn (leastUnder s rows n)) (handed answer)
   unfolding outcome
@@ -123,6 +130,7 @@ module _ (s : Settings) (rows : List Task) (n : ℕ) (oldPeriods oldProcessors p
       let room = min (length oldPeriods) (length oldProcessors) in
       exactly (plainChain s rows n room) 0 (stepIn (leastUnder s rows n)) (handed answer) (x .answers ∙ plain-chain s rows n room)
 
+  -- the quick finder's
   pub quick-answers : Meets (outcome false s rows n oldPeriods oldProcessors) answer periods processors
       → Exactly (quickChain s rows n (min (length oldPeriods) (length oldProcessors))) 0 (stepIn (leastUnder s rows n)) (handed answer)
   unfolding outcome
@@ -130,16 +138,19 @@ module _ (s : Settings) (rows : List Task) (n : ℕ) (oldPeriods oldProcessors p
       let room = min (length oldPeriods) (length oldProcessors) in
       exactly (quickChain s rows n room) 0 (stepIn (leastUnder s rows n)) (handed answer) (x .answers ∙ quick-chain s rows n room)
 
--- the sentence of 7 in the document's words, both ways
+-- there is no least passing step
 pub passes-none : (step : Step) → nonePasses step ≡ true → step ≡ Nothing
 passes-none (At k) e = true-false e refl
 passes-none Nothing e = refl
 
+-- the sentence of 7 in the document's words, both ways
 module _ (s : Settings) (rows : List Task) (n : ℕ) where
+  -- where it holds no step from 0 to K passes
   pub none-passes : nonePasses (leastUnder s rows n) ≡ true
       → (k : ℕ) → k ≤ fullUnder s rows n → passesAt (meant (s .policy)) (s .m) (loadsUnder s rows n) n k ≡ false
   none-passes e = step-nothing (meant (s .policy)) (s .m) (loadsUnder s rows n) n (fullUnder s rows n) (passes-none (leastUnder s rows n) e)
 
+  -- and where none passes it holds
   pub passes-nowhere : ((k : ℕ) → k ≤ fullUnder s rows n → passesAt (meant (s .policy)) (s .m) (loadsUnder s rows n) n k ≡ false)
       → nonePasses (leastUnder s rows n) ≡ true
   unfolding leastStep

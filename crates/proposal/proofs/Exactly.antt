@@ -21,6 +21,7 @@ use Rattle.proposal.specs.Proposal.{placeIn, admission, placing, judged,
 use Rattle.proposal.specs.Chain.{proposalChain}
 
 module _ (s : Settings) (rows : List Task) (n k : ℕ) (proposal : List ℕ) where
+  -- every check of a proposal is in its chain
   judged-chain : (room : ℕ) → judged s rows n k proposal room ≡ firstOf (proposalChain s rows n k proposal room)
   unfolding judged admission placing gate firstBy
   judged-chain room =
@@ -43,5 +44,6 @@ module _ (s : Settings) (rows : List Task) (n k : ℕ) (proposal : List ℕ) whe
   proposal-exactly old =
       verdict-exactly (proposalChain s rows n k proposal (length old)) (judged s rows n k proposal (length old)) (judged-chain (length old))
 
+  -- its numbers, in their order
   pub proposal-numbers : (room : ℕ) → numbersGiven (proposalChain s rows n k proposal room) ≡ 2 ∷ 3 ∷ 5 ∷ 5 ∷ 6 ∷ 13 ∷ 14 ∷ []
   proposal-numbers room = refl

@@ -12,6 +12,7 @@ use Rattle.sheet.specs.Reading.{noSheet, settingsCount, taskCount, endOf
 use Rattle.sheet.specs.Chain.{readerChain}
 
 module _ (s : List ℕ) where
+  -- the reader is its chain
   pub reader-chain : readSheet s ≡ handedBy noSheet (sheetIn s) (readerChain s)
   unfolding readSheet readRows firstBy
   reader-chain =

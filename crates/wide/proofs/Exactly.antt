@@ -32,6 +32,7 @@ module _ (m : ℕ) (rows : List WideTask) (n room : ℕ) where
       ∷ BadRecord bad when ltb bad n
       ∷ []
 
+  -- the admission is that chain
   admission-chain : admission m rows n room ≡ firstOf admissionChain
   unfolding admission gate firstBy
   admission-chain =
@@ -41,6 +42,7 @@ module _ (m : ℕ) (rows : List WideTask) (n room : ℕ) where
       let six : List Check = BadRecord bad when ltb bad n ∷ [] in
       ap (λ (v : Verdict). andThen v (firstOf six)) (then-first two five) ∙ then-first (two ++ five) six
 
+  -- and the finder goes on with 7
   wide-chain : found m rows n room ≡ handedBy 0 (stepIn (leastStep m rows n)) (wideChain m rows n room)
   unfolding found
   wide-chain = ap (λ (v : Verdict). decided v (leastStep m rows n)) admission-chain ∙ decided-chain admissionChain (leastStep m rows n)
@@ -55,8 +57,10 @@ module _ (m : ℕ) (rows : List WideTask) (n room : ℕ) where
 
 -- the sentence of 7 in the document's words, both ways
 module _ (m : ℕ) (rows : List WideTask) (n : ℕ) where
+  -- where it holds no step from 0 to K passes
   pub none-passes : nonePasses (leastStep m rows n) ≡ true → (k : ℕ) → k ≤ fullCompression rows n → passesAt m rows n k ≡ false
   none-passes e = step-nothing m rows n (passes-none (leastStep m rows n) e)
 
+  -- and where none passes it holds
   pub passes-nowhere : ((k : ℕ) → k ≤ fullCompression rows n → passesAt m rows n k ≡ false) → nonePasses (leastStep m rows n) ≡ true
   passes-nowhere h = ap nonePasses (nothing-passes m rows n h)

@@ -14,6 +14,7 @@ use Rattle.writer.specs.Writing.{writeSheet}
 use Rattle.writer.specs.Chain.{writerChain}
 
 module _ (x : Sheet) (room : ℕ) where
+  -- the writer is its chain
   writer-chain : writeSheet x room ≡ handedBy 0 (lengthOf x) (writerChain x room)
   unfolding writeSheet firstBy
   writer-chain = rw (← not-most (x .table .n) mostTasks, ← not-most (lengthOf x) room)
