@@ -48,7 +48,11 @@ struct eelbasket_task { uint32_t c, tmin, tmax, e; };
  * in ticks, the notch in ticks, and the edition. Each job pays for being swapped in and out, so every C in shares and periods is read as
  * C + 2w. Each period is a multiple of q, which is 1 where every tick can be timed, and never 0. Edition 1 tests and places tasks by their
  * shares, edition 2 by what the period granted at the step charges them, (C + 2w) * S / period rounded up; the periods and full compression
- * go by the shares in both. */
+ * go by the shares in both.
+ *
+ * Each policy is for a kernel of its own, under which no job that follows the plan misses its deadline (docs/AUDIT.md): 1 on one processor,
+ * and 4 on each processor by itself, run the earliest deadline first; 2 runs the m earliest; 5 runs the shortest period first; and 1 on more
+ * than one processor is fluid, it gives each job its share of a processor in every tick. Global EDF misses deadlines under some such plans. */
 struct eelbasket_station { uint16_t policy, m, w, q, edition; };
 
 /* ---- The finders and the margin ---- */

@@ -56,7 +56,7 @@ pub struct Granted {
 /// How the tasks are scheduled.
 #[derive(Clone, Copy, Debug, PartialEq, Eq, Hash)]
 pub enum Policy {
-    /// 1: pooled; on one processor EDF.
+    /// 1: pooled: EDF on one processor; on more a fluid kernel, since global EDF misses deadlines under some of its plans.
     Pooled,
     /// 2: global EDF.
     GlobalEdf,

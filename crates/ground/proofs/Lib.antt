@@ -4,6 +4,7 @@ pub mod Folds
 pub mod Tests
 pub mod Sums
 pub mod Totals
+pub mod Products
 pub mod Buffer
 pub mod Padding
 pub mod First

@@ -1,6 +1,6 @@
 -- Folds over the numbers below n, each of a function of the number.
 -- Assumes nothing.
-use Prim.Native.Nat.{ℕ, zero, suc, _+_, max}
+use Prim.Native.Nat.{ℕ, zero, suc, _+_, _*_, max}
 use mathlib.Core.Bool.{Bool, false}
 use mathlib.Core.List.{List, [], _∷_, _++_}
 use Rattle.ground.specs.Choice.{bit, either}
@@ -8,6 +8,11 @@ use Rattle.ground.specs.Choice.{bit, either}
 unfoldable pub sumTo : (ℕ → ℕ) → ℕ → ℕ
 sumTo f zero = 0
 sumTo f (suc n) = sumTo f n + f n
+
+-- the product of none is 1
+unfoldable pub prodTo : (ℕ → ℕ) → ℕ → ℕ
+prodTo f zero = 1
+prodTo f (suc n) = prodTo f n * f n
 
 -- the max of none is 0
 unfoldable pub maxTo : (ℕ → ℕ) → ℕ → ℕ

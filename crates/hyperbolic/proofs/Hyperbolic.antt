@@ -7,17 +7,16 @@ use native.Mathlib.Nat.{lt-div-mul-add, le-div-iff-mul-le, div-mul-le-self, div-
 use native.Mathlib.Omega.{arith}
 use lib.Dec.{leb}
 use borrow.Author.Tests.{lt-ltb, le-ltb, le-leb, leb-true, leb-false}
-use Rattle.ground.specs.Folds.{sumTo}
+use Rattle.ground.specs.Folds.{sumTo, prodTo}
 use Rattle.ground.specs.Rounding.{ceilDiv}
 use Rattle.ground.proofs.Cases.{by-bool, by-le}
 use Rattle.ground.proofs.Folds.{sum-le, sum-cong}
 use Rattle.ground.proofs.Rounding.{ceil-least}
 use Rattle.ground.proofs.Sums.{sum-plus}
 use Rattle.ground.proofs.Tests.{by-all}
-use Rattle.hyperbolic.specs.Product.{prodTo}
+use Rattle.ground.proofs.Products.{prod-le, prod-cong, power-some}
 use Rattle.hyperbolic.specs.Bounds.{WithinHyperbolic}
 use Rattle.hyperbolic.specs.Demand.{amongShort, released, demand}
-use Rattle.hyperbolic.proofs.Products.{prod-le, prod-cong, power-some}
 use Rattle.hyperbolic.proofs.Staircase.{addedBy, sumBy, productBy, strict-step, climbs}
 
 -- the last multiple of the period that is at most T

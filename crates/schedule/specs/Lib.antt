@@ -1,3 +1,4 @@
 pub mod Jobs
 pub mod Schedule
 pub mod Periodic
+pub mod Change

@@ -21,6 +21,10 @@ pub record Pending (jobs : Jobs) (runs : Schedule) (t i j : ℕ) : Type 0 where
   pub released : jobs .release i j ≤ t
   pub unfinished : done runs i j t < jobs .need i j
 
+-- what runs is a released job of a task
+abbrev pub OnlyReleased : Jobs → Schedule → Type 0
+OnlyReleased jobs runs = (t i j : ℕ) → runs t i j ≡ true → (i < jobs .tasks) × (jobs .release i j ≤ t)
+
 -- what runs is a pending job of a task
 abbrev pub OnlyPending : Jobs → Schedule → Type 0
 OnlyPending jobs runs = (t i j : ℕ) → runs t i j ≡ true → (i < jobs .tasks) × Pending jobs runs t i j

@@ -12,9 +12,9 @@ use Rattle.ground.proofs.Totals.{total-le}
 use Rattle.schedule.specs.Jobs.{Jobs}
 use Rattle.schedule.specs.Schedule.{Pending, OnlyPending, running}
 use Rattle.turns.specs.Rule.{isPending, workBy, scheduleBy}
-use Rattle.turns.specs.Ranked.{Turns, countBefore, rankOf, chosen, ranked, Distinct}
+use Rattle.turns.specs.Ranked.{Turns, countBefore, isTaken, chosen, ranked, Distinct}
 use Rattle.turns.proofs.Rules.{pending-found, pending-passes}
-use Rattle.turns.proofs.Ranks.{taken, taken-all, taken-most}
+use Rattle.turns.proofs.Ranks.{taken-all, taken-most}
 
 -- a pending job that is not chosen has m before it
 not-few : (waits few : Bool) → waits ≡ true → both waits few ≡ false → few ≡ false
@@ -37,11 +37,11 @@ module _ (turn : Turns) (m : ℕ) (jobs : Jobs) where
 
     -- and those of them that are taken
     takes : ℕ → ℕ → Bool
-    takes = taken (jobs .tasks) (suc t) (turn t) waits m
+    takes = isTaken (jobs .tasks) (suc t) (turn t) waits m
 
     -- what runs is what is taken
     run-is : (i : ℕ) → i < jobs .tasks → (j : ℕ) → ranked turn m jobs t i j ≡ takes i j
-    unfolding takes scheduleBy rankOf
+    unfolding takes scheduleBy
     run-is i l j = rw (lt-ltb i (jobs .tasks) l)
 
     -- at most m run

@@ -10,7 +10,7 @@ use Rattle.ground.specs.Choice.{bit, both}
 use Rattle.ground.specs.Total.{total}
 use Rattle.ground.proofs.Cases.{by-bool, by-le, by-eq, both-true}
 use Rattle.ground.proofs.Totals.{total-le, total-line, term-le-total, total-one, total-none}
-use Rattle.turns.specs.Ranked.{countBefore}
+use Rattle.turns.specs.Ranked.{countBefore, isTaken}
 
 -- a turn before the next one is before this one or is this one
 turn-next : (test : Bool) (x k : ℕ) → bit (both test (ltb x (suc k))) ≡ bit (both test (ltb x k)) + 1 * bit (both test (eqb x k))
@@ -46,8 +46,8 @@ module _ (tasks jobs : ℕ) (turn : ℕ → ℕ → ℕ) (test : ℕ → ℕ →
   here k = total tasks jobs (λ i j. bit (both (test i j) (eqb (turn i j) k)))
 
   -- those that fewer than m come before
-  abbrev pub taken : ℕ → ℕ → Bool
-  taken i j = both (test i j) (ltb (countBefore tasks jobs turn test (turn i j)) m)
+  abbrev taken : ℕ → ℕ → Bool
+  taken = isTaken tasks jobs turn test m
 
   -- one more comes before the next turn where there is a job with this one
   rank-next : (k : ℕ) → rank (suc k) ≡ rank k + 1 * here k

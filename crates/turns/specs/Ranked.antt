@@ -8,7 +8,7 @@ use Rattle.ground.specs.Choice.{bit, both}
 use Rattle.ground.specs.Total.{total}
 use Rattle.schedule.specs.Jobs.{Jobs}
 use Rattle.schedule.specs.Schedule.{Schedule}
-use Rattle.turns.specs.Rule.{Work, Rule, isPending, scheduleBy}
+use Rattle.turns.specs.Rule.{Rule, isPending, scheduleBy}
 
 -- the turn of job j of task i in tick t: `turn t i j`
 abbrev pub Turns : Type 0
@@ -18,13 +18,13 @@ Turns = ℕ → ℕ → ℕ → ℕ
 abbrev pub countBefore : ℕ → ℕ → (ℕ → ℕ → ℕ) → (ℕ → ℕ → Bool) → ℕ → ℕ
 countBefore tasks jobs turn test before = total tasks jobs (λ i j. bit (both (test i j) (ltb (turn i j) before)))
 
--- how many pending jobs come before a turn in tick t
-unfoldable pub rankOf : Turns → Jobs → Work → ℕ → ℕ → ℕ
-rankOf turn jobs work t before = countBefore (jobs .tasks) (suc t) (turn t) (isPending jobs work t) before
+-- of the jobs at which a test holds, those that fewer than m come before
+abbrev pub isTaken : ℕ → ℕ → (ℕ → ℕ → ℕ) → (ℕ → ℕ → Bool) → ℕ → ℕ → ℕ → Bool
+isTaken tasks jobs turn test m i j = both (test i j) (ltb (countBefore tasks jobs turn test (turn i j)) m)
 
--- those that fewer than m come before are to run
+-- of the pending jobs these are to run
 abbrev pub chosen : Turns → ℕ → Jobs → Rule
-chosen turn m jobs work t i j = both (ltb i (jobs .tasks)) (both (isPending jobs work t i j) (ltb (rankOf turn jobs work t (turn t i j)) m))
+chosen turn m jobs work t i j = both (ltb i (jobs .tasks)) (isTaken (jobs .tasks) (suc t) (turn t) (isPending jobs work t) m i j)
 
 -- the schedule
 abbrev pub ranked : Turns → ℕ → Jobs → Schedule

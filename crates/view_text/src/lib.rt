@@ -2,6 +2,7 @@
 // refused. All of it comes from proved calls: the reader, the plain finder, the margin and both checkers. The text is tested and not promised.
 use kinds::Answer;
 use kinds::Margin;
+use kinds::Policy;
 use kinds::Refusal;
 use kinds::Settings;
 use kinds::Share;
@@ -56,6 +57,21 @@ fn put_margin(out: &mut [u8], at: usize, margin: Margin, step: u32) -> usize {
     text::words(out, left, b" parts of 1,000,000\n")
 }
 
+// Which kernel a pooled plan on more than one processor is for: global EDF does not carry it (`pooled-late` of `met`).
+fn put_kernel(out: &mut [u8], at: usize, policy: Policy, m: u16) -> usize {
+    let Policy::Pooled = policy else {
+        return at;
+    };
+    if m < 2 {
+        return at;
+    }
+    text::words(
+        out,
+        at,
+        b"for a fluid kernel: global EDF may miss deadlines of this plan\n",
+    )
+}
+
 // What a plan leaves free: by processor under first fit, and otherwise the margin.
 fn put_room(
     out: &mut [u8],
@@ -70,7 +86,8 @@ fn put_room(
     if asked.is_first_fit() {
         return put_loads(out, at, table, settings, step, processors);
     }
-    put_margin(out, at, margin::margin_at(table, settings, step), step)
+    let margined = put_margin(out, at, margin::margin_at(table, settings, step), step);
+    put_kernel(out, margined, asked, settings.m)
 }
 
 // The number of the first reason for which a record that is not good is so; none where q is 0, which is refused before.

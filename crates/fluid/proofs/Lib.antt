@@ -1,0 +1,4 @@
+pub mod Deadlines
+pub mod Line
+pub mod Shared
+pub mod Exists

@@ -1,0 +1,3 @@
+pub mod Fluid
+pub mod Parts
+pub mod Wrapped
