@@ -25,7 +25,7 @@ module _ (s : List ℕ) (x : Sheet) (read : readSheet s ≡ accepted x) (three :
   unfolding plannedSheet
   sheet-withdrawn = sym (comes-first [] (asked x) (λ k. accepted (encode (withPlan x k))) 0 PolicyWithdrawn (asked-withdrawn x three))
 
-  -- nothing is written but the line
+  -- it is refused by 15, with no bytes of a sheet
   pub withdrawn-planned : planned s ≡ refused [] PolicyWithdrawn
   withdrawn-planned = planned-accepted s x read ∙ sheet-withdrawn
 
