@@ -15,12 +15,11 @@ use Rattle.kinds.proofs.Records.{table-at}
 use Rattle.proposal.specs.Proposal as proposal
 use Rattle.rows.proofs.Bridge.{outcome-over, proposal-over}
 use Rattle.office.proofs.Answers.{handed-same, after-same}
+use Rattle.told_numbers.specs.declared.ToldVerdict.{ToldVerdict}
+use Rattle.told_numbers.specs.declared.ToldCount.{ToldCount}
 use Rattle.told.specs.declared.Told.{Told}
-use Rattle.told.specs.declared.verdicts.ToldVerdict.{ToldVerdict}
-use Rattle.told_sheets.specs.declared.ToldCount.{ToldCount}
-use Rattle.told.specs.Told.{ToldMeets, ToldLooked}
-use Rattle.told.specs.Verdicts.{ToldProposal}
-use Rattle.told_sheets.specs.Texts.{ToldExports}
+use Rattle.told.specs.Told.{ToldMeets, ToldLooked, ToldProposal}
+use Rattle.told_texts.specs.Texts.{ToldExports}
 
 module _ (s : Settings) (rows : List Task) (periods processors : List ℕ) (r : Told) (ps qs : List ℕ) where
   pub told-meets-over : ToldMeets (outcome true s (tableOf rows .rows) (length rows) periods processors) r ps qs

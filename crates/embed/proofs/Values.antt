@@ -2,16 +2,16 @@
 -- Assumes nothing.
 use mathlib.Core.Path.{refl}
 use Rattle.walk.proofs.Thin.{Valued, of-struct}
-use Rattle.told.proofs.Station as S
-use Rattle.told.proofs.Station.Laws as S′
+use Rattle.told_numbers.proofs.Station as S
+use Rattle.told_numbers.proofs.Station.Laws as S′
 use Rattle.told.proofs.Told as T
 use Rattle.told.proofs.Told.Laws as T′
 use Rattle.told.proofs.ToldMargin as M
 use Rattle.told.proofs.ToldMargin.Laws as M′
-use Rattle.told.proofs.verdicts.ToldVerdict as W
-use Rattle.told.proofs.verdicts.ToldVerdict.Laws as W′
-use Rattle.told_sheets.proofs.ToldCount as N
-use Rattle.told_sheets.proofs.ToldCount.Laws as N′
+use Rattle.told_numbers.proofs.ToldVerdict as W
+use Rattle.told_numbers.proofs.ToldVerdict.Laws as W′
+use Rattle.told_numbers.proofs.ToldCount as N
+use Rattle.told_numbers.proofs.ToldCount.Laws as N′
 
 abbrev pub station : Valued S.the-row
 station = of-struct S.the-type S′.the-laws S′.lowers S′.the-plain (λ x f. refl)

@@ -1,17 +1,17 @@
-// The release clock, exported. Contracts cite the definitions of `told`.
+// The release clock, exported. Contracts cite the definitions of `told_clock`.
 use clock::Clock;
-use told::clocked::ToldCall;
-use told::clocked::ToldStart;
+use told_clock::ToldCall;
+use told_clock::ToldStart;
 ghost use mathlib.Core.Path.{_≡_};
 ghost use Rattle.clock.specs.Start.{started};
-ghost use Rattle.told.specs.Clocked.{toldStart, ToldCallIs};
+ghost use Rattle.told_clock.specs.Clocked.{toldStart, ToldCallIs};
 
 // Starts a clock for these periods at a tick.
 #[no_mangle]
 pub extern "C" fn eelbasket_clock_start(periods: &[u32], tick: u32) -> ToldStart
     ensures { λ r. ⌜ toldStart r ≡ started (now (periods .entry)) tick ⌝ }
 {
-    told::clocked::clock_start_told(periods, tick)
+    told_clock::clock_start_told(periods, tick)
 }
 
 // A call with the present tick.
@@ -19,5 +19,5 @@ pub extern "C" fn eelbasket_clock_start(periods: &[u32], tick: u32) -> ToldStart
 pub extern "C" fn eelbasket_clock_call(clock: Clock, present: u32) -> ToldCall
     ensures { λ r. ⌜ ToldCallIs clock present r ⌝ }
 {
-    told::clocked::clock_call_told(clock, present)
+    told_clock::clock_call_told(clock, present)
 }

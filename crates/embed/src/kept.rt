@@ -1,17 +1,17 @@
-// Joins and leaves of a kept table, exported. Contracts cite the definitions of `told`.
+// Joins and leaves of a kept table, exported. Contracts cite the definitions of `told_kept`.
 use keep::Kept;
 use kinds::Task;
-use told::kept::ToldChange;
+use told_kept::ToldChange;
 ghost use mathlib.Core.Path.{_≡_};
 ghost use Rattle.keep.specs.Keep.{joined, left};
-ghost use Rattle.told.specs.Kept.{toldChange};
+ghost use Rattle.told_kept.specs.Kept.{toldChange};
 
 // Joins a task at the end of a table, where a swap costs w and a notch is q.
 #[no_mangle]
 pub extern "C" fn eelbasket_join(kept: Kept, w: u16, q: u16, task: Task) -> ToldChange
     ensures { λ r. ⌜ toldChange r ≡ joined w q kept task ⌝ }
 {
-    told::kept::join_told(kept, w, q, task)
+    told_kept::join_told(kept, w, q, task)
 }
 
 // Lets the task at a place leave a table.
@@ -19,5 +19,5 @@ pub extern "C" fn eelbasket_join(kept: Kept, w: u16, q: u16, task: Task) -> Told
 pub extern "C" fn eelbasket_leave(kept: Kept, w: u16, q: u16, place: usize) -> ToldChange
     ensures { λ r. ⌜ toldChange r ≡ left w q kept place ⌝ }
 {
-    told::kept::leave_told(kept, w, q, place)
+    told_kept::leave_told(kept, w, q, place)
 }

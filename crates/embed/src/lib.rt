@@ -1,15 +1,16 @@
-// The library for C and Rust: the calls of `told` and `told_sheets`, exported, those on a table over lent records. A slice is a pointer and
-// then a length. Contracts cite the definitions of the two, which read the numbers that cross as the calls' own promises.
+// The library for C and Rust: the calls of the rooms that tell (`told`, `told_kept`, `told_clock`, `told_sheets`, `told_texts`), exported,
+// those on a table over lent records. A slice is a pointer and then a length. Contracts cite the definitions of those rooms and of
+// `told_numbers`, which read the numbers that cross as the calls' own promises.
 mod clocked;
 mod kept;
 mod sheets;
 mod texts;
 
 use kinds::Task;
-use told::Station;
 use told::Told;
 use told::ToldMargin;
-use told::verdicts::ToldVerdict;
+use told_numbers::Station;
+use told_numbers::ToldVerdict;
 use wide_task::WideTask;
 ghost use mathlib.Core.Bool.{true};
 ghost use mathlib.Core.Path.{_≡_};
@@ -18,8 +19,8 @@ ghost use Rattle.plan.specs.Plan.{outcome};
 ghost use Rattle.margin.specs.Margin.{marginHanded};
 ghost use Rattle.proposal.specs.Proposal as checker;
 ghost use Rattle.wide.specs.Wide as wide;
-ghost use Rattle.told.specs.Told.{settingsOf, toldMargin, ToldMeets, ToldLooked};
-ghost use Rattle.told.specs.Verdicts.{ToldProposal};
+ghost use Rattle.told_numbers.specs.Numbers.{settingsOf};
+ghost use Rattle.told.specs.Told.{toldMargin, ToldMeets, ToldLooked, ToldProposal};
 
 // The plain finder over lent records.
 #[no_mangle]
@@ -71,7 +72,7 @@ pub extern "C" fn eelbasket_check_proposal(
         (checker.outcome (settingsOf station) (now (rows .entry)) (length (now (rows .entry))) step (now (proposal .entry)) (now (loads .entry)))
         r (now (loads .exit)) ⌝ }
 {
-    told::verdicts::check_proposal_told(rows::gather(rows), station, step, proposal, loads)
+    told::check_proposal_told(rows::gather(rows), station, step, proposal, loads)
 }
 
 // The finder for tasks that need several cores, over lent records.

@@ -1,7 +1,7 @@
 // Station sheets, exported. Contracts cite the definitions of `told_sheets`.
-use told::verdicts::ToldVerdict;
+use told_numbers::ToldCount;
+use told_numbers::ToldVerdict;
 use told_sheets::StationSheet;
-use told_sheets::ToldCount;
 use told_sheets::ToldPart;
 use told_sheets::ToldReading;
 ghost use mathlib.Core.Path.{_≡_};
@@ -11,8 +11,8 @@ ghost use Rattle.writer.specs.Writing.{writeSheet, afterWrite};
 ghost use Rattle.fill.specs.Fill.{planned, counted, afterFill};
 ghost use Rattle.filled_sheet.specs.Checked.{checked};
 ghost use Rattle.change_over.specs.ChangeOver.{changeOver};
-ghost use Rattle.told.specs.Verdicts.{toldVerdict};
-ghost use Rattle.told_sheets.specs.Sheets.{sheetOf, inNumbers, toldReading, ToldCounts, toldPart};
+ghost use Rattle.told_numbers.specs.Numbers.{toldVerdict, ToldCounts};
+ghost use Rattle.told_sheets.specs.Sheets.{sheetOf, inNumbers, toldReading, toldPart};
 
 // Reads a station sheet.
 #[no_mangle]

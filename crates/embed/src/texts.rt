@@ -1,15 +1,15 @@
-// The office's texts over lent records, exported. Contracts cite the definitions of `told_sheets`.
+// The office's texts over lent records, exported. Contracts cite the definitions of `told_texts`.
 use kinds::Task;
-use told_sheets::ToldCount;
+use told_numbers::ToldCount;
 ghost use lib.ListN.{length};
-ghost use Rattle.told_sheets.specs.Texts.{ToldImports, ToldExports};
+ghost use Rattle.told_texts.specs.Texts.{ToldImports, ToldExports};
 
 // The text of lent records, into a lent output.
 #[no_mangle]
 pub extern "C" fn eelbasket_export(rows: &[Task], out: &mut [u8]) -> ToldCount
     ensures { λ r. ⌜ ToldExports (now (rows .entry)) (length (now (rows .entry))) (now (out .entry)) r (now (out .exit)) ⌝ }
 {
-    told_sheets::texts::export_told(rows::gather(rows), out)
+    told_texts::export_told(rows::gather(rows), out)
 }
 
 // The table of a text, into lent records.
@@ -17,5 +17,5 @@ pub extern "C" fn eelbasket_export(rows: &[Task], out: &mut [u8]) -> ToldCount
 pub extern "C" fn eelbasket_import(text: &[u8], rows: &mut [Task]) -> ToldCount
     ensures { λ r. ⌜ ToldImports (now (text .entry)) (now (rows .entry)) r (now (rows .exit)) ⌝ }
 {
-    told_sheets::tell_count(office_rows::import(text, rows))
+    told_numbers::tell_count(office_rows::import(text, rows))
 }

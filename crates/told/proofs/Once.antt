@@ -1,4 +1,4 @@
--- No second answer meets what an exported call promises: what is told, read as a call's own numbers, settles every field.
+-- No second answer meets what a call on a table promises: what is told, read as a call's own numbers, settles every field.
 -- Assumes nothing.
 use Prim.Native.Nat.{ℕ}
 use mathlib.Core.List.{List}
@@ -6,20 +6,14 @@ use mathlib.Core.Path.{_≡_, sym, _∙_}
 use lib.IntN.{ℤ}
 use Rattle.kinds.specs.declared.Task.{Task}
 use Rattle.kinds.specs.declared.Settings.{Settings}
-use Rattle.kinds.specs.Answer.{Handed, NumberAndPlace}
+use Rattle.kinds.specs.Answer.{Handed}
 use Rattle.plan.specs.Plan.{Outcome}
 use Rattle.proposal.specs.Proposal as proposal
+use Rattle.told_numbers.specs.declared.ToldVerdict.{ToldVerdict}
+use Rattle.told_numbers.proofs.Once.{told-verdict-one}
 use Rattle.told.specs.declared.Told.{Told}
 use Rattle.told.specs.declared.ToldMargin.{ToldMargin}
-use Rattle.told.specs.declared.clocked.ToldStart.{ToldStart}
-use Rattle.told.specs.declared.kept.ToldChange.{ToldChange}
-use Rattle.told.specs.Told.{toldHanded, toldMargin, ToldMeets, ToldLooked}
-use Rattle.told.specs.declared.verdicts.ToldVerdict.{ToldVerdict}
-use Rattle.told.specs.Clocked.{toldStart}
-use Rattle.told.specs.Verdicts.{toldVerdict, ToldProposal}
-use Rattle.told.specs.Kept.{toldChange}
-use Rattle.clock.specs.declared.Clock.{Clock}
-use Rattle.keep.specs.declared.Kept.{Kept}
+use Rattle.told.specs.Told.{toldHanded, toldMargin, ToldMeets, ToldLooked, ToldProposal}
 
 -- number, place, step and looks
 told-same : (r q : Told) → toldHanded r ≡ toldHanded q → r .looks ≡ q .looks → r ≡ q
@@ -42,16 +36,7 @@ told-looked-one s rows n old old′ r q periods processors periods′ processors
 pub told-margin-one : (h : Handed ℤ) (r q : ToldMargin) → toldMargin r ≡ h → toldMargin q ≡ h → r ≡ q
 told-margin-one h r q a b = let e = a ∙ sym b in λ i. record { number = e i .number; place = e i .place; margin = e i .value }
 
-pub told-start-one : (h : Handed Clock) (r q : ToldStart) → toldStart r ≡ h → toldStart q ≡ h → r ≡ q
-told-start-one h r q a b = let e = a ∙ sym b in λ i. record { number = e i .number; place = e i .place; clock = e i .value }
-
-pub told-verdict-one : (h : NumberAndPlace) (r q : ToldVerdict) → toldVerdict r ≡ h → toldVerdict q ≡ h → r ≡ q
-told-verdict-one h r q a b = let e = a ∙ sym b in λ i. record { number = e i .number; place = e i .place }
-
 -- the checker of a proposal
 pub told-proposal-one : (o : proposal.Outcome) (r q : ToldVerdict) (loads other : List ℕ) → ToldProposal o r loads → ToldProposal o q other
     → (r ≡ q) × (loads ≡ other)
 told-proposal-one o r q loads other a b = (told-verdict-one (o .handed) r q (a .answers) (b .answers), a .leaves ∙ sym (b .leaves))
-
-pub told-change-one : (h : Handed Kept) (r q : ToldChange) → toldChange r ≡ h → toldChange q ≡ h → r ≡ q
-told-change-one h r q a b = let e = a ∙ sym b in λ i. record { number = e i .number; place = e i .place; kept = e i .value }

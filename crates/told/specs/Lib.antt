@@ -1,4 +1,1 @@
 pub mod Told
-pub mod Clocked
-pub mod Verdicts
-pub mod Kept

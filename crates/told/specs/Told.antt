@@ -1,4 +1,4 @@
--- The numbers that cross to C, read as the calls' own promises.
+-- Calls on a table in numbers that cross to C, read as the calls' own promises.
 -- Assumes nothing.
 use Prim.Native.Nat.{ℕ, _≤_, min}
 use mathlib.Core.Bool.{false}
@@ -9,17 +9,14 @@ use lib.ListN.{length}
 use Rattle.kinds.specs.declared.Task.{Task}
 use Rattle.kinds.specs.declared.Settings.{Settings}
 use Rattle.kinds.specs.Answer.{Handed}
-use Rattle.kinds.specs.Policy.{policyOf}
-use Rattle.kinds.specs.Settings.{settings}
 use Rattle.policy.specs.Under.{mostLooks}
 use Rattle.plan.specs.Plan.{Outcome, outcome}
 use Rattle.quick.specs.Looked.{looks}
-use Rattle.told.specs.declared.Station.{Station}
+use Rattle.proposal.specs.Proposal as proposal
+use Rattle.told_numbers.specs.declared.ToldVerdict.{ToldVerdict}
+use Rattle.told_numbers.specs.Numbers.{toldVerdict}
 use Rattle.told.specs.declared.Told.{Told}
 use Rattle.told.specs.declared.ToldMargin.{ToldMargin}
-
-abbrev pub settingsOf : Station → Settings
-settingsOf s = settings (policyOf (s .policy)) (s .m) (s .w) (s .q) (s .edition)
 
 abbrev pub toldHanded : Told → Handed ℕ
 toldHanded r = record { number = r .number; place = r .place; value = r .step }
@@ -41,3 +38,8 @@ pub record ToldLooked (s : Settings) (rows : List Task) (n : ℕ) (oldPeriods ol
   pub places : processors ≡ outcome false s rows n oldPeriods oldProcessors .processors
   pub count : r .looks ≡ looks s rows n (min (length oldPeriods) (length oldProcessors))
   pub few : r .looks ≤ mostLooks s n
+
+-- the checker's promise
+pub record ToldProposal (o : proposal.Outcome) (r : ToldVerdict) (loads : List ℕ) : Type 0 where
+  pub answers : toldVerdict r ≡ o .handed
+  pub leaves : loads ≡ o .loads

@@ -1,32 +1,22 @@
-// What crosses to C and Rust. An enum does not cross, so a policy comes as its number, and an answer goes as document 01's numbers: 0 for
-// an acceptance. Contracts cite `specs/Told`, which reads the numbers as the calls' own promises. `embed` exports these calls.
-pub mod clocked;
-pub mod kept;
-pub mod verdicts;
-
+// Calls on a table by value, in numbers. An enum does not cross to C, so a policy comes as its number, and an answer goes as document 01's
+// numbers: 0 for an acceptance. Contracts cite `specs/Told`, which reads the numbers as the calls' own promises. `embed` exports these calls.
 use kinds::Answer;
 use kinds::Margin;
-use kinds::Policy;
-use kinds::Settings;
 use kinds::Table;
+use told_numbers::Station;
+use told_numbers::ToldVerdict;
+use told_numbers::settings_of;
+use told_numbers::tell_verdict;
 use wide_task::WideTable;
 ghost use mathlib.Core.Bool.{true};
 ghost use mathlib.Core.Path.{_≡_};
 ghost use Rattle.kinds.specs.Answer.{handed};
 ghost use Rattle.plan.specs.Plan.{outcome};
 ghost use Rattle.margin.specs.Margin.{marginHanded};
+ghost use Rattle.proposal.specs.Proposal as checker;
 ghost use Rattle.wide.specs.Wide as wide;
-ghost use Rattle.told.specs.Told.{settingsOf, toldHanded, toldMargin, ToldMeets, ToldLooked};
-
-// The settings as numbers.
-#[repr(C)]
-pub struct Station {
-    pub policy: u16,
-    pub m: u16,
-    pub w: u16,
-    pub q: u16,
-    pub edition: u16,
-}
+ghost use Rattle.told_numbers.specs.Numbers.{settingsOf};
+ghost use Rattle.told.specs.Told.{toldHanded, toldMargin, ToldMeets, ToldLooked, ToldProposal};
 
 // Number, step, looks and place. A refusal's step is 0; the plain finder makes no looks.
 #[repr(C)]
@@ -43,19 +33,6 @@ pub struct ToldMargin {
     pub number: u32,
     pub place: usize,
     pub margin: i64,
-}
-
-// The settings that a station's numbers stand for.
-pub fn settings_of(station: Station) -> Settings
-    ensures { λ r. ⌜ r ≡ settingsOf station ⌝ }
-{
-    Settings::new(
-        Policy::of(station.policy),
-        station.m,
-        station.w,
-        station.q,
-        station.edition,
-    )
 }
 
 // An answer in numbers, with its looks.
@@ -125,6 +102,21 @@ pub fn margin_told(table: Table, station: Station, step: u32) -> ToldMargin
             margin: 0,
         },
     }
+}
+
+// The checker of a proposal on a table by value.
+pub fn check_proposal_told(
+    table: Table,
+    station: Station,
+    step: u32,
+    proposal: &[u16],
+    loads: &mut [u32],
+) -> ToldVerdict
+    ensures { λ r. ⌜ ToldProposal
+        (checker.outcome (settingsOf station) (table .rows) (table .n) step (now (proposal .entry)) (now (loads .entry)))
+        r (now (loads .exit)) ⌝ }
+{
+    tell_verdict(proposal::check(table, settings_of(station), step, proposal, loads))
 }
 
 // The finder for tasks that need several cores, on a table by value.

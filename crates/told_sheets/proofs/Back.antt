@@ -19,10 +19,11 @@ use Rattle.sheet.specs.Reading.{readSheet}
 use Rattle.sheet.proofs.Numbered.{accepted-by-number}
 use Rattle.writer.specs.Writing.{writeSheet, afterWrite}
 use Rattle.writer.proofs.RoundTrip.{read-handed, read-after, read-canonical, same-canonical}
+use Rattle.told_numbers.specs.declared.ToldCount.{ToldCount}
+use Rattle.told_numbers.specs.Numbers.{ToldCounts}
 use Rattle.told_sheets.specs.declared.StationSheet.{StationSheet}
 use Rattle.told_sheets.specs.declared.ToldReading.{ToldReading}
-use Rattle.told_sheets.specs.declared.ToldCount.{ToldCount}
-use Rattle.told_sheets.specs.Sheets.{sheetOf, numbersOf, inNumbers, toldReading, ToldCounts}
+use Rattle.told_sheets.specs.Sheets.{sheetOf, numbersOf, inNumbers, toldReading}
 use Rattle.told_sheets.specs.Back.{backHanded, afterBack}
 
 -- a sheet whose policy is the one that is meant comes back from its numbers

@@ -1,4 +1,3 @@
-pub mod Imports
 pub mod Back
 pub mod Once
 pub mod Readings

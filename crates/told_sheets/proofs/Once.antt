@@ -1,20 +1,10 @@
--- No second answer meets what a call on sheets or texts promises: what is told, read as a call's own numbers, settles every field.
+-- No second answer meets what a reading promises: what is told, read as a call's own numbers, settles every field.
 -- Assumes nothing.
-use Prim.Native.Nat.{ℕ}
-use mathlib.Core.List.{List}
 use mathlib.Core.Path.{_≡_, sym, _∙_}
 use Rattle.kinds.specs.Answer.{Handed}
 use Rattle.told_sheets.specs.declared.StationSheet.{StationSheet}
 use Rattle.told_sheets.specs.declared.ToldReading.{ToldReading}
-use Rattle.told_sheets.specs.declared.ToldCount.{ToldCount}
-use Rattle.told_sheets.specs.Sheets.{toldReading, toldCount, ToldCounts}
+use Rattle.told_sheets.specs.Sheets.{toldReading}
 
 pub told-reading-one : (h : Handed StationSheet) (r q : ToldReading) → toldReading r ≡ h → toldReading q ≡ h → r ≡ q
 told-reading-one h r q a b = let e = a ∙ sym b in λ i. record { number = e i .number; place = e i .place; sheet = e i .value }
-
--- what is written, filled in, imported or exported, with its output
-pub told-count-one : {A : Type 0} (h : Handed ℕ) (after : List A) (r q : ToldCount) (new other : List A)
-    → ToldCounts h after r new → ToldCounts h after q other → (r ≡ q) × (new ≡ other)
-told-count-one h after r q new other a b =
-    let e = a .answers ∙ sym (b .answers) in
-    (λ i. record { number = e i .number; place = e i .place; count = e i .value }, a .leaves ∙ sym (b .leaves))

@@ -9,9 +9,9 @@ use Rattle.kinds.specs.declared.Verdict.{Verdict}
 use Rattle.kinds.specs.declared.Verdict.the-variants.{Accepted, Refused}
 use Rattle.sheet.specs.declared.Reading.{Reading}
 use Rattle.sheet.specs.Reading.{readSheet, handedReading}
+use Rattle.told_numbers.specs.declared.ToldVerdict.{ToldVerdict}
+use Rattle.told_numbers.specs.Numbers.{toldVerdict}
 use Rattle.told_sheets.specs.declared.StationSheet.{StationSheet}
-use Rattle.told.specs.declared.verdicts.ToldVerdict.{ToldVerdict}
-use Rattle.told.specs.Verdicts.{toldVerdict}
 use Rattle.told_sheets.specs.Sheets.{numbersOf, inNumbers}
 
 -- number and place, with the numbers of a sheet

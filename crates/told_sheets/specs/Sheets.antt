@@ -9,11 +9,10 @@ use Rattle.kinds.specs.Answer.{Handed}
 use Rattle.change_over.specs.declared.Which.{Which}
 use Rattle.change_over.specs.declared.Which.the-variants.{Standing, Proposed}
 use Rattle.change_over.specs.declared.Part.{Part}
+use Rattle.told_numbers.specs.Numbers.{settingsOf}
 use Rattle.told_sheets.specs.declared.StationSheet.{StationSheet}
 use Rattle.told_sheets.specs.declared.ToldReading.{ToldReading}
-use Rattle.told_sheets.specs.declared.ToldCount.{ToldCount}
 use Rattle.told_sheets.specs.declared.ToldPart.{ToldPart}
-use Rattle.told.specs.Told.{settingsOf}
 
 -- the sheet that the numbers stand for
 abbrev pub sheetOf : StationSheet → Sheet
@@ -41,14 +40,6 @@ inNumbers h = record { number = h .number; place = h .place; value = numbersOf (
 
 abbrev pub toldReading : ToldReading → Handed StationSheet
 toldReading r = record { number = r .number; place = r .place; value = r .sheet }
-
-abbrev pub toldCount : ToldCount → Handed ℕ
-toldCount r = record { number = r .number; place = r .place; value = r .count }
-
--- what a call that hands rows or bytes over tells, and its output after it
-pub record ToldCounts {A : Type 0} (h : Handed ℕ) (after : List A) (r : ToldCount) (new : List A) : Type 0 where
-  pub answers : toldCount r ≡ h
-  pub leaves : new ≡ after
 
 -- the two lent sheets as numbers
 abbrev pub numberOfSheet : Which → ℕ

@@ -1,24 +1,24 @@
 // Station sheets in numbers: a sheet crosses as numbers, its policy as the number that it is written as. Contracts cite `specs/Sheets`
 // and `specs/Back`.
-pub mod texts;
-
 use change_over::Which;
-use kinds::Counted;
 use kinds::Results;
 use kinds::Sheet;
 use kinds::Table;
-use told::Station;
-use told::verdicts::ToldVerdict;
+use told_numbers::Station;
+use told_numbers::ToldCount;
+use told_numbers::ToldVerdict;
+use told_numbers::settings_of;
+use told_numbers::tell_count;
+use told_numbers::tell_verdict;
 ghost use mathlib.Core.Path.{_≡_};
 ghost use lib.ListN.{length};
-ghost use Rattle.kinds.specs.Answer.{handedCount};
 ghost use Rattle.sheet.specs.Reading.{readSheet};
 ghost use Rattle.writer.specs.Writing.{writeSheet, afterWrite};
 ghost use Rattle.fill.specs.Fill.{planned, counted, afterFill};
 ghost use Rattle.filled_sheet.specs.Checked.{checked};
 ghost use Rattle.change_over.specs.ChangeOver.{changeOver};
-ghost use Rattle.told.specs.Verdicts.{toldVerdict};
-ghost use Rattle.told_sheets.specs.Sheets.{sheetOf, numbersOf, inNumbers, toldReading, toldCount, ToldCounts, toldPart};
+ghost use Rattle.told_numbers.specs.Numbers.{toldVerdict, ToldCounts};
+ghost use Rattle.told_sheets.specs.Sheets.{sheetOf, numbersOf, inNumbers, toldReading, toldPart};
 ghost use Rattle.told_sheets.specs.Back.{backHanded, afterBack};
 
 // A sheet in numbers: how many numbers its settings section has, and its sections.
@@ -38,14 +38,6 @@ pub struct ToldReading {
     pub sheet: StationSheet,
 }
 
-// Number, place, and how many rows or bytes were handed over, 0 where the call is refused.
-#[repr(C)]
-pub struct ToldCount {
-    pub number: u32,
-    pub place: usize,
-    pub count: usize,
-}
-
 // A part of the standing sheet, 0, or of the proposed one, 1: where it starts, and how many bytes it has.
 #[repr(C)]
 pub struct ToldPart {
@@ -61,7 +53,7 @@ fn sheet_of(x: StationSheet) -> Sheet
     let station = x.station;
     let table = x.table;
     let results = x.results;
-    let settings = told::settings_of(station);
+    let settings = settings_of(station);
     Sheet {
         count: x.count,
         settings,
@@ -93,24 +85,6 @@ fn numbers_of(sheet: Sheet) -> StationSheet
     }
 }
 
-// A count in numbers.
-pub fn tell_count(counted: Counted) -> ToldCount
-    ensures { λ r. ⌜ toldCount r ≡ handedCount counted ⌝ }
-{
-    match counted {
-        Counted::Count(count) => ToldCount {
-            number: 0,
-            place: 0,
-            count,
-        },
-        Counted::Refused(refused) => ToldCount {
-            number: refused.number() as u32,
-            place: refused.place(),
-            count: 0,
-        },
-    }
-}
-
 // Reads a station sheet.
 pub fn read_told(bytes: &[u8]) -> ToldReading
     ensures { λ r. ⌜ toldReading r ≡ inNumbers (readSheet (now (bytes .entry))) ⌝ }
@@ -118,7 +92,7 @@ pub fn read_told(bytes: &[u8]) -> ToldReading
     let reading = sheet::read(bytes);
     let verdict = reading.verdict;
     let x = reading.sheet;
-    let told = told::verdicts::tell_verdict(verdict);
+    let told = tell_verdict(verdict);
     let sheet = numbers_of(x);
     ToldReading {
         number: told.number,
@@ -164,7 +138,7 @@ pub fn fill_told(bytes: &[u8], out: &mut [u8; sheet::LONGEST]) -> ToldCount
 pub fn check_told(bytes: &[u8]) -> ToldVerdict
     ensures { λ r. ⌜ toldVerdict r ≡ checked (now (bytes .entry)) ⌝ }
 {
-    told::verdicts::tell_verdict(filled_sheet::check(bytes))
+    tell_verdict(filled_sheet::check(bytes))
 }
 
 // Which part of which sheet the change-over answers.

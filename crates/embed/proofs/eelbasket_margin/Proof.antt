@@ -3,7 +3,7 @@
 use mathlib.Core.Path.{_∙_}
 use Rattle.walk.proofs.Thin.{id⊢, w32, of-uint, fact-to}
 use Rattle.walk.proofs.ThinVv.{thin}
-use Rattle.told.specs.Told.{settingsOf}
+use Rattle.told_numbers.specs.Numbers.{settingsOf}
 use Rattle.rows.proofs.Bridge.{margin-over}
 use Rattle.rows.proofs.Lent.{gathered}
 use Rattle.embed.proofs.Values as values

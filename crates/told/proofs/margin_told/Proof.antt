@@ -4,7 +4,7 @@ use mir.Syntax.{w64}
 use mir.Val.{toZ, ofZ}
 use Rattle.kinds.specs.Answer.{accepted, handedMargin}
 use Rattle.margin.specs.Margin.{marginHanded}
-use Rattle.told.specs.Told.{settingsOf}
+use Rattle.told_numbers.specs.Numbers.{settingsOf}
 use borrow.Author.Needs.{needs}
 use Rattle.told.proofs.margin_told.Statement.{statement}
 use Rattle.told.proofs.margin_told.Tie as tie

@@ -52,16 +52,16 @@ use Rattle.office_rows.proofs.import.Symbol as core-def
 use Rattle.office_rows.proofs.import.Symbol.{name as #office-rows·import}
 use Rattle.office_rows.proofs.import.Met as core-thm
 use Rattle.walk.proofs.Gets.{Asks}
-use Rattle.told_sheets.specs.declared.ToldCount.{ToldCount}
-use Rattle.told_sheets.specs.Sheets.{toldCount}
-use Rattle.told_sheets.specs.Texts.{ToldImports}
-use Rattle.told_sheets.proofs.Imports.{told-imports}
-use Rattle.told_sheets.proofs.ToldCount as R
-use Rattle.told_sheets.proofs.ToldCount.Laws as R′
-use Rattle.told_sheets.proofs.tell_count as tell
-use Rattle.told_sheets.proofs.tell_count.Symbol as tell-def
-use Rattle.told_sheets.proofs.tell_count.Symbol.{name as #told-sheets·tell-count}
-use Rattle.told_sheets.proofs.tell_count.Met as tell-thm
+use Rattle.told_numbers.specs.declared.ToldCount.{ToldCount}
+use Rattle.told_numbers.specs.Numbers.{toldCount}
+use Rattle.told_texts.specs.Texts.{ToldImports}
+use Rattle.told_texts.proofs.Imports.{told-imports}
+use Rattle.told_numbers.proofs.ToldCount as R
+use Rattle.told_numbers.proofs.ToldCount.Laws as R′
+use Rattle.told_numbers.proofs.tell_count as tell
+use Rattle.told_numbers.proofs.tell_count.Symbol as tell-def
+use Rattle.told_numbers.proofs.tell_count.Symbol.{name as #told-numbers·tell-count}
+use Rattle.told_numbers.proofs.tell_count.Met as tell-thm
 use Rattle.embed.proofs.texts.eelbasket_import.Key.{name as #texts·eelbasket-import}
 use Rattle.embed.proofs.texts.eelbasket_import as call
 use Rattle.embed.proofs.texts.eelbasket_import.Statement as stated
@@ -79,7 +79,7 @@ module _ {M : Type 1} (𝓤 : URA M) (H : Heap 𝓤) (A : Atoms 𝓤) (mem : Mem
   Tell = Asks 𝓤 H A tell.ended (tell.clauses 𝓤 H A mem run)
 
   abbrev Known : Tables 𝓤 H → Type 1
-  Known 𝓣 = Triple 𝓤 (𝓣 .C #office-rows·import) Core × Triple 𝓤 (𝓣 .C #told-sheets·tell-count) Tell
+  Known 𝓣 = Triple 𝓤 (𝓣 .C #office-rows·import) Core × Triple 𝓤 (𝓣 .C #told-numbers·tell-count) Tell
 
 module _ {M : Type 1} (𝓤 : URA M) (H : Heap 𝓤) (A : Atoms 𝓤) (W : Given 𝓤 H A) (mem : Memory → SProp 𝓤) (run : Routine → Fun 𝓤)
     (κ κ₁ : Lft) (q q₁ : Share) (x : RefT (List ℕ)) (y : RefT (List Task)) where
@@ -195,6 +195,6 @@ eelbasket-import-spec 𝓤 H 𝓜 𝓖 𝓡 =
     (tables 𝓤 H 𝓜 𝓡 code.env .C) (tables 𝓤 H 𝓜 𝓡 code.env .Λ) #texts·eelbasket-import code.function (code.unfolded 𝓤 H 𝓜 𝓡)
     (import-meets 𝓤 H (𝓖 .A) (givenOf 𝓤 H 𝓜 𝓖) (𝓜 .mem) (𝓡 .run) (tablesOf 𝓤 H 𝓜 (tables 𝓤 H 𝓜 𝓡 code.env)) (
       cited 𝓤 H (Core 𝓤 H (𝓖 .A) (𝓜 .mem) (𝓡 .run)) 𝓜 𝓡 code.env #office-rows·import core-def.routine code.calls-office-rows·import (core-thm.met 𝓤 H 𝓜 𝓖 𝓡),
-      cited 𝓤 H (Tell 𝓤 H (𝓖 .A) (𝓜 .mem) (𝓡 .run)) 𝓜 𝓡 code.env #told-sheets·tell-count tell-def.routine code.calls-told-sheets·tell-count
+      cited 𝓤 H (Tell 𝓤 H (𝓖 .A) (𝓜 .mem) (𝓡 .run)) 𝓜 𝓡 code.env #told-numbers·tell-count tell-def.routine code.calls-told-numbers·tell-count
           (tell-thm.met 𝓤 H 𝓜 𝓖 𝓡),
     ))

@@ -1,0 +1,2 @@
+pub mod ClockTold
+pub mod Once
