@@ -1,13 +1,8 @@
 -- What an admission has checked, and that it looks at the first n records only.
 -- Assumes nothing.
-use Prim.Native.Nat.{ℕ, _≤_, _<_}
-use mathlib.Core.Bool.{Bool, true, false, not}
-use mathlib.Core.List.{List}
-use mathlib.Core.Logic.{_⊎_, inl, inr}
-use mathlib.Core.Path.{_≡_, refl, ap}
-use native.Mathlib.Omega.{arith}
-use lib.Dec.{ltb, eqb, lit≤, lit<}
-use borrow.Author.Tests.{ltb-false, eqb-true, eqb-false}
+use Rattle.ground.proofs.Kit.{ℕ, _≤_, _<_, Bool, true, false, not, List, _≡_, refl, ap, _⊎_, inl, inr, arith, eqb, ltb, eqb-true, ltb-false}
+use lib.Dec.{lit≤, lit<}
+use borrow.Author.Tests.{eqb-false}
 use Rattle.ground.specs.Choice.{both, either}
 use Rattle.ground.proofs.Cases.{by-bool, by-le, true-false}
 use Rattle.kinds.specs.declared.Task.{Task}

@@ -1,12 +1,7 @@
 -- "Given exactly when", of 1, 15 and 2 to 6: the admission is its chain, `admission-chain`, and where it admits nothing is left unchecked,
 -- `ready-admitted`.
 -- Assumes nothing.
-use Prim.Native.Nat.{ℕ}
-use mathlib.Core.Bool.{Bool, false, not}
-use mathlib.Core.List.{List, [], _∷_, _++_}
-use mathlib.Core.Path.{_≡_, refl, ap, _∙_}
-use lib.Dec.{ltb}
-use borrow.Author.Tests.{le-ltb}
+use Rattle.ground.proofs.Kit.{ℕ, Bool, false, not, List, [], _∷_, _++_, _≡_, refl, _∙_, ap, ltb, le-ltb}
 use Rattle.ground.specs.Choice.{both}
 use Rattle.kinds.specs.declared.Task.{Task}
 use Rattle.kinds.specs.declared.Settings.{Settings}

@@ -1,10 +1,6 @@
 -- What every call on a table has in hand once it is admitted.
 -- Assumes nothing.
-use Prim.Native.Nat.{ℕ, _<_}
-use mathlib.Core.Bool.{Bool}
-use mathlib.Core.List.{List}
-use mathlib.Core.Path.{_≡_, sym, _∙_}
-use lib.ListN.{getD}
+use Rattle.ground.proofs.Kit.{ℕ, _<_, Bool, List, _≡_, sym, _∙_, getD}
 use Rattle.kinds.specs.declared.Task.{Task}
 use Rattle.kinds.specs.declared.Settings.{Settings}
 use Rattle.kinds.specs.declared.Verdict.{Verdict}

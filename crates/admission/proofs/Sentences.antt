@@ -1,13 +1,7 @@
 -- The sentences of 1, 15, 2, 4 and 6 as the documents say them, each both ways; those of 3 and 5 are comparisons as they stand.
 -- Assumes nothing.
-use Prim.Native.Nat.{ℕ, _≤_, _<_}
-use mathlib.Core.Bool.{true, false}
-use mathlib.Core.List.{List}
-use mathlib.Core.Logic.{_⊎_, inl, inr, ⊎-elim, _↔_}
-use mathlib.Core.Path.{_≡_, refl, sym, _∙_}
-use native.Mathlib.Omega.{arith}
-use lib.Dec.{ltb}
-use borrow.Author.Tests.{ltb-true, lt-ltb, le-ltb, ne-eqb}
+use Rattle.ground.proofs.Kit.{ℕ, _≤_, _<_, true, false, List, _≡_, refl, sym, _∙_, _⊎_, inl, inr, ⊎-elim, arith, ltb, ne-eqb, lt-ltb, le-ltb, ltb-true}
+use mathlib.Core.Logic.{_↔_}
 use Rattle.ground.proofs.Cases.{by-bool, by-le, true-false}
 use Rattle.kinds.specs.declared.Task.{Task}
 use Rattle.kinds.specs.declared.Settings.{Settings}

@@ -1,13 +1,9 @@
 -- The bounds follow document 02's rule: one test, computed over all of them, and what it says of each.
 -- Assumes nothing.
-use Prim.Native.Nat.{ℕ, zero, suc, _+_, _*_, _^_, _≤_, _<_}
-use mathlib.Core.Bool.{Bool, true, not}
-use mathlib.Core.Path.{_≡_, refl, sym, _∙_}
-use native.Mathlib.Nat.{le-trans, pow-le-pow-left}
-use native.Mathlib.Omega.{arith}
-use lib.Dec.{leb, eqb}
+use Rattle.ground.proofs.Kit.{ℕ, zero, suc, _+_, _*_, _^_, _≤_, _<_, Bool, true, not, _≡_, refl, sym, _∙_, le-trans, arith, eqb, leb, eqb-true, le-leb}
+use Rattle.ground.proofs.Kit.{leb-true, not-true, not-false}
+use native.Mathlib.Nat.{pow-le-pow-left}
 use lib.ListN.{List·getD-eq-default}
-use borrow.Author.Tests.{eqb-true, leb-true, le-leb, not-true, not-false}
 use Rattle.ground.specs.Choice.{both}
 use Rattle.ground.specs.First.{firstBelow, firstFrom}
 use Rattle.ground.proofs.Cases.{by-le, both-true, true-false}

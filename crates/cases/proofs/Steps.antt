@@ -1,6 +1,6 @@
 -- The definitions give what document 01 says of the steps of cases J and K, by computation.
 -- Assumes nothing.
-use mathlib.Core.Path.{refl}
+use Rattle.ground.proofs.Kit.{refl}
 use Rattle.ground.specs.Folds.{sumTo, maxTo, listTo}
 use Rattle.ground.specs.First.{firstFrom, firstBelow}
 use Rattle.ground.specs.Least.{leastUpTo}

@@ -1,10 +1,6 @@
 -- The part that a change-over names stands in the sheet that it is a part of, `part-fits`, and no second answer meets the promise.
 -- Assumes nothing.
-use Prim.Native.Nat.{ℕ, _+_, _-_, _*_, _≤_}
-use mathlib.Core.List.{List}
-use mathlib.Core.Path.{_≡_, refl, sym, _∙_}
-use native.Mathlib.Omega.{arith}
-use lib.ListN.{length, take, drop}
+use Rattle.ground.proofs.Kit.{ℕ, _+_, _-_, _*_, _≤_, List, _≡_, refl, sym, _∙_, arith, length, take, drop}
 use Rattle.kinds.specs.Limits.{mostSettings, mostTasks}
 use Rattle.sheet.specs.Sections.{taskSize, recordsPlace, resultsPlace}
 use Rattle.change_over.specs.declared.Which.{Which}

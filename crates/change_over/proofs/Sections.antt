@@ -1,12 +1,6 @@
 -- What the reader and the plain finder say of a sheet together, and that the task section of one that both accept stands in it: `section-fits`.
 -- Assumes nothing.
-use Prim.Native.Nat.{ℕ, _≤_}
-use mathlib.Core.Bool.{Bool, true, false}
-use mathlib.Core.List.{List}
-use mathlib.Core.Path.{_≡_, refl, sym, ap, _∙_}
-use native.Mathlib.Omega.{arith}
-use lib.ListN.{length}
-use borrow.Author.Tests.{eqb-true, ne-eqb}
+use Rattle.ground.proofs.Kit.{ℕ, _≤_, Bool, true, false, List, _≡_, refl, sym, _∙_, ap, arith, length, ne-eqb, eqb-true}
 use Rattle.ground.specs.Choice.{pick}
 use Rattle.ground.proofs.Cases.{both-true}
 use Rattle.kinds.specs.declared.Refusal.{Refusal}

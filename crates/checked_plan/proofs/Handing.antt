@@ -1,13 +1,8 @@
 -- What is handed on: `accepted-checked`, `refused-keeps`, `refused-first` and `refused-last` say what `HandsOn` means, the others that it
 -- holds of what the call leaves.
 -- Assumes nothing.
-use Prim.Native.Nat.{ℕ, _≤_, _<_, min}
-use mathlib.Core.List.{List, _++_}
-use mathlib.Core.Logic.{_⊎_}
-use mathlib.Core.Path.{_≡_, refl, sym, ap, subst, _∙_}
-use native.Mathlib.Omega.{arith}
-use lib.ListN.{length, getD, take, drop}
-use lib.Seq.{length-take-le, length-front, drop-at, getD-take}
+use Rattle.ground.proofs.Kit.{ℕ, _≤_, _<_, min, List, _++_, _≡_, refl, sym, _∙_, ap, subst, _⊎_, arith, length, getD, take, drop, length-take-le}
+use lib.Seq.{length-front, drop-at, getD-take}
 use Rattle.ground.specs.Folds.{listTo}
 use Rattle.ground.proofs.Cases.{by-le}
 use Rattle.ground.proofs.Buffer.{list-long, list-at}

@@ -1,12 +1,6 @@
 -- The call: its three answers, the document's sentences, and that no second answer fits.
 -- Assumes nothing.
-use Prim.Native.Nat.{ℕ, _+_, _%_, _≤_, _<_}
-use mathlib.Core.List.{List, [], _∷_}
-use mathlib.Core.Path.{_≡_, refl, sym, ap, _∙_}
-use native.Mathlib.Omega.{arith}
-use lib.ListN.{length}
-use lib.Seq.{getD-set-same, getD-set-other}
-use borrow.Author.Tests.{lt-ltb, le-ltb}
+use Rattle.ground.proofs.Kit.{ℕ, _+_, _%_, _≤_, _<_, List, [], _∷_, _≡_, refl, sym, _∙_, ap, arith, length, getD-set-same, getD-set-other, lt-ltb, le-ltb}
 use Rattle.ground.proofs.Cases.{by-le}
 use Rattle.ground.proofs.Folds.{le-max-to}
 use Rattle.kinds.specs.declared.Refusal.{Refusal}

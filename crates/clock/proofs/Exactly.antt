@@ -1,8 +1,6 @@
 -- "Given exactly when", of a clock's start and of a call: `start-exactly`, `call-exactly`; the numbers are `start-numbers` and `call-numbers`.
 -- Assumes nothing.
-use Prim.Native.Nat.{ℕ}
-use mathlib.Core.List.{List, [], _∷_}
-use mathlib.Core.Path.{_≡_, refl}
+use Rattle.ground.proofs.Kit.{ℕ, List, [], _∷_, _≡_, refl}
 use Rattle.kinds.specs.Chain.{firstBy, Exactly, numbersGiven}
 use Rattle.kinds.proofs.Chains.{exactly}
 use Rattle.clock.specs.declared.Clock.{Clock}

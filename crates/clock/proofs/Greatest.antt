@@ -1,12 +1,7 @@
 -- The task that is most late, the lowest on a tie: what `latest` says, and the walk that works it out.
 -- Assumes nothing.
-use Prim.Native.Nat.{ℕ, suc, _+_, _-_, _≤_, _<_}
-use mathlib.Core.Bool.{Bool}
-use mathlib.Core.List.{[], _∷_}
-use mathlib.Core.Path.{_≡_, sym, ap, _∙_}
-use native.Mathlib.Omega.{arith}
-use lib.Dec.{eqb}
-use borrow.Author.Tests.{eqb-true, eqb-false, eq-eqb, ne-eqb}
+use Rattle.ground.proofs.Kit.{ℕ, suc, _+_, _-_, _≤_, _<_, Bool, [], _∷_, _≡_, sym, _∙_, ap, arith, eqb, eq-eqb, ne-eqb, eqb-true}
+use borrow.Author.Tests.{eqb-false}
 use Rattle.ground.specs.First.{firstBelow, IsFirst}
 use Rattle.ground.specs.Folds.{maxTo}
 use Rattle.ground.proofs.Cases.{by-le, by-eq, true-false}

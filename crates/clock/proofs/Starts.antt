@@ -1,13 +1,8 @@
 -- The start: which periods are taken, the clock that is started, and that no second answer fits.
 -- Assumes nothing.
-use Prim.Native.Nat.{ℕ, _+_, _≤_, _<_}
-use mathlib.Core.Bool.{Bool, true, false, not}
-use mathlib.Core.List.{List}
-use mathlib.Core.Path.{_≡_, refl, sym, ap, _∙_}
-use native.Mathlib.Omega.{arith}
-use lib.ListN.{length, getD, set, take, replicate, length-set, length-replicate}
+use Rattle.ground.proofs.Kit.{ℕ, _+_, _≤_, _<_, true, not, List, _≡_, sym, _∙_, ap, arith, length, getD, set, take, replicate, length-set, length-replicate}
+use Rattle.ground.proofs.Kit.{le-leb, leb-true, lt-ltb, le-ltb}
 use lib.Seq.{take-length}
-use borrow.Author.Tests.{leb-true, le-leb, lt-ltb, le-ltb}
 use Rattle.ground.specs.First.{IsFirst}
 use Rattle.ground.specs.Padded.{padded}
 use Rattle.ground.proofs.Cases.{by-bool, by-le, true-false, both-true}

@@ -1,9 +1,6 @@
 -- Laws of ticks that wrap at 32 bits. The last carries lateness over to time that does not wrap.
 -- Assumes nothing.
-use Prim.Native.Nat.{ℕ, suc, _+_, _-_, _%_, _≤_, _<_}
-use mathlib.Core.Path.{_≡_, _∙_}
-use native.Mathlib.Omega.{arith}
-use borrow.Author.Tests.{lt-ltb, le-ltb}
+use Rattle.ground.proofs.Kit.{ℕ, suc, _+_, _-_, _%_, _≤_, _<_, _≡_, _∙_, arith, lt-ltb, le-ltb}
 use Rattle.ground.proofs.Cases.{by-le}
 use Rattle.clock.specs.Ticks.{turn, halfTurn, behind, late}
 

@@ -1,13 +1,7 @@
 -- The periods of an accepted plan start a clock: no start refuses them.
 -- Assumes nothing.
-use Prim.Native.Nat.{ℕ, _≤_, _<_, min}
-use mathlib.Core.Bool.{Bool, true, false}
-use mathlib.Core.List.{List, _++_}
-use mathlib.Core.Path.{_≡_, refl, sym, ap, _∙_}
-use native.Mathlib.Omega.{arith}
-use lib.ListN.{length, take, drop}
+use Rattle.ground.proofs.Kit.{ℕ, _≤_, _<_, min, Bool, true, false, List, _++_, _≡_, refl, sym, _∙_, ap, arith, length, take, drop, ne-eqb}
 use lib.Seq.{take-at}
-use borrow.Author.Tests.{ne-eqb}
 use Rattle.ground.proofs.Cases.{true-false}
 use Rattle.ground.proofs.Buffer.{list-long, list-in}
 use Rattle.kinds.specs.declared.Task.{Task}

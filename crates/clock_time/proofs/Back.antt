@@ -1,10 +1,6 @@
 -- A tick that goes back: it can make tasks not due, but none due.
 -- Assumes nothing.
-use Prim.Native.Nat.{ℕ, _+_, _-_, _%_, _≤_, _<_}
-use mathlib.Core.List.{List, _∷_}
-use mathlib.Core.Path.{_≡_, ap}
-use native.Mathlib.Omega.{arith}
-use lib.ListN.{length}
+use Rattle.ground.proofs.Kit.{ℕ, _+_, _-_, _%_, _≤_, _<_, List, _∷_, _≡_, ap, arith, length}
 use Rattle.ground.proofs.Cases.{by-le}
 use Rattle.kinds.specs.Limits.{longestPeriod}
 use Rattle.clock.specs.declared.Clock.{Clock}

@@ -1,11 +1,7 @@
 -- The clock on 32 bits keeps step with the clock of unbroken time. The last law is the one to look for.
 -- Assumes nothing.
-use Prim.Native.Nat.{ℕ, _+_, _%_, _≤_, _<_, max}
-use mathlib.Core.List.{List, [], _∷_}
-use mathlib.Core.Path.{_≡_, refl, sym, ap, _∙_}
-use native.Mathlib.Omega.{arith}
-use lib.ListN.{length, replicate, length-set, length-replicate, getD-replicate}
-use lib.Seq.{getD-set-same, getD-set-other}
+use Rattle.ground.proofs.Kit.{ℕ, _+_, _%_, _≤_, _<_, max, List, [], _∷_, _≡_, refl, sym, _∙_, ap, arith, length, replicate, length-set, length-replicate}
+use Rattle.ground.proofs.Kit.{getD-replicate, getD-set-same, getD-set-other}
 use Rattle.ground.proofs.Cases.{by-eq}
 use Rattle.ground.proofs.Padding.{padded-long, padded-at}
 use Rattle.kinds.specs.Answer.{Handed, accepted}

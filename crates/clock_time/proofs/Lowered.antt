@@ -1,11 +1,7 @@
 -- The tick stands still, on any clock of 32 bits whose periods are 1 to 1,000,000,000: each call lowers the number of waiting releases by one,
 -- so that a due task is handed back within that many. Nothing is asked of the calls before. The last law is the one to look for.
 -- Assumes nothing.
-use Prim.Native.Nat.{ℕ, zero, suc, _+_, _-_, _%_, _≤_, _<_}
-use mathlib.Core.List.{[], _∷_}
-use mathlib.Core.Path.{_≡_, sym, ap, _∙_}
-use native.Mathlib.Omega.{arith}
-use lib.ListN.{length, length-set}
+use Rattle.ground.proofs.Kit.{ℕ, zero, suc, _+_, _-_, _%_, _≤_, _<_, [], _∷_, _≡_, sym, _∙_, ap, arith, length, length-set}
 use Rattle.ground.proofs.Cases.{by-le, by-eq}
 use Rattle.kinds.specs.Answer.{accepted}
 use Rattle.clock.specs.declared.Clock.{Clock}

@@ -1,10 +1,6 @@
 -- How a caller meets the premise: call until none is due, and come back within 2,147,483,648 ticks.
 -- Assumes nothing.
-use Prim.Native.Nat.{ℕ, _+_, _%_, _≤_, _<_}
-use mathlib.Core.List.{List, [], _∷_}
-use mathlib.Core.Path.{_≡_, sym, ap, _∙_}
-use native.Mathlib.Omega.{arith}
-use lib.ListN.{length}
+use Rattle.ground.proofs.Kit.{ℕ, _+_, _%_, _≤_, _<_, List, [], _∷_, _≡_, sym, _∙_, ap, arith, length}
 use Rattle.kinds.specs.Answer.{Handed, accepted}
 use Rattle.kinds.specs.Limits.{longestPeriod}
 use Rattle.clock.specs.Ticks.{turn, halfTurn}

@@ -1,11 +1,7 @@
 -- The tick stands still after a history of calls: a due task is handed back within as many calls as releases wait at or before its own. The
 -- last law is the one to look for.
 -- Assumes nothing.
-use Prim.Native.Nat.{ℕ, suc, _-_, _%_, _≤_, _<_}
-use mathlib.Core.List.{List, [], _∷_}
-use mathlib.Core.Path.{_≡_, sym, ap, _∙_}
-use native.Mathlib.Omega.{arith}
-use lib.ListN.{length}
+use Rattle.ground.proofs.Kit.{ℕ, suc, _-_, _%_, _≤_, _<_, List, [], _∷_, _≡_, _∙_, ap, arith, length}
 use Rattle.ground.proofs.Folds.{sum-cong}
 use Rattle.clock.specs.declared.Clock.{Clock}
 use Rattle.clock.specs.Ticks.{turn, late}

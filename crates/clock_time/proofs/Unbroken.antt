@@ -1,11 +1,6 @@
 -- The clock of unbroken time: what it hands back, and how its releases move on.
 -- Assumes nothing.
-use Prim.Native.Nat.{ℕ, _+_, _≤_, _<_}
-use mathlib.Core.List.{List, [], _∷_}
-use mathlib.Core.Path.{_≡_, refl}
-use native.Mathlib.Omega.{arith}
-use lib.ListN.{length}
-use borrow.Author.Tests.{eq-eqb, ne-eqb}
+use Rattle.ground.proofs.Kit.{ℕ, _+_, _≤_, _<_, List, [], _∷_, _≡_, refl, arith, length, eq-eqb, ne-eqb}
 use Rattle.ground.proofs.Cases.{by-eq}
 use Rattle.ground.proofs.Folds.{le-max-to}
 use Rattle.clock.specs.Start.{every}

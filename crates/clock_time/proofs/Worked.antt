@@ -1,8 +1,6 @@
 -- Runs worked out over the definitions: a clock over the turn, what the premise is for, and releases that wait.
 -- Assumes nothing.
-use Prim.Native.Nat.{ℕ, _%_}
-use mathlib.Core.List.{List, [], _∷_}
-use mathlib.Core.Path.{_≡_, refl}
+use Rattle.ground.proofs.Kit.{ℕ, _%_, List, [], _∷_, _≡_, refl}
 use Rattle.ground.specs.First.{firstFrom, firstBelow}
 use Rattle.ground.specs.Folds.{sumTo, maxTo, listTo}
 use Rattle.clock.specs.declared.Clock.{Clock}

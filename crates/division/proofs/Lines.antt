@@ -1,11 +1,8 @@
 -- Between two neighbouring saturation steps every share is a line, and so is each side of the test.
 -- Assumes nothing.
-use Prim.Native.Nat.{ℕ, _+_, _-_, _*_, _≤_, _<_, max}
+use Rattle.ground.proofs.Kit.{ℕ, _+_, _-_, _*_, _≤_, _<_, max, _≡_, ap, mul-le-mul-left, mul-le-mul-right, arith, lt-ltb, le-ltb}
 use mathlib.Core.Logic.{_↔_}
-use mathlib.Core.Path.{_≡_, ap}
-use native.Mathlib.Nat.{mul-le-mul-left, mul-le-mul-right, max-eq-left, max-eq-right}
-use native.Mathlib.Omega.{arith}
-use borrow.Author.Tests.{lt-ltb, le-ltb}
+use native.Mathlib.Nat.{max-eq-left, max-eq-right}
 use Rattle.ground.specs.Rounding.{ceilDiv}
 use Rattle.ground.proofs.Cases.{by-le}
 use Rattle.ground.proofs.Rounding.{ceil-enough, ceil-least, ceil-over}

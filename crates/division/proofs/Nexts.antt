@@ -1,11 +1,7 @@
 -- The walk over the tasks finds the next saturation step, or says that there is none.
 -- Assumes nothing.
-use Prim.Native.Nat.{ℕ, zero, suc, _+_, _≤_, _<_, min}
-use mathlib.Core.Path.{_≡_, refl, ap, ap₂}
+use Rattle.ground.proofs.Kit.{ℕ, zero, suc, _+_, _≤_, _<_, min, _≡_, refl, ap, ap₂, add-one, arith, eq-eqb, ne-eqb, le-leb, lt-leb}
 use native.Mathlib.Nat.{min-eq-left, min-eq-right}
-use native.Mathlib.Numerals.{add-one}
-use native.Mathlib.Omega.{arith}
-use borrow.Author.Tests.{le-leb, lt-leb, eq-eqb, ne-eqb}
 use Rattle.ground.proofs.Cases.{by-le}
 use Rattle.division.specs.Next.{Next, nearer, nextTo}
 

@@ -1,15 +1,9 @@
 -- The division gives the least passing step of a stretch whose first step fails and whose last one, the next saturation step, passes.
 -- Assumes nothing.
-use Prim.Native.Nat.{ℕ, zero, suc, _+_, _-_, _*_, _≤_, _<_, max, min}
-use mathlib.Core.Bool.{Bool, true, false}
+use Rattle.ground.proofs.Kit.{ℕ, zero, suc, _+_, _-_, _*_, _≤_, _<_, max, min, Bool, true, false, List, _≡_, refl, sym, ap₂, add-one, arith, getD, le-leb}
+use Rattle.ground.proofs.Kit.{leb-true}
 use mathlib.Core.Logic.{_↔_}
-use mathlib.Core.List.{List}
-use mathlib.Core.Path.{_≡_, refl, sym, ap₂}
 use native.Mathlib.Nat.{min-eq-left, min-eq-right}
-use native.Mathlib.Numerals.{add-one}
-use native.Mathlib.Omega.{arith}
-use lib.ListN.{getD}
-use borrow.Author.Tests.{leb-true, le-leb}
 use Rattle.ground.specs.Folds.{sumTo, maxTo}
 use Rattle.ground.specs.Least.{LeastAt, Rising}
 use Rattle.ground.proofs.Cases.{by-le, true-false, false-of}

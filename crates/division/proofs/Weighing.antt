@@ -1,8 +1,6 @@
 -- The test as the code works it out.
 -- Assumes nothing.
-use Prim.Native.Nat.{ℕ}
-use mathlib.Core.Path.{_≡_}
-use lib.Dec.{leb}
+use Rattle.ground.proofs.Kit.{ℕ, _≡_, leb}
 use Rattle.policy.specs.declared.Weights.{Weights}
 use Rattle.policy.specs.Sides.{left}
 use Rattle.policy.specs.Handover.{TotalIs}

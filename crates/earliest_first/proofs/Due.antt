@@ -1,11 +1,6 @@
 -- Sums over the jobs that are due by a tick d: those whose deadlines are no later.
 -- Assumes nothing.
-use Prim.Native.Nat.{ℕ, suc, _+_, _*_, _≤_, _<_}
-use mathlib.Core.Bool.{Bool, true, false}
-use mathlib.Core.Path.{_≡_, refl, ap}
-use native.Mathlib.Omega.{arith}
-use lib.Dec.{leb}
-use borrow.Author.Tests.{leb-true, le-leb}
+use Rattle.ground.proofs.Kit.{ℕ, suc, _+_, _*_, _≤_, _<_, Bool, true, false, _≡_, refl, ap, arith, leb, le-leb, leb-true}
 use Rattle.ground.specs.Choice.{pick}
 use Rattle.ground.specs.Total.{total}
 use Rattle.ground.proofs.Totals.{total-line, term-le-total, total-larger, total-gap}

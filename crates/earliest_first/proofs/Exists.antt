@@ -1,11 +1,6 @@
 -- The kernel that goes by deadlines runs the earliest deadlines first, so that what is proved of every such kernel is said of one at least.
 -- Assumes nothing.
-use Prim.Native.Nat.{ℕ, suc, _≤_, _<_}
-use mathlib.Core.Bool.{Bool, true, false}
-use mathlib.Core.Path.{_≡_, refl, ap, sym, _∙_}
-use native.Mathlib.Omega.{arith}
-use lib.Dec.{leb, ltb}
-use borrow.Author.Tests.{le-leb, ltb-true}
+use Rattle.ground.proofs.Kit.{ℕ, suc, _≤_, _<_, Bool, true, false, _≡_, refl, sym, _∙_, ap, arith, leb, ltb, le-leb, ltb-true}
 use Rattle.ground.specs.Choice.{bit, both}
 use Rattle.ground.proofs.Cases.{by-le}
 use Rattle.ground.proofs.Totals.{total-le}

@@ -1,12 +1,7 @@
 -- The fluid work: a job that gets its task's load at each tick from its release to its deadline. In a tick a task has one such job at most, so
 -- that all the jobs together get at most the sum of the loads.
 -- Assumes nothing.
-use Prim.Native.Nat.{ℕ, zero, suc, _+_, _-_, _*_, _≤_, _<_, min}
-use mathlib.Core.Bool.{Bool, true, false}
-use mathlib.Core.Path.{_≡_}
-use native.Mathlib.Nat.{mul-le-mul-left}
-use native.Mathlib.Omega.{arith}
-use lib.Dec.{leb}
+use Rattle.ground.proofs.Kit.{ℕ, zero, suc, _+_, _-_, _*_, _≤_, _<_, min, Bool, true, false, _≡_, mul-le-mul-left, arith, leb}
 use Rattle.ground.specs.Choice.{pick}
 use Rattle.ground.specs.Folds.{sumTo}
 use Rattle.ground.specs.Total.{total}

@@ -1,11 +1,6 @@
 -- The work done on the jobs that are due by d, in a tick before d: m ticks of it where a due job waits, and at least one where a due job runs.
 -- Assumes nothing.
-use Prim.Native.Nat.{ℕ, suc, _+_, _*_, _≤_, _<_}
-use mathlib.Core.Bool.{Bool, true, false}
-use mathlib.Core.Path.{_≡_, ap}
-use native.Mathlib.Omega.{arith}
-use lib.Dec.{leb}
-use borrow.Author.Tests.{leb-true, le-leb}
+use Rattle.ground.proofs.Kit.{ℕ, suc, _+_, _*_, _≤_, _<_, Bool, true, false, _≡_, ap, arith, leb, le-leb, leb-true}
 use Rattle.ground.specs.Choice.{pick, bit, both}
 use Rattle.ground.proofs.Cases.{by-bool}
 use Rattle.ground.proofs.Totals.{total-le, total-wider}

@@ -1,12 +1,7 @@
 -- The worked tables, by computation.
 -- Assumes nothing.
-use Prim.Native.Nat.{ℕ, zero, suc, _≤_, _<_}
-use mathlib.Core.Bool.{true, false}
-use mathlib.Core.List.{[], _∷_}
-use mathlib.Core.Path.{_≡_, refl, ap}
-use native.Mathlib.Omega.{arith}
+use Rattle.ground.proofs.Kit.{ℕ, zero, suc, _≤_, _<_, true, false, [], _∷_, _≡_, refl, ap, arith, getD}
 use lib.Dec.{lit<}
-use lib.ListN.{getD}
 use Rattle.ground.specs.Folds.{sumTo, countTo, anyTo, listTo}
 use Rattle.ground.specs.Total.{total}
 use Rattle.schedule.specs.Jobs.{deadline, Apart}

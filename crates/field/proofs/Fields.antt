@@ -1,11 +1,6 @@
 -- What a field says: there, with its value and the place after it, or not there. Said once for every kind of field.
 -- Assumes nothing.
-use Prim.Native.Nat.{ℕ, _+_, _≤_, _<_}
-use mathlib.Core.List.{List}
-use mathlib.Core.Path.{_≡_, sym, _∙_}
-use native.Mathlib.Omega.{arith}
-use lib.ListN.{length}
-use borrow.Author.Tests.{le-leb, lt-leb}
+use Rattle.ground.proofs.Kit.{ℕ, _+_, _≤_, _<_, List, _≡_, sym, _∙_, arith, length, le-leb, lt-leb}
 use Rattle.ground.proofs.Cases.{by-le}
 use Rattle.field.specs.declared.Field16.{Field16}
 use Rattle.field.specs.declared.Field16.the-variants as two

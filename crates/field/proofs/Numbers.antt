@@ -1,12 +1,8 @@
 -- Laws of numbers and their bytes, for every size. The last two are the two ways of the round trip.
 -- Assumes nothing.
-use Prim.Native.Nat.{ℕ, zero, suc, _+_, _*_, _/_, _%_, _≤_, _<_}
-use mathlib.Core.List.{List, [], _∷_, _++_}
-use mathlib.Core.Path.{_≡_, refl, ap, _∙_}
+use Rattle.ground.proofs.Kit.{ℕ, zero, suc, _+_, _*_, _/_, _%_, _≤_, _<_, List, [], _∷_, _++_, _≡_, refl, _∙_, ap, add-one, arith, length, getD, take, drop}
 use native.Mathlib.Nat.{add-assoc, div-lt-iff-lt-mul, div-add-mod'}
-use native.Mathlib.Numerals.{add-one}
-use native.Mathlib.Omega.{arith}
-use lib.ListN.{length, getD, take, drop, List·getD-append}
+use lib.ListN.{List·getD-append}
 use lib.Seq.{drop-cons, getD-append-add}
 use Rattle.field.specs.Number.{Bytes, numberAt, bytesOf, limit}
 

@@ -1,12 +1,9 @@
 -- A run of bytes that stands at a place of a list: joined from parts, split into parts, and read as a number. Both round trips of a sheet
 -- rest on these laws.
 -- Assumes nothing.
-use Prim.Native.Nat.{ℕ, _+_, _≤_, _<_}
-use mathlib.Core.List.{List, [], _++_, append-nil}
-use mathlib.Core.Path.{_≡_, refl, sym, ap, _∙_}
-use native.Mathlib.Omega.{arith}
-use lib.ListN.{length, take, drop, length-drop, take-append-drop}
-use lib.Seq.{length-take-le, take-all, take-at, drop-at, take-add, drop-drop}
+use Rattle.ground.proofs.Kit.{ℕ, _+_, _≤_, _<_, List, [], _++_, append-nil, _≡_, refl, sym, _∙_, ap, arith, length, take, drop, length-drop, take-append-drop}
+use Rattle.ground.proofs.Kit.{length-take-le}
+use lib.Seq.{take-all, take-at, drop-at, take-add, drop-drop}
 use Rattle.field.specs.Number.{Bytes, numberAt, bytesOf, limit}
 use Rattle.field.proofs.Numbers.{number-skip, number-front, bytes-back, number-back}
 

@@ -1,11 +1,7 @@
 -- Laws of runs of bytes stored in a buffer: two runs one after the other are one run, and a run from the front is what `stored-front` says.
 -- Assumes nothing.
-use Prim.Native.Nat.{ℕ, suc, _+_, _≤_}
-use mathlib.Core.List.{List, [], _∷_, _++_}
-use mathlib.Core.Path.{_≡_, refl, sym, ap, _∙_}
+use Rattle.ground.proofs.Kit.{ℕ, suc, _+_, _≤_, List, [], _∷_, _++_, _≡_, refl, sym, _∙_, ap, arith, length, set, drop, length-append}
 use native.Mathlib.Nat.{add-zero}
-use native.Mathlib.Omega.{arith}
-use lib.ListN.{length, set, drop, length-append}
 use lib.Seq.{sets, sets-eq, length-sets}
 use Rattle.field.specs.Handover.{stored, Put}
 

@@ -1,10 +1,6 @@
 -- The program run on its own output: a sheet that it wrote gives the same bytes, and the line of a refusal is refused as no sheet.
 -- Assumes nothing.
-use Prim.Native.Nat.{ℕ, _≤_}
-use mathlib.Core.Bool.{true, false}
-use mathlib.Core.List.{List}
-use mathlib.Core.Path.{_≡_, refl, sym, ap, _∙_}
-use native.Mathlib.Omega.{arith}
+use Rattle.ground.proofs.Kit.{ℕ, _≤_, true, false, List, _≡_, refl, sym, _∙_, ap, arith}
 use Rattle.kinds.specs.declared.Sheet.{Sheet}
 use Rattle.kinds.specs.declared.Refusal.the-variants.{WrongSettingsCount}
 use Rattle.kinds.specs.Limits.{mostSettings, mostTasks}

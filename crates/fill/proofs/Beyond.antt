@@ -1,12 +1,7 @@
 -- Document 01, "Program", on inputs that are longer than the longest sheet: "refused as 11 at" its length "if the first" so many bytes "read
 -- as a sheet of that length, else as the reader says of the whole"; Ask 2: "the program's 714 moves with it". One byte more tells all.
 -- Assumes nothing.
-use Prim.Native.Nat.{ℕ, _+_, _<_}
-use mathlib.Core.List.{List, []}
-use mathlib.Core.Path.{_≡_, ap}
-use native.Mathlib.Omega.{arith}
-use lib.ListN.{length, take}
-use borrow.Author.Tests.{ne-eqb}
+use Rattle.ground.proofs.Kit.{ℕ, _+_, _<_, List, [], _≡_, ap, arith, length, take, ne-eqb}
 use Rattle.kinds.specs.declared.Sheet.{Sheet}
 use Rattle.kinds.specs.declared.Refusal.the-variants.{BytesAfterLast}
 use Rattle.kinds.specs.Answer.{Handed, accepted, unrefused}

@@ -1,11 +1,6 @@
 -- "Given exactly when", of the program: `program-exactly`, whatever it reads; the numbers that it gives are `program-numbers`.
 -- Assumes nothing.
-use Prim.Native.Nat.{ℕ, _≤_}
-use mathlib.Core.List.{List, [], _∷_, _++_}
-use mathlib.Core.Path.{_≡_, refl, sym, ap, _∙_}
-use native.Mathlib.Omega.{arith}
-use lib.Dec.{ltb}
-use borrow.Author.Tests.{le-ltb, ltb-false}
+use Rattle.ground.proofs.Kit.{ℕ, _≤_, List, [], _∷_, _≡_, refl, sym, _∙_, ap, arith, ltb, le-ltb, ltb-false}
 use Rattle.kinds.specs.declared.Sheet.{Sheet}
 use Rattle.kinds.specs.declared.Refusal.{Refusal}
 use Rattle.kinds.specs.declared.Refusal.the-variants.{NoSuchPolicy, PolicyWithdrawn, Misset, TooManyTasks, BadRecord, NoStepPasses}
@@ -21,7 +16,7 @@ use Rattle.admission.specs.Admission.{missetUnder}
 use Rattle.plan.specs.Chain.{nonePasses}
 use Rattle.plain.specs.Asked.{asked}
 use Rattle.plain.proofs.Exactly.{asked-chain}
-use Rattle.sheet.specs.Reading.{taskCount, noSheet, sheetIn, readSheet}
+use Rattle.sheet.specs.Reading.{taskCount, noSheet, sheetIn}
 use Rattle.sheet.specs.Chain.{readerChain}
 use Rattle.sheet.proofs.Exactly.{reader-chain}
 use Rattle.writer.specs.Encode.{encode}

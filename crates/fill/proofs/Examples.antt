@@ -1,7 +1,6 @@
 -- Document 01's whole case, worked out over the definition, and the line of a refusal.
 -- Assumes nothing.
-use mathlib.Core.List.{[], _∷_}
-use mathlib.Core.Path.{_≡_, refl}
+use Rattle.ground.proofs.Kit.{[], _∷_, _≡_, refl}
 use Rattle.ground.specs.First.{firstFrom, firstBelow}
 use Rattle.ground.specs.Least.{leastUpTo}
 use Rattle.ground.specs.Folds.{sumTo, maxTo, listTo}

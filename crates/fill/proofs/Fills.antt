@@ -1,14 +1,7 @@
 -- A sheet filled in, or its refusal, with the buffer after it: that no second answer meets the promise of `fill_in`, and what the program
 -- makes of it.
 -- Assumes nothing.
-use Prim.Native.Nat.{ℕ}
-use mathlib.Core.List.{List, [], _++_}
-use mathlib.Core.Bool.{false}
-use mathlib.Core.Path.{_≡_, refl, sym, ap, _∙_}
-use native.Mathlib.Omega.{arith}
-use lib.Dec.{eqb}
-use lib.ListN.{length, drop}
-use borrow.Author.Tests.{ne-eqb}
+use Rattle.ground.proofs.Kit.{ℕ, false, List, [], _++_, _≡_, refl, sym, _∙_, ap, arith, eqb, length, drop, ne-eqb}
 use Rattle.kinds.specs.declared.Refusal.{Refusal}
 use Rattle.kinds.specs.Refusal.{numberOf, placeOf}
 use Rattle.kinds.specs.Answer.{Handed, refused}

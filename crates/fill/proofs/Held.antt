@@ -1,11 +1,6 @@
 -- The numbers of a sheet that was read and planned fit their fields, so that it reads back as it is.
 -- Assumes nothing.
-use Prim.Native.Nat.{ℕ, zero, suc, _+_, _*_, _≤_, _<_}
-use mathlib.Core.Bool.{true}
-use mathlib.Core.List.{List}
-use mathlib.Core.Path.{_≡_, sym, ap, _∙_}
-use native.Mathlib.Omega.{arith}
-use lib.ListN.{length, getD}
+use Rattle.ground.proofs.Kit.{ℕ, zero, suc, _+_, _*_, _≤_, _<_, true, List, _≡_, sym, _∙_, ap, arith, length, getD}
 use Rattle.ground.proofs.Buffer.{list-in}
 use Rattle.ground.proofs.Cases.{by-bool, by-le}
 use Rattle.kinds.specs.declared.Task.{Task}

@@ -1,13 +1,7 @@
 -- What the plain finder leaves in two outputs is the plan of the definition, and its sheet can always be written.
 -- Assumes nothing.
-use Prim.Native.Nat.{ℕ, _+_, _≤_, _<_, min}
-use mathlib.Core.Bool.{true}
-use mathlib.Core.List.{List, [], _++_}
-use mathlib.Core.Path.{_≡_, refl, sym, ap, ap₂, _∙_}
-use native.Mathlib.Omega.{arith}
-use lib.ListN.{length, getD, set, drop, List·getD-append}
-use lib.Dec.{eqb}
-use borrow.Author.Tests.{eq-eqb}
+use Rattle.ground.proofs.Kit.{ℕ, _+_, _≤_, _<_, min, true, List, [], _++_, _≡_, refl, sym, _∙_, ap, ap₂, arith, eqb, length, getD, set, drop, eq-eqb}
+use lib.ListN.{List·getD-append}
 use Rattle.ground.proofs.Buffer.{list-long}
 use Rattle.ground.proofs.Cases.{by-bool}
 use Rattle.kinds.specs.declared.Granted.{Granted}

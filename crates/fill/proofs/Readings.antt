@@ -1,8 +1,6 @@
 -- What comes of a reading: its refusal, or the filled sheet; and the line that the program writes for a refusal.
 -- Assumes nothing.
-use Prim.Native.Nat.{ℕ}
-use mathlib.Core.List.{List, []}
-use mathlib.Core.Path.{_≡_, sym, ap, _∙_}
+use Rattle.ground.proofs.Kit.{ℕ, List, [], _≡_, sym, _∙_, ap}
 use Rattle.kinds.specs.declared.Sheet.{Sheet}
 use Rattle.kinds.specs.declared.Refusal.{Refusal}
 use Rattle.kinds.specs.Refusal.{numberOf, placeOf}

@@ -1,8 +1,6 @@
 -- Ask 8: "Old sheets with policy 3 are still read .., and the program answers them with `refused 15 at 0`": `withdrawn-line`.
 -- Assumes nothing.
-use Prim.Native.Nat.{ℕ}
-use mathlib.Core.List.{List, [], _∷_}
-use mathlib.Core.Path.{_≡_, refl, sym, _∙_}
+use Rattle.ground.proofs.Kit.{ℕ, List, [], _∷_, _≡_, refl, sym, _∙_}
 use Rattle.kinds.specs.declared.Sheet.{Sheet}
 use Rattle.kinds.specs.declared.Refusal.the-variants.{PolicyWithdrawn}
 use Rattle.kinds.specs.Policy.{policyNumber}

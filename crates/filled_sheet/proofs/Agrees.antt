@@ -1,8 +1,6 @@
 -- Document 02, Ask 14, in its own words: the results that the plain finder would give.
 -- Assumes nothing.
-use Prim.Native.Nat.{ℕ, _<_}
-use mathlib.Core.List.{List}
-use mathlib.Core.Path.{_≡_}
+use Rattle.ground.proofs.Kit.{ℕ, _<_, List, _≡_}
 use Rattle.kinds.specs.declared.Granted.{Granted}
 use Rattle.kinds.specs.declared.Sheet.{Sheet}
 use Rattle.kinds.specs.Task.{at}

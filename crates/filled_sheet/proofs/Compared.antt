@@ -1,11 +1,6 @@
 -- What the plain finder leaves in two outputs, compared with the results of a sheet, is what the definition compares.
 -- Assumes nothing.
-use Prim.Native.Nat.{ℕ, _≤_, _<_}
-use mathlib.Core.Bool.{true}
-use mathlib.Core.List.{List}
-use mathlib.Core.Path.{_≡_, sym, ap, _∙_}
-use lib.ListN.{length}
-use borrow.Author.Tests.{le-leb, lt-leb}
+use Rattle.ground.proofs.Kit.{ℕ, _≤_, _<_, true, List, _≡_, sym, _∙_, ap, length, le-leb, lt-leb}
 use Rattle.ground.specs.First.{firstBelow}
 use Rattle.ground.proofs.First.{first-cong}
 use Rattle.kinds.specs.declared.Sheet.{Sheet}

@@ -1,13 +1,8 @@
 -- The computed answer is an acceptance exactly where Ask 14's sentence holds: `accepted-agrees` and `agrees-accepted`; and 19 names the
 -- first result that differs: `first-differing`.
 -- Assumes nothing.
-use Prim.Native.Nat.{ℕ, _≤_, _<_}
-use mathlib.Core.Bool.{true, false, not}
-use mathlib.Core.List.{List}
-use mathlib.Core.Path.{_≡_, refl, sym, ap, ap₂, _∙_}
-use native.Mathlib.Omega.{arith}
-use lib.Dec.{eqb, leb}
-use borrow.Author.Tests.{eqb-true, eq-eqb, leb-true, le-leb, not-false}
+use Rattle.ground.proofs.Kit.{ℕ, _≤_, _<_, true, false, not, List, _≡_, refl, sym, _∙_, ap, ap₂, arith, eqb, leb, eq-eqb, eqb-true, le-leb, leb-true}
+use Rattle.ground.proofs.Kit.{not-false}
 use Rattle.ground.specs.declared.Step.{Step}
 use Rattle.ground.specs.declared.Step.the-variants.{At, Nothing}
 use Rattle.ground.specs.Choice.{either}

@@ -1,11 +1,7 @@
 -- Ask 14: "Each sheet our program fills in is accepted", `filled-accepted`; and of two accepted sheets with the same settings and tasks the
 -- results are the same, `same-results`.
 -- Assumes nothing.
-use Prim.Native.Nat.{ℕ, _≤_}
-use mathlib.Core.List.{List}
-use mathlib.Core.Path.{_≡_, refl, sym, ap, ap₂, _∙_}
-use native.Mathlib.Omega.{arith}
-use lib.ListN.{length}
+use Rattle.ground.proofs.Kit.{ℕ, _≤_, List, _≡_, refl, sym, _∙_, ap, ap₂, arith, length}
 use lib.Seq.{ext-getD}
 use Rattle.ground.proofs.Cases.{by-le}
 use Rattle.kinds.specs.declared.Granted.{Granted}

@@ -1,9 +1,6 @@
 -- The program's line for each verdict, and that the longest sheet's bytes and one more tell all.
 -- Assumes nothing.
-use Prim.Native.Nat.{ℕ, _+_}
-use mathlib.Core.List.{List}
-use mathlib.Core.Path.{_≡_, sym, ap, _∙_}
-use lib.ListN.{take}
+use Rattle.ground.proofs.Kit.{ℕ, _+_, List, _≡_, sym, _∙_, ap, take}
 use Rattle.kinds.specs.declared.Sheet.{Sheet}
 use Rattle.kinds.specs.declared.Refusal.{Refusal}
 use Rattle.kinds.specs.Refusal.{numberOf, placeOf}

@@ -1,18 +1,15 @@
 -- "Given exactly when", of the checker of filled sheets: `check-exactly`, whatever it reads; the numbers that it gives are `check-numbers`.
 -- Assumes nothing.
-use Prim.Native.Nat.{ℕ, _≤_}
-use mathlib.Core.List.{List, [], _∷_, _++_}
-use mathlib.Core.Path.{_≡_, refl, ap, _∙_}
+use Rattle.ground.proofs.Kit.{ℕ, _≤_, List, [], _∷_, _++_, _≡_, refl, _∙_, ap}
 use Rattle.kinds.specs.declared.Sheet.{Sheet}
 use Rattle.kinds.specs.Answer.{Handed, NumberAndPlace, accepted, refused, unrefused}
 use Rattle.kinds.specs.Limits.{mostTasks}
 use Rattle.kinds.specs.Chain.{firstBy, handedBy, Exactly, numbersGiven}
 use Rattle.kinds.proofs.Chains.{exactly, first-then, not-most}
-use Rattle.plain.specs.Asked.{asked}
-use Rattle.sheet.specs.Reading.{noSheet, sheetIn, readSheet}
+use Rattle.sheet.specs.Reading.{noSheet, sheetIn}
 use Rattle.sheet.specs.Chain.{readerChain}
 use Rattle.sheet.proofs.Exactly.{reader-chain}
-use Rattle.fill.specs.Chain.{stepFor, plannedChain, programChain}
+use Rattle.fill.specs.Chain.{stepFor, plannedChain}
 use Rattle.fill.proofs.Exactly.{unrefused-chain, rest-only, asked-few, read-few}
 use Rattle.filled_sheet.specs.Checked.{firstDiffering, compared, checkedSheet, checked}
 use Rattle.filled_sheet.specs.Chain.{comparedChain, checkChain}

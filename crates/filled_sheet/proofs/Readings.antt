@@ -1,8 +1,6 @@
 -- What the checker says of a reading: its refusal, or what it says of the sheet.
 -- Assumes nothing.
-use Prim.Native.Nat.{ℕ}
-use mathlib.Core.List.{List}
-use mathlib.Core.Path.{_≡_}
+use Rattle.ground.proofs.Kit.{ℕ, List, _≡_}
 use Rattle.kinds.specs.declared.Refusal.{Refusal}
 use Rattle.kinds.specs.Answer.{refused}
 use Rattle.kinds.proofs.Chain.{comes-first, goes-on}

@@ -1,8 +1,6 @@
 -- No second answer meets the promise of `check`.
 -- Assumes nothing.
-use Prim.Native.Nat.{ℕ}
-use mathlib.Core.List.{List}
-use mathlib.Core.Path.{_≡_, sym, _∙_}
+use Rattle.ground.proofs.Kit.{ℕ, List, _≡_, sym, _∙_}
 use Rattle.kinds.specs.declared.Verdict.{Verdict}
 use Rattle.kinds.specs.Answer.{handedVerdict}
 use Rattle.kinds.proofs.Answers.{verdict-one}

@@ -1,15 +1,8 @@
 -- What document 01 says of first fit: each task has the lowest-numbered processor with room, each load is at most S, and when every
 -- task is placed the loads of the processors add up to the sum of the tasks' loads.
 -- Assumes nothing.
-use Prim.Native.Nat.{ℕ, zero, suc, _+_, _*_, _≤_, _<_}
-use mathlib.Core.Bool.{true}
-use mathlib.Core.List.{List}
-use mathlib.Core.Path.{_≡_, refl, ap, _∙_}
-use native.Mathlib.Omega.{arith}
-use lib.Dec.{leb, eqb}
-use lib.ListN.{length, getD, replicate, length-set, length-replicate, getD-replicate}
-use lib.Seq.{getD-set-same, getD-set-other}
-use borrow.Author.Tests.{leb-true, leb-false, eqb-true}
+use Rattle.ground.proofs.Kit.{ℕ, zero, suc, _+_, _*_, _≤_, _<_, true, List, _≡_, refl, _∙_, ap, arith, eqb, leb, length, getD, replicate, length-set}
+use Rattle.ground.proofs.Kit.{length-replicate, getD-replicate, getD-set-same, getD-set-other, eqb-true, leb-true, leb-false}
 use Rattle.ground.specs.First.{firstBelow, IsFirst}
 use Rattle.ground.specs.Folds.{sumTo}
 use Rattle.ground.proofs.Cases.{by-eq}

@@ -1,14 +1,7 @@
 -- The walk over the tasks with the walk over the processors inside it.
 -- Assumes nothing.
-use Prim.Native.Nat.{ℕ, _+_, _≤_, _<_}
-use mathlib.Core.Bool.{false}
-use mathlib.Core.List.{List, _++_}
-use mathlib.Core.Path.{_≡_, refl, ap, _∙_}
-use native.Mathlib.Numerals.{add-one}
-use native.Mathlib.Omega.{arith}
-use lib.Dec.{leb, eqb}
-use lib.ListN.{length, getD, set, drop, replicate, length-set}
-use borrow.Author.Tests.{le-leb, lt-leb}
+use Rattle.ground.proofs.Kit.{ℕ, _+_, _≤_, _<_, false, List, _++_, _≡_, refl, _∙_, ap, add-one, arith, eqb, leb, length, getD, set, drop, replicate}
+use Rattle.ground.proofs.Kit.{length-set, le-leb, lt-leb}
 use Rattle.ground.proofs.First.{first-here, first-none, first-more}
 use Rattle.ground.proofs.Buffer.{list-none, list-more}
 use Rattle.kinds.specs.Limits.{scale, mostTasks, mostProcessors}

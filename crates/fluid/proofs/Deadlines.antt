@@ -1,8 +1,7 @@
 -- A fluid kernel meets every deadline, where the loads cover the needs; and they cover them too where the ticks come in parts.
 -- Assumes nothing.
-use Prim.Native.Nat.{ℕ, _*_, _/_, _≤_}
-use native.Mathlib.Nat.{le-div-iff-mul-le, mul-le-mul-right}
-use native.Mathlib.Omega.{arith}
+use Rattle.ground.proofs.Kit.{ℕ, _*_, _/_, _≤_, mul-le-mul-right, arith}
+use native.Mathlib.Nat.{le-div-iff-mul-le}
 use Rattle.schedule.specs.Jobs.{Jobs, Covers}
 use Rattle.schedule.specs.Schedule.{Schedule, MeetsDeadlines}
 use Rattle.fluid.specs.Fluid.{Fluid}

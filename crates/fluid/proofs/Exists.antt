@@ -1,12 +1,7 @@
 -- Where a tick comes in S parts, the wrap is a fluid kernel, so that what is proved of every such kernel is said of one at least.
 -- Assumes nothing.
-use Prim.Native.Nat.{ℕ, zero, suc, _+_, _*_, _/_, _%_, _≤_, _<_}
-use mathlib.Core.Bool.{true}
-use mathlib.Core.Path.{_≡_, ap, _∙_}
-use native.Mathlib.Nat.{mul-add-div-right, mul-add-mod-self-right, mod-eq-of-lt, div-eq-of-lt, div-mul-le-self, mul-div-cancel, mul-le-mul-right, le-trans}
-use native.Mathlib.Omega.{arith}
-use lib.Dec.{ltb}
-use borrow.Author.Tests.{ltb-true, lt-ltb}
+use Rattle.ground.proofs.Kit.{ℕ, zero, suc, _+_, _*_, _/_, _%_, _≤_, _<_, true, _≡_, _∙_, ap, le-trans, mul-le-mul-right, arith, ltb, lt-ltb, ltb-true}
+use native.Mathlib.Nat.{mul-add-div-right, mul-add-mod-self-right, mod-eq-of-lt, div-eq-of-lt, div-mul-le-self, mul-div-cancel}
 use Rattle.ground.specs.Choice.{bit}
 use Rattle.ground.specs.Folds.{sumTo, countTo}
 use Rattle.ground.specs.Total.{total}

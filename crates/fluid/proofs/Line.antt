@@ -1,12 +1,7 @@
 -- The line of parts: a stretch of it has as many parts as it is long, however it is cut into processors.
 -- Assumes nothing.
-use Prim.Native.Nat.{ℕ, zero, suc, _+_, _-_, _*_, _≤_, _<_, min}
-use mathlib.Core.Bool.{Bool, true, false}
-use mathlib.Core.Path.{_≡_, refl, ap}
-use native.Mathlib.Nat.{mul-le-mul-right}
-use native.Mathlib.Omega.{arith}
-use lib.Dec.{leb, ltb}
-use borrow.Author.Tests.{leb-true, le-leb, lt-leb, ltb-true, lt-ltb, le-ltb}
+use Rattle.ground.proofs.Kit.{ℕ, zero, suc, _+_, _-_, _*_, _≤_, _<_, min, Bool, true, false, _≡_, refl, ap, mul-le-mul-right, arith, leb, ltb, le-leb, lt-leb}
+use Rattle.ground.proofs.Kit.{leb-true, lt-ltb, le-ltb, ltb-true}
 use Rattle.ground.specs.Choice.{bit, either}
 use Rattle.ground.specs.Folds.{countTo, anyTo}
 use Rattle.ground.proofs.Cases.{by-bool, by-le, both-true}

@@ -1,9 +1,6 @@
 -- What the wrap gives: each task has as many parts of a tick as its load is, and in each part at most m tasks have one.
 -- Assumes nothing.
-use Prim.Native.Nat.{ℕ, zero, suc, _+_, _*_, _≤_, _<_}
-use mathlib.Core.Bool.{Bool, true, false}
-use mathlib.Core.Path.{_≡_}
-use native.Mathlib.Omega.{arith}
+use Rattle.ground.proofs.Kit.{ℕ, zero, suc, _+_, _*_, _≤_, _<_, Bool, true, false, _≡_, arith}
 use Rattle.ground.specs.Choice.{bit, either}
 use Rattle.ground.specs.Folds.{sumTo, countTo, anyTo}
 use Rattle.ground.proofs.Cases.{by-le}

@@ -1,11 +1,7 @@
 -- A buffer that is written from the front: the first i entries are f's, the rest is as it was.
 -- Assumes nothing.
-use Prim.Native.Nat.{ℕ, zero, suc, _+_, _-_, _≤_, _<_}
-use mathlib.Core.List.{List, [], _∷_, _++_, append-assoc, append-nil}
-use mathlib.Core.Path.{_≡_, refl, ap, _∙_}
-use native.Mathlib.Numerals.{add-one}
-use native.Mathlib.Omega.{arith}
-use lib.ListN.{length, getD, set, drop, length-append, length-set}
+use Rattle.ground.proofs.Kit.{ℕ, zero, suc, _+_, _-_, _≤_, _<_, List, [], _∷_, _++_, append-nil, append-assoc, _≡_, refl, _∙_, ap, add-one, arith}
+use Rattle.ground.proofs.Kit.{length, getD, set, drop, length-set, length-append}
 use lib.Seq.{set-at, drop-cons, getD-at, getD-append-add, getD-drop}
 use Rattle.ground.specs.Folds.{listTo}
 use Rattle.ground.proofs.Cases.{by-le}

@@ -1,11 +1,6 @@
 -- Ways to go by cases.
 -- Assumes nothing.
-use Prim.Native.Nat.{ℕ, _≤_, _<_}
-use mathlib.Core.Bool.{Bool, true, false}
-use mathlib.Core.Path.{_≡_, refl}
-use native.Mathlib.Omega.{arith}
-use lib.Dec.{leb}
-use borrow.Author.Tests.{leb-true, leb-false}
+use Rattle.ground.proofs.Kit.{ℕ, _≤_, _<_, Bool, true, false, _≡_, refl, arith, leb, leb-true, leb-false}
 use Rattle.ground.specs.Choice.{both}
 
 pub by-bool : {X : Type 0} (b : Bool) → (b ≡ true → X) → (b ≡ false → X) → X

@@ -1,9 +1,6 @@
 -- The computed first number is the first in words, and no other number is.
 -- Assumes nothing.
-use Prim.Native.Nat.{ℕ, zero, suc, _+_, _<_}
-use mathlib.Core.Bool.{Bool, true, false, not}
-use mathlib.Core.Path.{_≡_, sym, ap, _∙_}
-use native.Mathlib.Omega.{arith}
+use Rattle.ground.proofs.Kit.{ℕ, zero, suc, _+_, _<_, Bool, true, false, not, _≡_, sym, _∙_, ap, arith}
 use Rattle.ground.specs.First.{firstFrom, firstBelow, IsFirst}
 use Rattle.ground.proofs.Cases.{by-bool, by-le, true-false, below-next}
 

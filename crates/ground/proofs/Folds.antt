@@ -1,10 +1,6 @@
 -- Laws of the folds. The last of each group says that a fold looks at the numbers below n only.
 -- Assumes nothing.
-use Prim.Native.Nat.{ℕ, zero, suc, _+_, _*_, _≤_, _<_, max}
-use mathlib.Core.Bool.{Bool, true, false}
-use mathlib.Core.Path.{_≡_, refl, ap, sym, _∙_}
-use native.Mathlib.Numerals.{add-one}
-use native.Mathlib.Omega.{arith}
+use Rattle.ground.proofs.Kit.{ℕ, zero, suc, _+_, _*_, _≤_, _<_, max, Bool, true, false, _≡_, refl, sym, _∙_, ap, add-one, arith}
 use Rattle.ground.specs.Choice.{bit}
 use Rattle.ground.specs.Folds.{sumTo, maxTo, countTo, anyTo}
 use Rattle.ground.proofs.Cases.{by-bool, by-le}

@@ -1,12 +1,8 @@
 -- Halving the range of a rising test gives its least step: a pass keeps the middle and what is below, a failure what is above. The tests
 -- that it makes are counted, and few.
 -- Assumes nothing.
-use Prim.Native.Nat.{ℕ, zero, suc, _+_, _-_, _^_, _≤_, _<_}
-use mathlib.Core.Bool.{Bool, true, false}
-use mathlib.Core.Path.{_≡_, refl, ap, sym, _∙_}
+use Rattle.ground.proofs.Kit.{ℕ, zero, suc, _+_, _-_, _^_, _≤_, _<_, Bool, true, false, _≡_, refl, sym, _∙_, ap, arith, lt-ltb, le-ltb}
 use native.Mathlib.Nat.{two-pow-succ}
-use native.Mathlib.Omega.{arith}
-use borrow.Author.Tests.{lt-ltb, le-ltb}
 use Rattle.ground.specs.declared.Step.the-variants.{At, Nothing}
 use Rattle.ground.specs.Least.{leastUpTo, Rising}
 use Rattle.ground.specs.Halving.{middle, testsFrom, testsMade}

@@ -1,11 +1,6 @@
 -- The computed least step passes, no smaller one does, and none means that none passes; no other answer is right.
 -- Assumes nothing.
-use Prim.Native.Nat.{ℕ, suc, _≤_, _<_}
-use mathlib.Core.Bool.{Bool, true, false}
-use mathlib.Core.Path.{_≡_, refl, ap, sym, _∙_}
-use native.Mathlib.Omega.{arith}
-use lib.Dec.{leb}
-use borrow.Author.Tests.{leb-true, leb-false}
+use Rattle.ground.proofs.Kit.{ℕ, suc, _≤_, _<_, Bool, true, false, _≡_, refl, sym, _∙_, ap, arith, leb, leb-true, leb-false}
 use Rattle.ground.specs.declared.Step.{Step}
 use Rattle.ground.specs.declared.Step.the-variants.{At, Nothing}
 use Rattle.ground.specs.First.{IsFirst}

@@ -1,3 +1,4 @@
+pub mod Kit
 pub mod Cases
 pub mod Rounding
 pub mod Folds

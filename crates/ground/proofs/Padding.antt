@@ -1,14 +1,11 @@
 -- Laws of a padded list: it grows by one when the next row is put into its place, within its length it shows the list itself, and what
 -- stands where settles it.
 -- Assumes nothing.
-use Prim.Native.Nat.{ℕ, zero, suc, _+_, _≤_, _<_, min}
-use mathlib.Core.List.{List, [], _∷_, _++_}
-use mathlib.Core.Path.{_≡_, refl, sym, ap, _∙_}
+use Rattle.ground.proofs.Kit.{ℕ, zero, suc, _+_, _≤_, _<_, min, List, [], _∷_, _++_, _≡_, refl, sym, _∙_, ap, add-one, arith, length, getD, set, take}
+use Rattle.ground.proofs.Kit.{replicate, length-take-le, getD-set-same, getD-set-other}
 use native.Mathlib.Nat.{not-suc-le-zero, le-of-suc-le-suc, suc-inj}
-use native.Mathlib.Numerals.{add-one}
-use native.Mathlib.Omega.{arith}
-use lib.ListN.{length, getD, set, take, replicate, List·getD-eq-default}
-use lib.Seq.{take-suc, length-take-le, getD-set-same, getD-set-other, ext-getD}
+use lib.ListN.{List·getD-eq-default}
+use lib.Seq.{take-suc, ext-getD}
 use Rattle.ground.specs.Folds.{listTo}
 use Rattle.ground.specs.Padded.{padded}
 use Rattle.ground.proofs.Buffer.{list-long}

@@ -1,9 +1,7 @@
 -- The division rounded up is the least quotient that is enough.
 -- Assumes nothing.
-use Prim.Native.Nat.{ℕ, zero, suc, _+_, _-_, _*_, _≤_, _<_}
-use native.Mathlib.Nat.{lt-div-mul-add, div-lt-iff-lt-mul, suc-mul, mul-le-mul-left, mul-le-mul-right, le-trans, div-zero}
-use native.Mathlib.Omega.{arith}
-use mathlib.Core.Path.{_≡_}
+use Rattle.ground.proofs.Kit.{ℕ, zero, suc, _+_, _-_, _*_, _≤_, _<_, _≡_, le-trans, mul-le-mul-left, mul-le-mul-right, arith}
+use native.Mathlib.Nat.{lt-div-mul-add, div-lt-iff-lt-mul, suc-mul, div-zero}
 use Rattle.ground.specs.Rounding.{ceilDiv}
 use Rattle.ground.proofs.Cases.{by-le}
 

@@ -1,9 +1,6 @@
 -- Further laws of sums: of two of them side by side, of one over more numbers, and of terms that are mostly 0.
 -- Assumes nothing.
-use Prim.Native.Nat.{ℕ, zero, suc, _+_, _*_, _≤_, _<_}
-use mathlib.Core.Bool.{Bool}
-use mathlib.Core.Path.{_≡_, ap}
-use native.Mathlib.Omega.{arith}
+use Rattle.ground.proofs.Kit.{ℕ, zero, suc, _+_, _*_, _≤_, _<_, Bool, _≡_, ap, arith}
 use Rattle.ground.specs.Choice.{pick}
 use Rattle.ground.specs.Folds.{sumTo, countTo}
 use Rattle.ground.proofs.Cases.{by-bool, by-le}

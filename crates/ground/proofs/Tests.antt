@@ -1,9 +1,6 @@
 -- Laws of tests over numbers: where a test holds at any of them, and where it holds at none.
 -- Assumes nothing.
-use Prim.Native.Nat.{ℕ, zero, suc, _+_, _≤_, _<_}
-use mathlib.Core.Bool.{Bool, true, false}
-use mathlib.Core.Path.{_≡_, refl}
-use native.Mathlib.Omega.{arith}
+use Rattle.ground.proofs.Kit.{ℕ, zero, suc, _+_, _≤_, _<_, Bool, true, false, _≡_, refl, arith}
 use Rattle.ground.specs.Choice.{bit}
 use Rattle.ground.specs.Folds.{anyTo}
 use Rattle.ground.proofs.Cases.{by-bool, by-le, true-false}

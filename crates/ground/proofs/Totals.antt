@@ -1,9 +1,6 @@
 -- Laws of sums over pairs, each from the law of a sum over numbers.
 -- Assumes nothing.
-use Prim.Native.Nat.{ℕ, _+_, _*_, _≤_, _<_}
-use mathlib.Core.Bool.{Bool, true}
-use mathlib.Core.Path.{_≡_, refl}
-use native.Mathlib.Omega.{arith}
+use Rattle.ground.proofs.Kit.{ℕ, _+_, _*_, _≤_, _<_, Bool, true, _≡_, refl, arith}
 use Rattle.ground.specs.Choice.{bit}
 use Rattle.ground.specs.Folds.{sumTo}
 use Rattle.ground.specs.Total.{total}

@@ -1,10 +1,6 @@
 -- The loop that halves: one look more.
 -- Assumes nothing.
-use Prim.Native.Nat.{ℕ, _-_, _≤_, _<_}
-use mathlib.Core.Bool.{Bool}
-use mathlib.Core.List.{List}
-use native.Mathlib.Omega.{arith}
-use borrow.Author.Tests.{leb-true, le-leb}
+use Rattle.ground.proofs.Kit.{ℕ, _-_, _≤_, _<_, Bool, List, arith, le-leb, leb-true}
 use Rattle.ground.specs.Least.{Rising}
 use Rattle.ground.specs.Halving.{middle}
 use Rattle.ground.proofs.Cases.{by-bool}

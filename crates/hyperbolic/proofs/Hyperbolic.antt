@@ -1,12 +1,9 @@
 -- The hyperbolic bound of Bini, Buttazzo and Buttazzo: within it some time up to T is enough for the work that is released in it.
 -- Assumes nothing.
-use Prim.Native.Nat.{ℕ, zero, suc, _+_, _*_, _/_, _^_, _≤_, _<_}
-use mathlib.Core.Path.{_≡_, refl}
-use native.Mathlib.Nat.{mul-le-mul-left, mul-le-mul-right, mul-lt-mul-of-pos-right, mul-pos, lt-of-mul-lt-mul-left}
-use native.Mathlib.Nat.{lt-div-mul-add, le-div-iff-mul-le, div-mul-le-self, div-self, le-trans, le-of-eq, lt-of-lt-of-le}
-use native.Mathlib.Omega.{arith}
-use lib.Dec.{leb}
-use borrow.Author.Tests.{lt-ltb, le-ltb, le-leb, leb-true, leb-false}
+use Rattle.ground.proofs.Kit.{ℕ, zero, suc, _+_, _*_, _/_, _^_, _≤_, _<_, _≡_, refl, le-trans, mul-le-mul-left, mul-le-mul-right, arith, leb, le-leb}
+use Rattle.ground.proofs.Kit.{leb-true, leb-false, lt-ltb, le-ltb}
+use native.Mathlib.Nat.{mul-lt-mul-of-pos-right, mul-pos, lt-of-mul-lt-mul-left}
+use native.Mathlib.Nat.{lt-div-mul-add, le-div-iff-mul-le, div-mul-le-self, div-self, le-of-eq, lt-of-lt-of-le}
 use Rattle.ground.specs.Folds.{sumTo, prodTo}
 use Rattle.ground.specs.Rounding.{ceilDiv}
 use Rattle.ground.proofs.Cases.{by-bool, by-le}

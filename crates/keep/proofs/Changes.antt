@@ -1,13 +1,9 @@
 -- The two changes: what each of their returns hands back, what Ask 6 says of an accepted and of a refused one, that a place freed can be
 -- joined again, and that no second answer fits.
 -- Assumes nothing.
-use Prim.Native.Nat.{ℕ, _+_, _-_, _≤_, _<_}
-use mathlib.Core.Bool.{Bool, true, false}
-use mathlib.Core.List.{List}
-use mathlib.Core.Path.{_≡_, refl, sym, ap, _∙_}
-use native.Mathlib.Omega.{arith}
-use lib.Dec.{eqb, leb, ltb}
-use borrow.Author.Tests.{eq-eqb, ne-eqb, le-leb, lt-leb, lt-ltb, le-ltb, leb-true, leb-false, ltb-false, eqb-false}
+use Rattle.ground.proofs.Kit.{ℕ, _+_, _-_, _≤_, _<_, Bool, true, false, List, _≡_, refl, sym, _∙_, ap, arith, eqb, leb, ltb, eq-eqb, ne-eqb, le-leb, lt-leb}
+use Rattle.ground.proofs.Kit.{leb-true, leb-false, lt-ltb, le-ltb, ltb-false}
+use borrow.Author.Tests.{eqb-false}
 use Rattle.ground.specs.Folds.{listTo}
 use Rattle.ground.specs.Padded.{padded}
 use Rattle.kinds.specs.declared.Task.{Task}

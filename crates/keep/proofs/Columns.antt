@@ -1,12 +1,6 @@
 -- The two columns from which the index is worked out: that they hold what a table's order needs, and still do once a record has left.
 -- Assumes nothing.
-use Prim.Native.Nat.{ℕ, _+_, _-_, _≤_, _<_}
-use mathlib.Core.List.{List}
-use mathlib.Core.Path.{_≡_, sym, ap, _∙_}
-use native.Mathlib.Omega.{arith}
-use lib.Dec.{ltb}
-use lib.ListN.{length, getD, set, length-set}
-use lib.Seq.{getD-set-same, getD-set-other}
+use Rattle.ground.proofs.Kit.{ℕ, _+_, _-_, _≤_, _<_, List, _≡_, sym, _∙_, ap, arith, ltb, length, getD, set, length-set, getD-set-same, getD-set-other}
 use Rattle.ground.proofs.Cases.{by-eq}
 use Rattle.kinds.specs.declared.Task.{Task}
 use Rattle.kinds.specs.Limits.{mostTasks}

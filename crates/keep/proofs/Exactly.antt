@@ -1,10 +1,6 @@
 -- "Given exactly when", of a join and of a leave: `join-exactly`, `leave-exactly`; the numbers that they give are `join-numbers`, `leave-numbers`.
 -- Assumes nothing.
-use Prim.Native.Nat.{ℕ, _+_, _-_}
-use mathlib.Core.Bool.{Bool, true, false}
-use mathlib.Core.List.{List, [], _∷_}
-use mathlib.Core.Path.{_≡_, refl, ap, _∙_}
-use lib.Dec.{eqb, leb, ltb}
+use Rattle.ground.proofs.Kit.{ℕ, _+_, _-_, Bool, true, false, List, [], _∷_, _≡_, refl, _∙_, ap, leb, ltb}
 use Rattle.kinds.specs.declared.Task.{Task}
 use Rattle.kinds.specs.declared.Refusal.the-variants.{BadRecord, NoSuchRecord}
 use Rattle.kinds.specs.declared.Verdict.{Verdict}
@@ -12,7 +8,6 @@ use Rattle.kinds.specs.declared.Verdict.the-variants.{Accepted, Refused}
 use Rattle.kinds.specs.Answer.{check}
 use Rattle.kinds.specs.Chain.{Check, firstBy, firstOf, handedBy, Exactly, numbersGiven}
 use Rattle.kinds.proofs.Chains.{exactly, first-through}
-use Rattle.kinds.specs.Limits.{mostTasks}
 use Rattle.share.specs.Table.{firstBad}
 use Rattle.admission.specs.Admission.{andThen}
 use Rattle.keep.specs.declared.Kept.{Kept}

@@ -1,8 +1,6 @@
 -- Some changes, worked out.
 -- Assumes nothing.
-use mathlib.Core.List.{_∷_}
-use mathlib.Core.Path.{_≡_, refl}
-use lib.ListN.{replicate}
+use Rattle.ground.proofs.Kit.{_∷_, _≡_, refl, replicate}
 use Rattle.ground.specs.First.{firstFrom, firstBelow}
 use Rattle.ground.specs.Folds.{countTo, listTo}
 use Rattle.kinds.specs.declared.Task.{Task}

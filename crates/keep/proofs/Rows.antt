@@ -1,12 +1,6 @@
 -- The records after a join and after a leave: which stand where, zeros past them, and which of them is the first bad one.
 -- Assumes nothing.
-use Prim.Native.Nat.{ℕ, _+_, _-_, _≤_, _<_}
-use mathlib.Core.Bool.{true, false, not}
-use mathlib.Core.List.{List}
-use mathlib.Core.Path.{_≡_, refl, sym, ap, _∙_}
-use native.Mathlib.Omega.{arith}
-use lib.ListN.{length, set}
-use borrow.Author.Tests.{lt-ltb, le-ltb}
+use Rattle.ground.proofs.Kit.{ℕ, _+_, _-_, _≤_, _<_, true, false, not, List, _≡_, refl, sym, _∙_, ap, arith, length, set, lt-ltb, le-ltb}
 use Rattle.ground.specs.Folds.{listTo}
 use Rattle.ground.specs.Padded.{padded}
 use Rattle.ground.proofs.Buffer.{list-cong}

@@ -1,8 +1,6 @@
 -- What is handed back tells which answer it was.
 -- Assumes nothing.
-use Prim.Native.Nat.{ℕ}
-use mathlib.Core.Path.{_≡_, refl, sym, ap, _∙_}
-use native.Mathlib.Omega.{arith}
+use Rattle.ground.proofs.Kit.{ℕ, _≡_, refl, sym, _∙_, ap, arith}
 use lib.IntN.{ℤ}
 use Rattle.kinds.specs.declared.Refusal.{Refusal}
 use Rattle.kinds.specs.declared.Answer.{Answer}

@@ -1,9 +1,6 @@
 -- A refusal that comes first is handed back, and where none does, the call goes on; the other way, an acceptance has passed both.
 -- Assumes nothing.
-use mathlib.Core.Bool.{Bool, true, false}
-use mathlib.Core.Path.{_≡_, refl, sym, ap}
-use native.Mathlib.Omega.{arith}
-use borrow.Author.Tests.{ne-eqb}
+use Rattle.ground.proofs.Kit.{Bool, true, false, _≡_, refl, sym, ap, arith, ne-eqb}
 use Rattle.ground.proofs.Cases.{by-eq}
 use Rattle.kinds.specs.declared.Refusal.{Refusal}
 use Rattle.kinds.specs.Refusal.{numberOf}

@@ -1,20 +1,15 @@
 -- A chain gives exactly one answer: that of the first check whose sentence holds, or an acceptance; `exactly` is what each call's own law cites.
 -- Assumes nothing.
-use Prim.Native.Nat.{ℕ, zero, suc, _≤_, _<_}
-use mathlib.Core.Bool.{Bool, true, false, not}
-use mathlib.Core.List.{List, [], _∷_, _++_, List·Memᴰ, List·Memᴰ·head, List·Memᴰ·tail, Memᴰ·cast}
-use mathlib.Core.Path.{_≡_, refl, sym, ap, _∙_}
-use native.Mathlib.Omega.{arith}
-use lib.Dec.{leb, ltb}
-use lib.ListN.{length}
-use borrow.Author.Tests.{le-leb, lt-leb, le-ltb, lt-ltb}
+use Rattle.ground.proofs.Kit.{ℕ, zero, suc, _≤_, _<_, false, not, List, [], _∷_, _++_, _≡_, refl, sym, _∙_, ap, arith, leb, ltb, length, le-leb, lt-leb}
+use Rattle.ground.proofs.Kit.{lt-ltb, le-ltb}
+use mathlib.Core.List.{List·Memᴰ, List·Memᴰ·head, List·Memᴰ·tail, Memᴰ·cast}
 use Rattle.ground.proofs.Cases.{by-bool, by-le, by-eq, true-false}
 use Rattle.kinds.specs.declared.Refusal.{Refusal}
 use Rattle.kinds.specs.declared.Verdict.{Verdict}
 use Rattle.kinds.specs.declared.Verdict.the-variants.{Accepted, Refused}
 use Rattle.kinds.specs.Refusal.{numberOf}
-use Rattle.kinds.specs.Answer.{Handed, accepted, refused, check, handedVerdict}
-use Rattle.kinds.specs.Chain.{Check, firstBy, firstOf, handedBy, checkAt, GivenAt, NoneHolds, Given, Exactly, numbersGiven}
+use Rattle.kinds.specs.Answer.{Handed, accepted, refused, handedVerdict}
+use Rattle.kinds.specs.Chain.{Check, firstBy, firstOf, handedBy, checkAt, GivenAt, NoneHolds, Exactly, numbersGiven}
 use Rattle.kinds.proofs.Refusals.{refusal-numbered}
 
 -- a chain whose first sentence does not hold goes on with the rest

@@ -1,10 +1,7 @@
 -- Settings and their numbers on a sheet, there and back, and that what is filled in fits its field.
 -- Assumes nothing.
-use Prim.Native.Nat.{ℕ, suc, _≤_}
-use mathlib.Core.List.{List}
-use mathlib.Core.Path.{_≡_, sym, ap, _∙_}
-use native.Mathlib.Omega.{arith}
-use lib.ListN.{length, List·getD-eq-default}
+use Rattle.ground.proofs.Kit.{ℕ, suc, _≤_, List, _≡_, sym, _∙_, ap, arith, length}
+use lib.ListN.{List·getD-eq-default}
 use lib.Seq.{ext-getD}
 use Rattle.ground.specs.Folds.{maxTo, listTo}
 use Rattle.ground.proofs.Cases.{by-le}

@@ -1,13 +1,7 @@
 -- A record that passes the test is good once its swaps are paid for and stands on notches, and the other way; and the table of a list has
 -- its records.
 -- Assumes nothing.
-use Prim.Native.Nat.{ℕ, _+_, _*_, _≤_}
-use mathlib.Core.Bool.{true}
-use mathlib.Core.List.{List}
-use mathlib.Core.Path.{_≡_}
-use native.Mathlib.Omega.{arith}
-use borrow.Author.Tests.{leb-true, le-leb, eqb-true, eq-eqb}
-use lib.ListN.{length}
+use Rattle.ground.proofs.Kit.{ℕ, _+_, _*_, _≤_, true, List, _≡_, arith, length, eq-eqb, eqb-true, le-leb, leb-true}
 use Rattle.ground.proofs.Cases.{both-true}
 use Rattle.ground.proofs.Padding.{padded-at}
 use Rattle.kinds.specs.declared.Task.{Task}

@@ -1,9 +1,6 @@
 -- No two refusals have the same number and place, and none has the number of an acceptance.
 -- Assumes nothing.
-use Prim.Native.Nat.{ℕ, _≤_}
-use mathlib.Core.Path.{_≡_, refl, sym, ap, _∙_}
-use native.Mathlib.Omega.{arith}
-use lib.Dec.{eqb}
+use Rattle.ground.proofs.Kit.{ℕ, _≤_, _≡_, refl, sym, _∙_, ap, arith, eqb}
 use Rattle.ground.specs.Choice.{pick}
 use Rattle.kinds.specs.declared.Refusal.{Refusal}
 use Rattle.kinds.specs.declared.Refusal.the-variants.{NoSuchPolicy, Misset, TooManyTasks, PolicyNotServed, OutputTooShort}

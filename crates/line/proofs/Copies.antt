@@ -1,12 +1,7 @@
 -- Bytes copied one by one to a place of a buffer, as `put_bytes` goes.
 -- Assumes nothing.
-use Prim.Native.Nat.{ℕ, _+_, _≤_, _<_}
-use mathlib.Core.List.{List}
-use mathlib.Core.Path.{_≡_, ap, _∙_}
+use Rattle.ground.proofs.Kit.{ℕ, _+_, _≤_, _<_, List, _≡_, _∙_, ap, add-one, arith, length, getD, set, take}
 use native.Mathlib.Nat.{add-zero}
-use native.Mathlib.Numerals.{add-one}
-use native.Mathlib.Omega.{arith}
-use lib.ListN.{length, set, take, getD}
 use lib.Seq.{take-suc, take-all}
 use Rattle.field.specs.Handover.{Put}
 use Rattle.field.proofs.Stores.{put-none, put-then}

@@ -1,11 +1,8 @@
 -- Bytes at the front of a buffer, as stores leave them, and that no second answer has them there.
 -- Assumes nothing.
-use Prim.Native.Nat.{ℕ, _≤_}
-use mathlib.Core.List.{List, _++_}
-use mathlib.Core.Path.{_≡_, sym, ap, ap₂, _∙_}
-use native.Mathlib.Omega.{arith}
-use lib.ListN.{length, take, drop, length-append, length-drop, take-append-drop}
-use lib.Seq.{take-at, drop-at, length-take-le}
+use Rattle.ground.proofs.Kit.{ℕ, _≤_, List, _++_, _≡_, sym, _∙_, ap, ap₂, arith, length, take, drop, length-append, length-drop, take-append-drop}
+use Rattle.ground.proofs.Kit.{length-take-le}
+use lib.Seq.{take-at, drop-at}
 use Rattle.field.specs.Handover.{Put}
 use Rattle.field.proofs.Stores.{stored-front}
 use Rattle.line.specs.Fronts.{Fronts}

@@ -1,13 +1,7 @@
 -- "Given exactly when", of the margin: `margin-exactly`; the numbers that it gives are `margin-numbers`.
 -- Assumes nothing.
-use Prim.Native.Nat.{ℕ}
-use mathlib.Core.Bool.{Bool, true, false, not}
-use mathlib.Core.List.{List, [], _∷_, _++_}
-use mathlib.Core.Path.{_≡_, refl, ap, _∙_}
-use native.Mathlib.Omega.{arith}
-use lib.Dec.{ltb}
+use Rattle.ground.proofs.Kit.{ℕ, Bool, true, false, not, List, [], _∷_, _++_, _≡_, refl, _∙_, ap, arith, ltb, le-ltb}
 use lib.IntN.{pos}
-use borrow.Author.Tests.{le-ltb}
 use Rattle.ground.specs.Choice.{both}
 use Rattle.kinds.specs.declared.Task.{Task}
 use Rattle.kinds.specs.declared.Settings.{Settings}

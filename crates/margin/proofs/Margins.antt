@@ -1,10 +1,6 @@
 -- One margin for every call: no second answer is handed back, and it depends on the first n records only.
 -- Assumes nothing.
-use Prim.Native.Nat.{ℕ, _≤_, _<_}
-use mathlib.Core.Bool.{false}
-use mathlib.Core.List.{List}
-use mathlib.Core.Path.{_≡_, refl, sym, ap, ap₂, _∙_}
-use native.Mathlib.Omega.{arith}
+use Rattle.ground.proofs.Kit.{ℕ, _≤_, _<_, false, List, _≡_, refl, sym, _∙_, ap, ap₂, arith}
 use lib.IntN.{ℤ}
 use Rattle.ground.proofs.Cases.{by-le}
 use Rattle.kinds.specs.declared.Task.{Task}

@@ -1,9 +1,6 @@
 -- The change of a plan: at a tick at which every job released under the standing plan is done, the jobs of the proposed one may start.
 -- Assumes nothing.
-use Prim.Native.Nat.{ℕ}
-use mathlib.Core.Logic.{⊎-elim}
-use mathlib.Core.Path.{refl}
-use borrow.Author.Tests.{eq-eqb}
+use Rattle.ground.proofs.Kit.{ℕ, refl, ⊎-elim, eq-eqb}
 use Rattle.kinds.specs.declared.Policy.{Policy}
 use Rattle.kinds.specs.declared.Policy.the-variants.{Pooled, GlobalEdf, GlobalRm, FirstFit, OneCoreRm, Further}
 use Rattle.kinds.specs.Policy.{meant}

@@ -1,10 +1,6 @@
 -- Case E and the pooled plan, by computation.
 -- Assumes nothing.
-use Prim.Native.Nat.{ℕ}
-use mathlib.Core.Bool.{true, false}
-use mathlib.Core.List.{List, [], _∷_, _++_}
-use mathlib.Core.Path.{_≡_, refl, ap, _∙_}
-use lib.ListN.{replicate}
+use Rattle.ground.proofs.Kit.{ℕ, true, false, List, [], _∷_, _++_, _≡_, refl, _∙_, ap, replicate}
 use Rattle.ground.specs.Folds.{sumTo, maxTo, anyTo, listTo}
 use Rattle.ground.specs.First.{firstFrom, firstBelow}
 use Rattle.ground.specs.Least.{leastUpTo}

@@ -1,12 +1,8 @@
 -- The digits of a number are those of its tenth and then its last; a number below 10 to the power k has at most k.
 -- Assumes nothing.
-use Prim.Native.Nat.{ℕ, zero, suc, _+_, _^_, _/_, _%_, _≤_, _<_}
-use mathlib.Core.List.{List, [], _∷_, _++_}
-use mathlib.Core.Path.{_≡_, refl, ap, _∙_}
+use Rattle.ground.proofs.Kit.{ℕ, zero, suc, _+_, _/_, _%_, _^_, _≤_, _<_, List, [], _∷_, _++_, _≡_, refl, _∙_, ap, arith, length, set, length-append, lt-ltb}
+use Rattle.ground.proofs.Kit.{le-ltb}
 use native.Mathlib.Nat.{pow-suc}
-use native.Mathlib.Omega.{arith}
-use lib.ListN.{length, set, length-append}
-use borrow.Author.Tests.{lt-ltb, le-ltb}
 use Rattle.ground.proofs.Cases.{by-le}
 use Rattle.field.specs.Handover.{stored, Put}
 use Rattle.field.proofs.Stores.{put-then}

@@ -1,16 +1,11 @@
 -- The scanner takes exactly the texts of numbers: what it reads stands there as the number's text (`numeral-got`), and a number's text is
 -- read as that number (`numeral-back`).
 -- Assumes nothing.
-use Prim.Native.Nat.{ℕ, suc, _+_, _≤_, _<_}
-use mathlib.Core.Bool.{true, false}
-use mathlib.Core.List.{List, [], _∷_, _++_, append-nil}
-use mathlib.Core.Path.{_≡_, refl, sym, ap, _∙_}
-use native.Mathlib.Numerals.{add-one}
-use native.Mathlib.Omega.{arith}
-use lib.Dec.{leb, eqb}
-use lib.ListN.{length, getD, drop, drop-of-length-le}
+use Rattle.ground.proofs.Kit.{ℕ, suc, _+_, _≤_, _<_, true, false, List, [], _∷_, _++_, append-nil, _≡_, refl, sym, _∙_, ap, add-one, arith, eqb, leb, length}
+use Rattle.ground.proofs.Kit.{getD, drop, eq-eqb, eqb-true, le-leb, leb-true, leb-false}
+use lib.ListN.{drop-of-length-le}
 use lib.Seq.{drop-cons, drop-drop, getD-drop, getD-append-seam, drop-append-add}
-use borrow.Author.Tests.{leb-true, leb-false, le-leb, eqb-true, eqb-false, eq-eqb}
+use borrow.Author.Tests.{eqb-false}
 use Rattle.ground.proofs.Cases.{by-bool}
 use Rattle.numeral.specs.declared.Numeral.the-variants.{Is, Bad}
 use Rattle.numeral.specs.Decimal.{decimal}

@@ -1,14 +1,10 @@
 -- A number's text is plain digits whose value is the number, and plain digits are the text of their value: each number has exactly one
 -- text, and each text that is one exactly one number.
 -- Assumes nothing.
-use Prim.Native.Nat.{ℕ, zero, suc, _+_, _*_, _-_, _/_, _%_, _≤_, _<_}
-use mathlib.Core.Bool.{Bool, true, false, not}
-use mathlib.Core.List.{List, [], _∷_, _++_, append-assoc, append-nil}
-use mathlib.Core.Path.{_≡_, refl, sym, ap, _∙_}
-use native.Mathlib.Omega.{arith}
-use lib.Dec.{eqb}
-use lib.ListN.{length, getD, List·getD-append}
-use borrow.Author.Tests.{ne-eqb, eqb-false}
+use Rattle.ground.proofs.Kit.{ℕ, zero, suc, _+_, _-_, _*_, _/_, _%_, _≤_, _<_, Bool, true, false, not, List, [], _∷_, _++_, append-nil, append-assoc, _≡_}
+use Rattle.ground.proofs.Kit.{refl, sym, _∙_, ap, arith, eqb, length, getD, ne-eqb}
+use lib.ListN.{List·getD-append}
+use borrow.Author.Tests.{eqb-false}
 use Rattle.ground.proofs.Cases.{by-le}
 use Rattle.numeral.specs.Decimal.{lastDigit, decimal}
 use Rattle.numeral.specs.Scan.{isDigit, valueFrom, plain}

@@ -1,15 +1,9 @@
 -- Laws of the scan: a run of digits taken one by one from the left, and the cases of the number at a place.
 -- Assumes nothing.
-use Prim.Native.Nat.{ℕ, zero, suc, _+_, _*_, _-_, _≤_, _<_}
-use mathlib.Core.Bool.{true, false, not}
-use mathlib.Core.List.{List, [], _∷_}
-use mathlib.Core.Path.{_≡_, refl, sym, ap, _∙_}
-use native.Mathlib.Numerals.{add-one}
-use native.Mathlib.Omega.{arith}
-use lib.Dec.{eqb}
-use lib.ListN.{length, getD, drop-of-length-le}
+use Rattle.ground.proofs.Kit.{ℕ, zero, suc, _+_, _-_, _*_, _≤_, _<_, true, false, not, List, [], _∷_, _≡_, refl, sym, _∙_, ap, add-one, arith, eqb, length}
+use Rattle.ground.proofs.Kit.{getD, eq-eqb, ne-eqb, le-leb, lt-leb, leb-true}
+use lib.ListN.{drop-of-length-le}
 use lib.Seq.{drop-cons}
-use borrow.Author.Tests.{le-leb, lt-leb, leb-true, eq-eqb, ne-eqb}
 use Rattle.ground.proofs.Cases.{by-le, by-bool, both-true}
 use Rattle.numeral.specs.declared.Run.{Run}
 use Rattle.numeral.specs.declared.Numeral.the-variants.{Is, Bad}

@@ -1,11 +1,7 @@
 -- What import and export answer in each case, with the output after it, and that no second answer meets either promise.
 -- Assumes nothing.
-use Prim.Native.Nat.{ℕ, _≤_, _<_}
-use mathlib.Core.List.{List, [], _++_, append-nil}
-use mathlib.Core.Path.{_≡_, refl, sym, ap, ap₂, _∙_}
-use native.Mathlib.Omega.{arith}
-use lib.ListN.{length, drop, drop-of-length-le}
-use borrow.Author.Tests.{lt-ltb, le-ltb, ne-eqb}
+use Rattle.ground.proofs.Kit.{ℕ, _≤_, _<_, List, [], _++_, append-nil, _≡_, refl, sym, _∙_, ap, ap₂, arith, length, drop, ne-eqb, lt-ltb, le-ltb}
+use lib.ListN.{drop-of-length-le}
 use Rattle.ground.proofs.Cases.{by-le}
 use Rattle.kinds.specs.declared.Task.{Task}
 use Rattle.kinds.specs.declared.Table.{Table}
@@ -14,9 +10,9 @@ use Rattle.kinds.specs.declared.Refusal.the-variants.{TooManyTasks, OutputTooSh
 use Rattle.kinds.specs.Limits.{mostTasks}
 use Rattle.kinds.specs.Task.{at, tableOf}
 use Rattle.kinds.specs.Refusal.{numberOf}
-use Rattle.kinds.specs.Answer.{Handed, accepted, refused, handedCount}
+use Rattle.kinds.specs.Answer.{Handed, accepted, refused}
 use Rattle.kinds.proofs.Refusals.{refusal-numbered}
-use Rattle.kinds.proofs.Answers.{not-refused, refused-one, count-one}
+use Rattle.kinds.proofs.Answers.{not-refused, count-one}
 use Rattle.field.specs.Handover.{Put}
 use Rattle.field.proofs.Stores.{stored-front}
 use Rattle.kinds.specs.declared.Counted.{Counted}

@@ -1,13 +1,7 @@
 -- The round trips as a caller of export and import sees them: from what the calls hand back and the outputs that they leave.
 -- Assumes nothing.
-use Prim.Native.Nat.{ℕ, _≤_}
-use mathlib.Core.List.{List, _++_}
-use mathlib.Core.Path.{_≡_, refl, sym, ap, _∙_}
-use native.Mathlib.Omega.{arith}
-use lib.Dec.{ltb}
-use lib.ListN.{length, take, drop}
+use Rattle.ground.proofs.Kit.{ℕ, _≤_, List, _++_, _≡_, refl, sym, _∙_, ap, arith, ltb, length, take, drop, le-ltb, ltb-false}
 use lib.Seq.{take-at}
-use borrow.Author.Tests.{ltb-false, le-ltb}
 use Rattle.ground.proofs.Cases.{by-bool}
 use Rattle.kinds.specs.declared.Task.{Task}
 use Rattle.kinds.specs.Limits.{mostTasks}

@@ -1,13 +1,7 @@
 -- "Given exactly when", of import and export: `import-exactly`, `export-exactly`; the numbers are `import-numbers` and `export-numbers`.
 -- Assumes nothing.
-use Prim.Native.Nat.{ℕ, zero, suc, _+_, _-_, _≤_, _<_}
-use mathlib.Core.Bool.{Bool, true, false}
-use mathlib.Core.List.{List, [], _∷_, _++_}
-use mathlib.Core.Path.{_≡_, refl, ap, _∙_}
-use native.Mathlib.Omega.{arith}
-use lib.Dec.{ltb}
-use lib.ListN.{length, length-append}
-use borrow.Author.Tests.{lt-ltb, le-ltb}
+use Rattle.ground.proofs.Kit.{ℕ, zero, suc, _+_, _-_, _≤_, _<_, Bool, true, false, List, [], _∷_, _++_, _≡_, refl, _∙_, ap, arith, ltb, length, length-append}
+use Rattle.ground.proofs.Kit.{lt-ltb, le-ltb}
 use Rattle.ground.specs.Choice.{pick}
 use Rattle.ground.specs.First.{firstBelow}
 use Rattle.ground.proofs.Cases.{by-le, below-next}

@@ -1,7 +1,5 @@
 -- Texts read and written by computation over the definitions, as one table under one claim. Assumes nothing.
-use Prim.Native.Nat.{ℕ, zero, suc}
-use mathlib.Core.List.{List, [], _∷_, _++_}
-use mathlib.Core.Path.{_≡_, refl}
+use Rattle.ground.proofs.Kit.{ℕ, zero, suc, List, [], _∷_, _++_, _≡_, refl}
 use Rattle.kinds.specs.declared.Task.{Task}
 use Rattle.kinds.specs.declared.Refusal.the-variants.{TooManyTasks, BadLine}
 use Rattle.kinds.specs.Task.{task, noTask}

@@ -1,11 +1,8 @@
 -- The rows that an import hands over: all that it read, or none where it is refused. They fit the room, and an output after the call is
 -- these rows and then what stood there.
 -- Assumes nothing.
-use Prim.Native.Nat.{ℕ, _≤_}
-use mathlib.Core.List.{List, [], _++_, append-nil}
-use mathlib.Core.Path.{_≡_, refl, ap, _∙_}
-use native.Mathlib.Omega.{arith}
-use lib.ListN.{length, drop, drop-of-length-le}
+use Rattle.ground.proofs.Kit.{ℕ, _≤_, List, [], _++_, append-nil, _≡_, refl, _∙_, ap, arith, length, drop}
+use lib.ListN.{drop-of-length-le}
 use Rattle.ground.proofs.Cases.{by-le}
 use Rattle.kinds.specs.declared.Task.{Task}
 use Rattle.kinds.specs.declared.Refusal.{Refusal}

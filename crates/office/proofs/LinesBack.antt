@@ -1,10 +1,6 @@
 -- A line that was read is a task's line (`line-got`), and a task's line is read as that task (`line-back`).
 -- Assumes nothing.
-use Prim.Native.Nat.{ℕ, _+_, _≤_, _<_}
-use mathlib.Core.List.{List, [], _∷_, _++_, append-assoc}
-use mathlib.Core.Path.{_≡_, refl, sym, ap, _∙_}
-use native.Mathlib.Omega.{arith}
-use lib.ListN.{length, drop, length-append, length-drop}
+use Rattle.ground.proofs.Kit.{ℕ, _+_, _≤_, _<_, List, [], _∷_, _++_, append-assoc, _≡_, refl, sym, _∙_, ap, arith, length, drop, length-append, length-drop}
 use Rattle.kinds.specs.declared.Task.{Task}
 use Rattle.kinds.specs.Task.{task}
 use Rattle.numeral.specs.declared.Numeral.{Numeral}

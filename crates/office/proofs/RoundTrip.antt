@@ -1,12 +1,9 @@
 -- Both round trips, over the definitions: the text of rows reads as them (`import-of-export`), and a text that reads as rows is their text
 -- (`export-of-import`). A refused text has a first line that is bad, or bytes after line 31 (`import-refused`).
 -- Assumes nothing.
-use Prim.Native.Nat.{ℕ, zero, suc, _+_, _≤_, _<_}
-use mathlib.Core.List.{List, [], _∷_, _++_, append-assoc, append-nil}
-use mathlib.Core.Logic.{_⊎_, inl, inr, ⊎-elim}
-use mathlib.Core.Path.{_≡_, refl, sym, ap, _∙_}
-use native.Mathlib.Omega.{arith}
-use lib.ListN.{length, drop, length-append, length-drop, drop-of-length-le}
+use Rattle.ground.proofs.Kit.{ℕ, zero, suc, _+_, _≤_, _<_, List, [], _∷_, _++_, append-nil, append-assoc, _≡_, refl, sym, _∙_, ap, _⊎_, inl, inr, ⊎-elim}
+use Rattle.ground.proofs.Kit.{arith, length, drop, length-append, length-drop}
+use lib.ListN.{drop-of-length-le}
 use Rattle.ground.proofs.Cases.{by-le}
 use Rattle.kinds.specs.declared.Task.{Task}
 use Rattle.kinds.specs.declared.Refusal.{Refusal}

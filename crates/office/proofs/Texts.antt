@@ -1,10 +1,6 @@
 -- Texts as lists of rows: the text of a row and more is its line and their text; the first n rows of two lists that agree have one text.
 -- Assumes nothing.
-use Prim.Native.Nat.{ℕ, zero, suc, _<_}
-use mathlib.Core.List.{List, [], _∷_, _++_, append-assoc, append-nil}
-use mathlib.Core.Path.{_≡_, refl, sym, ap, _∙_}
-use native.Mathlib.Omega.{arith}
-use lib.ListN.{length}
+use Rattle.ground.proofs.Kit.{ℕ, zero, suc, _<_, List, [], _∷_, _++_, append-nil, append-assoc, _≡_, refl, sym, _∙_, ap, arith, length}
 use Rattle.kinds.specs.declared.Task.{Task}
 use Rattle.kinds.specs.Task.{at}
 use Rattle.office.specs.Text.{lineOf, textTo, textOf}

@@ -1,12 +1,7 @@
 -- How long lines and texts are, and the putting of them.
 -- Assumes nothing.
-use Prim.Native.Nat.{ℕ, zero, suc, _+_, _-_, _≤_}
-use mathlib.Core.List.{List, [], _∷_, _++_}
-use mathlib.Core.Path.{_≡_, refl, sym, ap, _∙_}
+use Rattle.ground.proofs.Kit.{ℕ, zero, suc, _+_, _-_, _≤_, List, [], _∷_, _++_, _≡_, refl, sym, _∙_, ap, add-one, arith, length, set, length-append}
 use native.Mathlib.Nat.{le-refl}
-use native.Mathlib.Numerals.{add-one}
-use native.Mathlib.Omega.{arith}
-use lib.ListN.{length, set, length-append}
 use Rattle.kinds.specs.declared.Task.{Task}
 use Rattle.kinds.specs.Task.{at}
 use Rattle.field.specs.Handover.{Put}

@@ -1,8 +1,6 @@
 -- What `office` says of a table of the lent rows, it says of the rows.
 -- Assumes nothing.
-use Prim.Native.Nat.{ℕ}
-use mathlib.Core.List.{List}
-use lib.ListN.{length}
+use Rattle.ground.proofs.Kit.{ℕ, List, length}
 use Rattle.kinds.specs.declared.Task.{Task}
 use Rattle.kinds.specs.Task.{tableOf}
 use Rattle.kinds.proofs.Records.{table-at}

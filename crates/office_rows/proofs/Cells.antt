@@ -1,10 +1,9 @@
 -- What the values in a table's cell tell of its rows. No model is needed.
 -- Assumes nothing.
-use Prim.Native.Nat.{ℕ, zero, suc}
-use mathlib.Core.List.{List, [], _∷_, map}
-use mathlib.Core.Path.{_≡_, sym, _∙_}
+use Rattle.ground.proofs.Kit.{ℕ, zero, suc, List, [], _∷_, _≡_, sym, _∙_, length, getD}
+use mathlib.Core.List.{map}
 use lib.Dec.{lit<}
-use lib.ListN.{length, getD, length-map, List·getD-map}
+use lib.ListN.{length-map, List·getD-map}
 use mir.Val.{ofList, WT, WTs}
 use denote.Laws.{Is}
 use Rattle.kinds.specs.declared.Task.{Task}

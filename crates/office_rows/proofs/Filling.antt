@@ -1,12 +1,8 @@
 -- Laws of a filled slice: the turns of the loop that fills it, and what it then holds. The last ties an import by value to the lent rows.
 -- Assumes nothing.
-use Prim.Native.Nat.{ℕ, zero, suc, _+_, _≤_, _<_, min}
-use mathlib.Core.List.{List, [], _∷_, _++_, append-assoc}
-use mathlib.Core.Path.{_≡_, refl, sym, ap, _∙_}
-use native.Mathlib.Numerals.{add-one}
-use native.Mathlib.Omega.{arith}
-use lib.ListN.{length, getD, set, take, drop, length-set}
-use lib.Seq.{set-at, drop-cons, take-suc, length-take-le}
+use Rattle.ground.proofs.Kit.{ℕ, zero, suc, _+_, _≤_, _<_, min, List, [], _∷_, _++_, append-assoc, _≡_, refl, sym, _∙_, ap, add-one, arith, length, getD, set}
+use Rattle.ground.proofs.Kit.{take, drop, length-set, length-take-le}
+use lib.Seq.{set-at, drop-cons, take-suc}
 use Rattle.kinds.specs.declared.Task.{Task}
 use Rattle.kinds.specs.declared.Table.{Table}
 use Rattle.kinds.specs.Limits.{mostTasks}

@@ -1,6 +1,6 @@
 -- The types that a walk passes by value or returns.
 -- Assumes nothing.
-use mathlib.Core.Path.{refl}
+use Rattle.ground.proofs.Kit.{refl}
 use Rattle.walk.proofs.Thin.{Valued, of-enum}
 use Rattle.kinds.proofs.Counted as C
 use Rattle.kinds.proofs.Counted.Laws as C′

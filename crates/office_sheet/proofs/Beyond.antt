@@ -1,13 +1,9 @@
 -- The front of a long input tells all: one byte past the longest text settles the reading of a text, and one past the longest sheet that of
 -- a sheet.
 -- Assumes nothing.
-use Prim.Native.Nat.{ℕ, zero, suc, _+_, _*_, _-_, _≤_, _<_}
-use mathlib.Core.List.{List, [], _∷_, _++_, append-assoc, append-nil}
-use mathlib.Core.Logic.{⊎-elim}
-use mathlib.Core.Path.{_≡_, refl, sym, ap, _∙_}
-use native.Mathlib.Omega.{arith}
-use lib.ListN.{length, take, drop, length-append, length-drop, take-append-drop}
-use lib.Seq.{length-take-le, take-all, drop-at}
+use Rattle.ground.proofs.Kit.{ℕ, zero, suc, _+_, _-_, _*_, _≤_, _<_, List, [], _∷_, _++_, append-nil, append-assoc, _≡_, refl, sym, _∙_, ap, ⊎-elim, arith}
+use Rattle.ground.proofs.Kit.{length, take, drop, length-append, length-drop, take-append-drop, length-take-le}
+use lib.Seq.{take-all, drop-at}
 use Rattle.ground.proofs.Cases.{by-le}
 use Rattle.kinds.specs.declared.Task.{Task}
 use Rattle.kinds.specs.declared.Refusal.{Refusal}

@@ -1,11 +1,6 @@
 -- What is written for the arguments and a text: the line of the first refusal, or the sheet.
 -- Assumes nothing.
-use Prim.Native.Nat.{ℕ, _≤_, _<_}
-use mathlib.Core.List.{List, _++_}
-use mathlib.Core.Path.{_≡_, refl, sym, ap, _∙_}
-use native.Mathlib.Omega.{arith}
-use lib.ListN.{length, drop}
-use borrow.Author.Tests.{le-leb, lt-leb}
+use Rattle.ground.proofs.Kit.{ℕ, _≤_, _<_, List, _++_, _≡_, refl, sym, _∙_, ap, arith, length, drop, le-leb, lt-leb}
 use Rattle.kinds.specs.declared.Refusal.{Refusal}
 use Rattle.kinds.specs.declared.Refusal.the-variants.{NoSuchPolicy, Misset}
 use Rattle.kinds.specs.declared.Sheet.{Sheet}
@@ -26,7 +21,7 @@ use Rattle.writer.proofs.Answers.{accepts, write-accepts, accepted-after}
 use Rattle.office.specs.declared.Imported.{Imported}
 use Rattle.kinds.specs.declared.Counted.{Counted}
 use Rattle.office.specs.Reading.{readText, rowsOf}
-use Rattle.office.specs.Carrying.{importHanded, afterCarry, Reads}
+use Rattle.office.specs.Carrying.{importHanded, Reads}
 use Rattle.office.proofs.Landing.{lands, all-landed}
 use Rattle.line.specs.Line.{refusalLine, orLine}
 use Rattle.line.specs.Fronts.{Fronts}

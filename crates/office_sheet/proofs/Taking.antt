@@ -1,10 +1,6 @@
 -- What is written for a sheet: the line of the reader's refusal, or the text of its table.
 -- Assumes nothing.
-use Prim.Native.Nat.{ℕ}
-use mathlib.Core.List.{List}
-use mathlib.Core.Path.{_≡_, sym, ap, _∙_}
-use native.Mathlib.Omega.{arith}
-use lib.ListN.{length}
+use Rattle.ground.proofs.Kit.{ℕ, List, _≡_, sym, _∙_, ap, arith, length}
 use Rattle.kinds.specs.declared.Refusal.{Refusal}
 use Rattle.kinds.specs.declared.Sheet.{Sheet}
 use Rattle.kinds.specs.declared.Table.{Table}

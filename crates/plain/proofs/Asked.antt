@@ -1,10 +1,6 @@
 -- More room than there are tasks changes nothing of the plain finder's answer to a sheet.
 -- Assumes nothing.
-use Prim.Native.Nat.{ℕ, _≤_}
-use mathlib.Core.Bool.{true}
-use mathlib.Core.Path.{_≡_}
-use native.Mathlib.Omega.{arith}
-use borrow.Author.Tests.{le-ltb}
+use Rattle.ground.proofs.Kit.{ℕ, _≤_, true, _≡_, arith, le-ltb}
 use Rattle.kinds.specs.declared.Sheet.{Sheet}
 use Rattle.admission.specs.Admission.{admission}
 use Rattle.plan.specs.Plan.{found}

@@ -1,13 +1,7 @@
 -- "Given exactly when", of the plain finder asked of a sheet: `asked-exactly`; the numbers are `asked-numbers`, and 5 is never given, `asked-not-five`.
 -- Assumes nothing.
-use Prim.Native.Nat.{ℕ}
-use mathlib.Core.Bool.{Bool, true, false, not}
-use mathlib.Core.List.{List, [], _∷_, List·Memᴰ, List·Memᴰ·not-nil, List·Memᴰ·cases-cons}
-use mathlib.Core.Logic.{⊎-elim}
-use mathlib.Core.Path.{_≡_, refl, _∙_}
-use native.Mathlib.Omega.{arith}
-use lib.Dec.{ltb, eqb}
-use borrow.Author.Tests.{le-ltb, eq-eqb}
+use Rattle.ground.proofs.Kit.{ℕ, Bool, true, not, List, [], _∷_, _≡_, refl, _∙_, ⊎-elim, arith, eqb, ltb, eq-eqb, le-ltb}
+use mathlib.Core.List.{List·Memᴰ, List·Memᴰ·not-nil, List·Memᴰ·cases-cons}
 use Rattle.ground.specs.Choice.{both}
 use Rattle.ground.proofs.Cases.{both-true, true-false}
 use Rattle.kinds.specs.declared.Sheet.{Sheet}

@@ -1,12 +1,7 @@
 -- The search over columns of springs: under edition 1 it has come to step k, whose shares stand in the column; and of either edition it is
 -- the search that demand 2 asks for.
 -- Assumes nothing.
-use Prim.Native.Nat.{ℕ, _+_, _≤_, _<_}
-use mathlib.Core.Bool.{Bool, true, false}
-use mathlib.Core.List.{List}
-use mathlib.Core.Path.{_≡_, sym, ap, _∙_}
-use native.Mathlib.Omega.{arith}
-use lib.ListN.{getD}
+use Rattle.ground.proofs.Kit.{ℕ, _+_, _≤_, _<_, Bool, true, false, List, _≡_, sym, _∙_, ap, arith, getD}
 use Rattle.ground.specs.declared.Step.{Step}
 use Rattle.ground.specs.declared.Step.the-variants.{At, Nothing}
 use Rattle.ground.specs.Folds.{sumTo, maxTo}

@@ -1,13 +1,7 @@
 -- An accepted call in the words of demand 2: the least passing step, each task's shortest period on a notch and its processor, and nothing past them;
 -- and a call refused by 7: no step from 0 to K passes. For the finder that serves policy 4 and the one that does not.
 -- Assumes nothing.
-use Prim.Native.Nat.{ℕ, _+_, _≤_, _<_, min}
-use mathlib.Core.Bool.{Bool, true, false}
-use mathlib.Core.List.{List}
-use mathlib.Core.Path.{_≡_, sym, _∙_}
-use native.Mathlib.Omega.{arith}
-use lib.ListN.{length}
-use borrow.Author.Tests.{leb-true, leb-false}
+use Rattle.ground.proofs.Kit.{ℕ, _+_, _≤_, _<_, min, Bool, true, false, List, _≡_, sym, _∙_, arith, length, leb-true, leb-false}
 use Rattle.ground.proofs.Buffer.{list-at, list-past}
 use Rattle.ground.proofs.Least.{least-none}
 use Rattle.kinds.specs.declared.Task.{Task}
@@ -15,7 +9,7 @@ use Rattle.kinds.specs.declared.Policy.{Policy}
 use Rattle.kinds.specs.declared.Settings.{Settings}
 use Rattle.kinds.specs.declared.Answer.the-variants.{Accepted}
 use Rattle.kinds.specs.declared.Verdict.the-variants as verdict
-use Rattle.kinds.specs.Policy.{meant, isFirstFit}
+use Rattle.kinds.specs.Policy.{meant}
 use Rattle.kinds.specs.Task.{at}
 use Rattle.share.specs.Share.{periodAt}
 use Rattle.share.specs.Table.{periodsAt}

@@ -1,13 +1,7 @@
 -- "Given exactly when", of the two finders: `plain-exactly`, `quick-exactly`, and of every answer that meets their promises, `plain-answers`,
 -- `quick-answers`; the numbers that each gives are `plain-numbers` and `quick-numbers`.
 -- Assumes nothing.
-use Prim.Native.Nat.{ℕ, _+_, _≤_, min}
-use mathlib.Core.Bool.{Bool, true, false, not}
-use mathlib.Core.List.{List, [], _∷_, _++_}
-use mathlib.Core.Path.{_≡_, refl, ap, sym, _∙_}
-use native.Mathlib.Omega.{arith}
-use lib.Dec.{ltb}
-use lib.ListN.{length}
+use Rattle.ground.proofs.Kit.{ℕ, _+_, _≤_, min, Bool, true, false, not, List, [], _∷_, _++_, _≡_, refl, sym, _∙_, ap, arith, ltb, length}
 use Rattle.ground.specs.declared.Step.{Step}
 use Rattle.ground.specs.declared.Step.the-variants.{At, Nothing}
 use Rattle.ground.specs.Choice.{both}

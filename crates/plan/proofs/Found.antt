@@ -1,11 +1,6 @@
 -- What an accepted answer has passed, so that its plan may be written.
 -- Assumes nothing.
-use Prim.Native.Nat.{ℕ, _≤_, min}
-use mathlib.Core.Bool.{Bool, true}
-use mathlib.Core.List.{List}
-use mathlib.Core.Path.{_≡_, refl, sym, ap, _∙_}
-use native.Mathlib.Omega.{arith}
-use lib.ListN.{length}
+use Rattle.ground.proofs.Kit.{ℕ, min, Bool, true, List, _≡_, refl, sym, _∙_, ap, arith, length}
 use Rattle.ground.specs.declared.Step.{Step}
 use Rattle.ground.specs.declared.Step.the-variants.{At, Nothing}
 use Rattle.ground.specs.Folds.{listTo}

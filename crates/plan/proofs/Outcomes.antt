@@ -1,13 +1,7 @@
 -- One outcome for every call: no second answer meets it, it depends on the first n records only, and where policy 4 is not asked it is
 -- the same whether that policy is served or not.
 -- Assumes nothing.
-use Prim.Native.Nat.{ℕ, _≤_, _<_, min}
-use mathlib.Core.Bool.{Bool, true, false}
-use mathlib.Core.List.{List}
-use mathlib.Core.Path.{_≡_, refl, sym, ap, ap₂, _∙_}
-use native.Mathlib.Omega.{arith}
-use lib.ListN.{length}
-use borrow.Author.Tests.{ne-eqb}
+use Rattle.ground.proofs.Kit.{ℕ, _≤_, _<_, min, Bool, true, false, List, _≡_, refl, sym, _∙_, ap, ap₂, arith, length, ne-eqb}
 use Rattle.ground.specs.declared.Step.{Step}
 use Rattle.ground.proofs.Cases.{by-le}
 use Rattle.kinds.specs.declared.Task.{Task}

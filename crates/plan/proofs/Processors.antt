@@ -1,12 +1,6 @@
 -- The processors of a plan as the code works them out: those of a trial that placed every task, or zeros.
 -- Assumes nothing.
-use Prim.Native.Nat.{ℕ, _+_, _≤_, _<_}
-use mathlib.Core.Bool.{true, false}
-use mathlib.Core.List.{List, _++_}
-use mathlib.Core.Path.{_≡_, sym, ap, _∙_}
-use native.Mathlib.Omega.{arith}
-use lib.ListN.{getD, drop, replicate, getD-replicate}
-use borrow.Author.Tests.{eqb-true}
+use Rattle.ground.proofs.Kit.{ℕ, _+_, _≤_, _<_, true, false, _++_, _≡_, sym, _∙_, ap, arith, getD, drop, replicate, getD-replicate, eqb-true}
 use Rattle.ground.specs.Choice.{pick}
 use Rattle.ground.specs.Folds.{listTo}
 use Rattle.ground.proofs.Buffer.{list-at, list-cong}

@@ -1,12 +1,6 @@
 -- What an answer leaves in the two lent outputs.
 -- Assumes nothing.
-use Prim.Native.Nat.{ℕ}
-use mathlib.Core.Bool.{true, false}
-use mathlib.Core.List.{List, _++_}
-use mathlib.Core.Path.{_≡_, refl, sym, ap, _∙_}
-use native.Mathlib.Omega.{arith}
-use lib.ListN.{drop}
-use borrow.Author.Tests.{ne-eqb}
+use Rattle.ground.proofs.Kit.{ℕ, true, false, List, _++_, _≡_, refl, sym, _∙_, ap, arith, drop, ne-eqb}
 use Rattle.ground.specs.Folds.{listTo}
 use Rattle.ground.proofs.Cases.{by-bool, true-false}
 use Rattle.kinds.specs.declared.Settings.{Settings}

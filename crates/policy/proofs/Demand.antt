@@ -1,8 +1,6 @@
 -- Demand 2 in its own words: the step passes, no smaller one does, and none means that no step from 0 to K passes.
 -- Assumes nothing.
-use Prim.Native.Nat.{ℕ, _≤_, _<_}
-use mathlib.Core.Bool.{false}
-use mathlib.Core.Path.{_≡_}
+use Rattle.ground.proofs.Kit.{ℕ, _≤_, _<_, false, _≡_}
 use Rattle.ground.specs.declared.Step.the-variants.{At, Nothing}
 use Rattle.ground.specs.Least.{LeastAt}
 use Rattle.ground.proofs.Least.{least-at, least-nothing, least-cong}

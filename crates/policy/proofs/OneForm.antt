@@ -1,10 +1,6 @@
 -- The one form of the tests is what the documents print for each policy that is weighed.
 -- Assumes nothing.
-use Prim.Native.Nat.{ℕ, _*_, _≤_}
-use mathlib.Core.Bool.{true}
-use mathlib.Core.Path.{_≡_, refl}
-use native.Mathlib.Nat.{mul-le-mul}
-use native.Mathlib.Omega.{arith}
+use Rattle.ground.proofs.Kit.{ℕ, _*_, _≤_, true, _≡_, refl, mul-le-mul, arith}
 use Rattle.ground.proofs.Cases.{true-false}
 use Rattle.kinds.specs.declared.Policy.{Policy}
 use Rattle.kinds.specs.declared.Policy.the-variants.{Pooled, GlobalEdf, GlobalRm, FirstFit, OneCoreRm, Further}

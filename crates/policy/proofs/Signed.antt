@@ -1,17 +1,13 @@
 -- A difference of two small numbers as a signed 64-bit number.
 -- Assumes nothing.
-use Prim.Native.Nat.{ℕ, zero, suc, _-_, _^_, _≤_, _<_}
-use mathlib.Core.Path.{_≡_, refl, ap}
+use Rattle.ground.proofs.Kit.{ℕ, zero, suc, _-_, _^_, _≤_, _<_, _≡_, refl, ap, arith, ltb, lt-ltb, le-ltb}
 use native.Mathlib.Nat.{add-zero}
-use native.Mathlib.Omega.{arith}
-use lib.Dec.{ltb}
 use lib.IntN.{pos, negsuc, _-ℤ_, subℕ}
 use lib.Signed.{mag}
 use mir.Syntax.{w64}
 use mir.Val.{SFits, toZ}
 use mir.Facts.{toZ-pos}
 use borrow.Author.Needs.{sfits-of}
-use borrow.Author.Tests.{le-ltb, lt-ltb}
 use Rattle.ground.proofs.Cases.{by-bool}
 
 minus : (a b : ℕ) → pos a -ℤ pos b ≡ subℕ a b

@@ -1,13 +1,8 @@
 -- Passing: what document 01 prints, that it stays once reached, and the margin that goes with it.
 -- Assumes nothing.
-use Prim.Native.Nat.{ℕ, suc, _+_, _-_, _*_, _≤_, _<_}
-use mathlib.Core.Bool.{true, false}
-use mathlib.Core.Path.{_≡_, refl, sym, ap, ap₂, _∙_}
-use native.Mathlib.Nat.{mul-le-mul-left}
-use native.Mathlib.Omega.{arith}
-use lib.Dec.{leb}
+use Rattle.ground.proofs.Kit.{ℕ, suc, _+_, _-_, _*_, _≤_, _<_, true, false, _≡_, refl, sym, _∙_, ap, ap₂, mul-le-mul-left, arith, leb, le-leb, leb-true}
+use Rattle.ground.proofs.Kit.{leb-false}
 use lib.IntN.{pos, negsuc, subℕ}
-use borrow.Author.Tests.{leb-true, leb-false, le-leb}
 use Rattle.ground.specs.Folds.{sumTo, maxTo}
 use Rattle.ground.specs.Least.{Rising}
 use Rattle.ground.proofs.Cases.{by-bool, true-false}

@@ -1,10 +1,7 @@
 -- What a call with settings asks of its records: it depends on the first n of them only, passing stays with the step under both editions, and
 -- the looks are few.
 -- Assumes nothing.
-use Prim.Native.Nat.{ℕ, _≤_, _<_}
-use mathlib.Core.Bool.{true, false}
-use mathlib.Core.List.{List}
-use mathlib.Core.Path.{_≡_, refl, ap, _∙_}
+use Rattle.ground.proofs.Kit.{ℕ, _≤_, _<_, true, false, List, _≡_, refl, _∙_, ap}
 use Rattle.ground.specs.Least.{Rising}
 use Rattle.ground.proofs.Cases.{by-bool}
 use Rattle.ground.proofs.Halving.{made-few}
@@ -16,7 +13,7 @@ use Rattle.kinds.specs.Policy.{meant, isWeighed}
 use Rattle.kinds.specs.Settings.{settings, testsCharge}
 use Rattle.kinds.specs.Task.{at, Good, OnNotch}
 use Rattle.share.specs.Share.{loadAt}
-use Rattle.share.specs.Table.{shares, fullCompression}
+use Rattle.share.specs.Table.{shares}
 use Rattle.share.proofs.Charges.{load-first, load-falls, load-share}
 use Rattle.share.proofs.Tables.{priced-same, full-most}
 use Rattle.policy.specs.Passing.{passesAt, leastStep}

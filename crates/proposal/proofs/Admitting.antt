@@ -1,10 +1,6 @@
 -- What the admission of a proposal has checked, and the column of loads that it leaves.
 -- Assumes nothing.
-use Prim.Native.Nat.{ℕ, _≤_, _<_}
-use mathlib.Core.List.{List}
-use mathlib.Core.Path.{_≡_, _∙_}
-use native.Mathlib.Omega.{arith}
-use borrow.Author.Tests.{ltb-false}
+use Rattle.ground.proofs.Kit.{ℕ, _≤_, _<_, List, _≡_, _∙_, arith, ltb-false}
 use Rattle.kinds.specs.declared.Task.{Task}
 use Rattle.kinds.specs.declared.Settings.{Settings}
 use Rattle.kinds.specs.declared.Verdict.the-variants.{Accepted}

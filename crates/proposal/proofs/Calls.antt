@@ -1,13 +1,7 @@
 -- The call: what each of its returns hands back and leaves, what an accepted one says (`accepted-exactly`, `exactly-accepted` and
 -- `accepted-adds-up`), that it looks at the first n records and entries only, and that no second answer fits.
 -- Assumes nothing.
-use Prim.Native.Nat.{ℕ, _+_, _≤_, _<_}
-use mathlib.Core.List.{List, _++_}
-use mathlib.Core.Logic.{_⊎_}
-use mathlib.Core.Path.{_≡_, refl, sym, ap, subst, _∙_}
-use native.Mathlib.Omega.{arith}
-use lib.ListN.{length, getD, drop}
-use borrow.Author.Tests.{lt-ltb, le-ltb, ne-eqb}
+use Rattle.ground.proofs.Kit.{ℕ, _+_, _≤_, _<_, List, _++_, _≡_, refl, sym, _∙_, ap, subst, _⊎_, arith, length, getD, drop, ne-eqb, lt-ltb, le-ltb}
 use Rattle.ground.specs.Folds.{sumTo, listTo}
 use Rattle.ground.proofs.Cases.{by-le}
 use Rattle.ground.proofs.First.{first-cong}

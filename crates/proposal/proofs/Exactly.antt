@@ -1,10 +1,6 @@
 -- "Given exactly when", of the checker of proposals: `proposal-exactly`; the numbers that it gives are `proposal-numbers`.
 -- Assumes nothing.
-use Prim.Native.Nat.{ℕ, _+_}
-use mathlib.Core.List.{List, [], _∷_, _++_}
-use mathlib.Core.Path.{_≡_, refl, ap, _∙_}
-use lib.Dec.{ltb}
-use lib.ListN.{length}
+use Rattle.ground.proofs.Kit.{ℕ, _+_, List, [], _∷_, _++_, _≡_, refl, _∙_, ap, ltb, length}
 use Rattle.kinds.specs.declared.Task.{Task}
 use Rattle.kinds.specs.declared.Settings.{Settings}
 use Rattle.kinds.specs.declared.Refusal.the-variants.{Misset, TooManyTasks, OutputTooShort, BadRecord, ProcessorOutOfRange, ProcessorOverfull}

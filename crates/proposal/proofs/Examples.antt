@@ -1,8 +1,6 @@
 -- Bench case K's tasks on 3 processors, with some proposals, worked out: a step that first fit passes, and one that it does not.
 -- Assumes nothing.
-use Prim.Native.Nat.{ℕ}
-use mathlib.Core.List.{List, [], _∷_}
-use mathlib.Core.Path.{_≡_, refl}
+use Rattle.ground.proofs.Kit.{ℕ, List, [], _∷_, _≡_, refl}
 use Rattle.ground.specs.First.{firstFrom, firstBelow}
 use Rattle.ground.specs.Folds.{sumTo, listTo}
 use Rattle.kinds.specs.declared.Task.{Task}

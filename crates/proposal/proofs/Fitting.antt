@@ -1,12 +1,7 @@
 -- What first fit places is sound, with the loads that first fit counts: `first-fit-sound` and `first-fit-loads`; so the checker accepts it.
 -- Assumes nothing.
-use Prim.Native.Nat.{ℕ, zero, suc, _+_, _≤_, _<_}
-use mathlib.Core.Bool.{true}
-use mathlib.Core.List.{List, _++_}
-use mathlib.Core.Path.{_≡_, refl, sym, ap, _∙_}
-use native.Mathlib.Omega.{arith}
-use lib.ListN.{length, getD, set, drop, getD-replicate}
-use lib.Seq.{getD-set-same, getD-set-other}
+use Rattle.ground.proofs.Kit.{ℕ, zero, suc, _+_, _≤_, _<_, true, List, _++_, _≡_, refl, sym, _∙_, ap, arith, length, getD, set, drop, getD-replicate}
+use Rattle.ground.proofs.Kit.{getD-set-same, getD-set-other}
 use Rattle.ground.specs.Folds.{sumTo, listTo}
 use Rattle.ground.proofs.Cases.{by-eq}
 use Rattle.ground.proofs.Buffer.{list-at, list-cong}

@@ -1,12 +1,6 @@
 -- A placing is accepted exactly where Ask 7's sentence holds: `placed-sound` and `sound-placed`; 13 and 14 name the first.
 -- Assumes nothing.
-use Prim.Native.Nat.{ℕ, _+_, _-_, _≤_, _<_}
-use mathlib.Core.Bool.{Bool, true, false}
-use mathlib.Core.Logic.{_⊎_, inl, inr}
-use mathlib.Core.Path.{_≡_, refl, sym, ap}
-use native.Mathlib.Omega.{arith}
-use lib.Dec.{ltb}
-use borrow.Author.Tests.{lt-ltb, le-ltb, ltb-false}
+use Rattle.ground.proofs.Kit.{ℕ, _+_, _-_, _≤_, _<_, Bool, true, false, _≡_, refl, sym, ap, _⊎_, inl, inr, arith, ltb, lt-ltb, le-ltb, ltb-false}
 use Rattle.ground.specs.First.{IsFirst}
 use Rattle.ground.proofs.First.{first-is, first-none}
 use Rattle.kinds.specs.Limits.{scale}

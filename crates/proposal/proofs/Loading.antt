@@ -1,13 +1,7 @@
 -- The walk over the tasks that works out the load of each processor, and the walks that find what is out of range or overfull.
 -- Assumes nothing.
-use Prim.Native.Nat.{ℕ, _+_, _*_, _≤_, _<_}
-use mathlib.Core.Bool.{false}
-use mathlib.Core.List.{List}
-use mathlib.Core.Path.{_≡_, refl, sym, ap, _∙_}
-use native.Mathlib.Omega.{arith}
-use lib.ListN.{getD, set, replicate, length-set, getD-replicate}
-use lib.Seq.{getD-set-same, getD-set-other}
-use borrow.Author.Tests.{eq-eqb, ne-eqb, lt-ltb, le-ltb, ltb-false}
+use Rattle.ground.proofs.Kit.{ℕ, _+_, _*_, _≤_, _<_, false, List, _≡_, refl, sym, _∙_, ap, arith, getD, set, replicate, length-set, getD-replicate}
+use Rattle.ground.proofs.Kit.{getD-set-same, getD-set-other, eq-eqb, ne-eqb, lt-ltb, le-ltb, ltb-false}
 use Rattle.ground.specs.First.{firstBelow}
 use Rattle.ground.specs.Folds.{listTo}
 use Rattle.ground.proofs.Cases.{by-eq, by-le, true-false}

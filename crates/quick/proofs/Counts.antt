@@ -1,11 +1,6 @@
 -- How the count of distinct positive saturation steps grows from one look to the next.
 -- Assumes nothing.
-use Prim.Native.Nat.{ℕ, zero, suc, _+_, _≤_, _<_}
-use mathlib.Core.Bool.{Bool, false}
-use mathlib.Core.Path.{_≡_, refl, ap, sym, _∙_}
-use native.Mathlib.Omega.{arith}
-use lib.Dec.{ltb, eqb}
-use borrow.Author.Tests.{lt-ltb, le-ltb, eqb-true, eq-eqb, ne-eqb}
+use Rattle.ground.proofs.Kit.{ℕ, zero, suc, _+_, _≤_, _<_, Bool, false, _≡_, refl, sym, _∙_, ap, arith, eqb, ltb, eq-eqb, ne-eqb, eqb-true, lt-ltb, le-ltb}
 use Rattle.ground.specs.Choice.{bit, both}
 use Rattle.ground.specs.Folds.{anyTo, countTo}
 use Rattle.ground.proofs.Cases.{by-bool, by-le}

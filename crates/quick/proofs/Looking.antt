@@ -1,9 +1,6 @@
 -- A search, look by look: what has failed so far, and how it ends.
 -- Assumes nothing.
-use Prim.Native.Nat.{ℕ, zero, suc, _+_, _≤_, _<_}
-use mathlib.Core.Bool.{Bool, true, false}
-use mathlib.Core.Path.{_≡_, refl}
-use native.Mathlib.Omega.{arith}
+use Rattle.ground.proofs.Kit.{ℕ, zero, suc, _+_, _≤_, _<_, Bool, true, false, _≡_, refl, arith}
 use Rattle.ground.specs.declared.Step.the-variants.{At, Nothing}
 use Rattle.ground.specs.Folds.{maxTo}
 use Rattle.ground.specs.Least.{LeastAt}

@@ -1,12 +1,6 @@
 -- The loop of the quick finder, over the state that it carries.
 -- Assumes nothing.
-use Prim.Native.Nat.{ℕ, _+_, _-_, _≤_, _<_}
-use mathlib.Core.Bool.{true, false}
-use mathlib.Core.List.{List}
-use mathlib.Core.Path.{_≡_, sym, _∙_}
-use native.Mathlib.Omega.{arith}
-use lib.ListN.{getD}
-use borrow.Author.Tests.{eq-eqb, ne-eqb}
+use Rattle.ground.proofs.Kit.{ℕ, _+_, _-_, _≤_, _<_, true, false, List, _≡_, sym, _∙_, arith, getD, eq-eqb, ne-eqb}
 use Rattle.ground.specs.declared.Step.the-variants.{At, Nothing}
 use Rattle.kinds.specs.Limits.{mostTasks}
 use Rattle.policy.specs.declared.Weights.{Weights}

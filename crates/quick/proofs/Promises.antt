@@ -1,12 +1,7 @@
 -- One promise for every call: no second answer, looks included; the plain finder's outcome where policy 4 is not asked; and it depends on
 -- the first n records only.
 -- Assumes nothing.
-use Prim.Native.Nat.{ℕ, _≤_, _<_, min}
-use mathlib.Core.Bool.{true, false}
-use mathlib.Core.List.{List}
-use mathlib.Core.Path.{_≡_, refl, sym, ap, ap₂, _∙_}
-use native.Mathlib.Omega.{arith}
-use lib.ListN.{length}
+use Rattle.ground.proofs.Kit.{ℕ, _≤_, _<_, min, true, false, List, _≡_, refl, sym, _∙_, ap, ap₂, arith, length}
 use Rattle.ground.proofs.Cases.{by-le}
 use Rattle.kinds.specs.declared.Task.{Task}
 use Rattle.kinds.specs.declared.Answer.{Answer}

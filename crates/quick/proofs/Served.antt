@@ -1,11 +1,6 @@
 -- The search on the springs of a table is the search that demand 2 asks for, under each policy that is weighed and each edition.
 -- Assumes nothing.
-use Prim.Native.Nat.{ℕ, _≤_}
-use mathlib.Core.Bool.{true, false}
-use mathlib.Core.List.{List}
-use mathlib.Core.Path.{_≡_, refl, sym, ap, _∙_}
-use native.Mathlib.Omega.{arith}
-use lib.ListN.{getD}
+use Rattle.ground.proofs.Kit.{ℕ, _≤_, true, false, List, _≡_, refl, sym, _∙_, ap, arith, getD}
 use Rattle.ground.specs.declared.Step.{Step}
 use Rattle.ground.specs.declared.Ended.{Ended}
 use Rattle.ground.specs.Folds.{maxTo}

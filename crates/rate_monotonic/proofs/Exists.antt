@@ -1,11 +1,6 @@
 -- The kernel that goes by periods runs the shortest period first, so that what is proved of every such kernel is said of one at least.
 -- Assumes nothing.
-use Prim.Native.Nat.{ℕ, suc, _+_, _*_, _≤_, _<_}
-use mathlib.Core.Bool.{true, false}
-use mathlib.Core.Path.{_≡_}
-use native.Mathlib.Omega.{arith}
-use lib.Dec.{ltb}
-use borrow.Author.Tests.{ltb-true}
+use Rattle.ground.proofs.Kit.{ℕ, suc, _+_, _*_, _≤_, _<_, true, false, _≡_, arith, ltb, ltb-true}
 use Rattle.ground.specs.Choice.{both}
 use Rattle.ground.proofs.Cases.{both-true}
 use Rattle.ground.proofs.Totals.{total-some}

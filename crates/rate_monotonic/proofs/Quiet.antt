@@ -1,11 +1,7 @@
 -- Quiet times, among the tasks with a period of at most T: those at which every job that was released before is done.
 -- Assumes nothing.
-use Prim.Native.Nat.{ℕ, zero, suc, _≤_, _<_}
-use mathlib.Core.Bool.{Bool, true, false, not}
-use mathlib.Core.Path.{_≡_, refl}
-use native.Mathlib.Omega.{arith}
-use lib.Dec.{leb, ltb}
-use borrow.Author.Tests.{leb-true, le-leb, ltb-true, ltb-false, lt-ltb, not-true, not-false}
+use Rattle.ground.proofs.Kit.{ℕ, zero, suc, _≤_, _<_, Bool, true, false, not, _≡_, refl, arith, leb, ltb, le-leb, leb-true, lt-ltb, ltb-true, ltb-false}
+use Rattle.ground.proofs.Kit.{not-true, not-false}
 use Rattle.ground.specs.Choice.{both}
 use Rattle.ground.specs.Folds.{anyTo}
 use Rattle.ground.proofs.Cases.{by-bool, by-le, both-true, true-false}

@@ -1,12 +1,6 @@
 -- How many jobs a task releases in a time: no more than the time's length over the period, rounded up.
 -- Assumes nothing.
-use Prim.Native.Nat.{ℕ, zero, suc, _+_, _*_, _≤_, _<_, max}
-use mathlib.Core.Bool.{Bool, true}
-use mathlib.Core.Path.{_≡_}
-use native.Mathlib.Nat.{mul-le-mul-right, le-trans}
-use native.Mathlib.Omega.{arith}
-use lib.Dec.{leb, ltb}
-use borrow.Author.Tests.{leb-true, ltb-true}
+use Rattle.ground.proofs.Kit.{ℕ, zero, suc, _+_, _*_, _≤_, _<_, max, Bool, true, _≡_, le-trans, mul-le-mul-right, arith, leb, ltb, leb-true, ltb-true}
 use Rattle.ground.specs.Choice.{pick, both}
 use Rattle.ground.specs.Folds.{sumTo, countTo}
 use Rattle.ground.specs.Rounding.{ceilDiv}

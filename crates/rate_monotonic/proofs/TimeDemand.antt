@@ -1,11 +1,8 @@
 -- The time demand test suffices: where t ticks are enough for the demand in them of the tasks with periods no longer than that of task k, each of
 -- its jobs is done t ticks after its release.
 -- Assumes nothing.
-use Prim.Native.Nat.{ℕ, suc, _+_, _≤_, _<_}
-use mathlib.Core.Bool.{true, false}
-use mathlib.Core.Path.{_≡_}
+use Rattle.ground.proofs.Kit.{ℕ, suc, _+_, _≤_, _<_, true, false, _≡_, arith}
 use native.Mathlib.Nat.{le-refl}
-use native.Mathlib.Omega.{arith}
 use Rattle.ground.proofs.Cases.{by-bool, by-le, true-false}
 use Rattle.ground.proofs.Tests.{by-all}
 use Rattle.schedule.specs.Jobs.{Jobs, Apart}

@@ -1,12 +1,7 @@
 -- The work done on the jobs of the tasks with a period of at most T.
 -- Assumes nothing.
-use Prim.Native.Nat.{ℕ, zero, suc, _+_, _*_, _≤_, _<_}
-use mathlib.Core.Bool.{true}
-use mathlib.Core.Path.{_≡_, ap}
-use native.Mathlib.Nat.{le-trans, lt-of-lt-of-le}
-use native.Mathlib.Omega.{arith}
-use lib.Dec.{leb}
-use borrow.Author.Tests.{le-leb, leb-true, lt-ltb}
+use Rattle.ground.proofs.Kit.{ℕ, zero, suc, _+_, _*_, _≤_, _<_, true, _≡_, ap, le-trans, arith, leb, le-leb, leb-true, lt-ltb}
+use native.Mathlib.Nat.{lt-of-lt-of-le}
 use Rattle.ground.specs.Choice.{bit, pick}
 use Rattle.ground.specs.Folds.{sumTo}
 use Rattle.ground.specs.Rounding.{ceilDiv}

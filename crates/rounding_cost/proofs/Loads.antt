@@ -1,9 +1,7 @@
 -- A task's load, under either edition, covers its cost at its period, and at step 0 it is less than one part more than its cost at Tmin.
 -- Assumes nothing.
-use Prim.Native.Nat.{ℕ, _+_, _-_, _*_, _≤_, _<_}
-use mathlib.Core.Path.{ap}
-use native.Mathlib.Nat.{div-mul-le-self, mul-le-mul-right}
-use native.Mathlib.Omega.{arith}
+use Rattle.ground.proofs.Kit.{ℕ, _+_, _-_, _*_, _≤_, _<_, ap, mul-le-mul-right, arith}
+use native.Mathlib.Nat.{div-mul-le-self}
 use Rattle.ground.specs.Rounding.{ceilDiv}
 use Rattle.ground.proofs.Cases.{by-bool}
 use Rattle.ground.proofs.Rounding.{ceil-enough}

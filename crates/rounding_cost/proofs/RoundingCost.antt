@@ -1,14 +1,8 @@
 -- Ask 13, said of a call's answer under policy 1, under both editions, with any swap cost and any notch: an accepted plan's exact sum of cost over period is at
 -- most m, and where the exact sum of cost over Tmin spares one part for each task the call is accepted at step 0; a part less is enough.
 -- Assumes nothing.
-use Prim.Native.Nat.{ℕ, _+_, _-_, _*_, _≤_, _<_, min}
-use mathlib.Core.Bool.{Bool, true}
-use mathlib.Core.List.{List}
-use mathlib.Core.Path.{_≡_, sym, ap, subst, _∙_}
-use native.Mathlib.Nat.{mul-le-mul-right, le-trans}
-use native.Mathlib.Omega.{arith}
-use lib.ListN.{length, getD}
-use borrow.Author.Tests.{leb-true, le-leb}
+use Rattle.ground.proofs.Kit.{ℕ, _+_, _-_, _*_, _≤_, _<_, min, Bool, true, List, _≡_, sym, _∙_, ap, subst, le-trans, mul-le-mul-right, arith, length, getD}
+use Rattle.ground.proofs.Kit.{le-leb, leb-true}
 use Rattle.ground.specs.Folds.{sumTo}
 use Rattle.ground.specs.declared.Step.the-variants.{At}
 use Rattle.ground.proofs.Buffer.{list-at}
@@ -23,7 +17,7 @@ use Rattle.kinds.specs.declared.Answer.the-variants.{Accepted}
 use Rattle.kinds.specs.Answer.{accepted, handed}
 use Rattle.kinds.specs.Limits.{scale}
 use Rattle.kinds.specs.Policy.{meant}
-use Rattle.kinds.specs.Task.{at, priced}
+use Rattle.kinds.specs.Task.{at}
 use Rattle.share.specs.Share.{periodAt}
 use Rattle.share.specs.Table.{periodsAt}
 use Rattle.share.proofs.Tasks.{shortest-on}

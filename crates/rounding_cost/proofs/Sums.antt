@@ -1,10 +1,8 @@
 -- An exact sum is the sum over any common bottom, so that no reader has to believe the way it is added; and loads that are rounded up from
 -- fractions lie between S times their exact sum and less than one part for each task more.
 -- Assumes nothing.
-use Prim.Native.Nat.{ℕ, zero, suc, _+_, _-_, _*_, _≤_, _<_}
-use mathlib.Core.Path.{_≡_, ap}
-use native.Mathlib.Nat.{mul-le-mul-right, mul-lt-mul-of-pos-right, lt-of-mul-lt-mul-right, mul-pos}
-use native.Mathlib.Omega.{arith}
+use Rattle.ground.proofs.Kit.{ℕ, zero, suc, _+_, _-_, _*_, _≤_, _<_, _≡_, ap, mul-le-mul-right, arith}
+use native.Mathlib.Nat.{mul-lt-mul-of-pos-right, lt-of-mul-lt-mul-right, mul-pos}
 use Rattle.ground.specs.Folds.{sumTo}
 use Rattle.rounding_cost.specs.Exact.{Fraction, exactSum}
 

@@ -1,9 +1,7 @@
 -- The period of a share is the shortest in its range that the share allows, and moved on to the next notch the shortest on a notch.
 -- Assumes nothing.
-use Prim.Native.Nat.{ℕ, _+_, _-_, _*_, _/_, _%_, _≤_, _<_}
-use mathlib.Core.Path.{_≡_}
-use native.Mathlib.Nat.{mul-comm, mul-le-mul-left, mul-le-mul-right, le-trans, le-max-right, max-le, div-add-mod', div-mul-le-self, mul-mod-left}
-use native.Mathlib.Omega.{arith}
+use Rattle.ground.proofs.Kit.{ℕ, _+_, _-_, _*_, _/_, _%_, _≤_, _<_, _≡_, le-trans, mul-le-mul-left, mul-le-mul-right, arith}
+use native.Mathlib.Nat.{mul-comm, le-max-right, max-le, div-add-mod', div-mul-le-self, mul-mod-left}
 use Rattle.ground.specs.Rounding.{ceilDiv}
 use Rattle.ground.proofs.Rounding.{ceil-enough, ceil-least, ceil-falls}
 use Rattle.kinds.specs.Limits.{scale}

@@ -1,10 +1,6 @@
 -- Laws of shares and saturation steps, in document 01's words.
 -- Assumes nothing.
-use Prim.Native.Nat.{ℕ, zero, suc, _-_, _*_, _≤_, _<_}
-use mathlib.Core.Path.{_≡_, refl, ap, sym}
-use native.Mathlib.Nat.{mul-le-mul-right}
-use native.Mathlib.Omega.{arith}
-use borrow.Author.Tests.{ne-eqb}
+use Rattle.ground.proofs.Kit.{ℕ, zero, suc, _-_, _*_, _≤_, _<_, _≡_, refl, sym, ap, mul-le-mul-right, arith, ne-eqb}
 use Rattle.ground.specs.Rounding.{ceilDiv}
 use Rattle.ground.proofs.Cases.{by-le}
 use Rattle.ground.proofs.Rounding.{ceil-enough, ceil-least, ceil-over, ceil-falls, ceil-high, ceil-by-zero}

@@ -1,10 +1,6 @@
 -- Where nothing is left over at tick c, the plan may change there.
 -- Assumes nothing.
-use Prim.Native.Nat.{ℕ, zero, suc, _≤_}
-use mathlib.Core.Bool.{Bool}
-use mathlib.Core.Path.{_≡_, ap}
-use native.Mathlib.Omega.{arith}
-use borrow.Author.Tests.{le-leb, lt-leb, lt-ltb}
+use Rattle.ground.proofs.Kit.{ℕ, zero, suc, _≤_, Bool, _≡_, ap, arith, le-leb, lt-leb, lt-ltb}
 use Rattle.ground.specs.Choice.{bit, both}
 use Rattle.ground.proofs.Cases.{by-bool, by-le}
 use Rattle.schedule.specs.Jobs.{Jobs, deadline}

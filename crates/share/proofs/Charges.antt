@@ -1,10 +1,6 @@
 -- Ask 10: the charge of a good task is at most its share, is never 0 and never rises with the step; so is what either edition tests.
 -- Assumes nothing.
-use Prim.Native.Nat.{ℕ, _≤_}
-use mathlib.Core.Bool.{true, false}
-use mathlib.Core.Path.{_≡_, sym, _∙_}
-use native.Mathlib.Nat.{mul-le-mul-right, le-trans}
-use native.Mathlib.Omega.{arith}
+use Rattle.ground.proofs.Kit.{ℕ, _≤_, true, false, _≡_, sym, le-trans, mul-le-mul-right, arith}
 use Rattle.ground.proofs.Cases.{by-bool}
 use Rattle.kinds.specs.declared.Task.{Task}
 use Rattle.kinds.specs.declared.Settings.{Settings}

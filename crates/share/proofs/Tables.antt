@@ -1,10 +1,6 @@
 -- What document 01 says of full compression and of the first bad record, and the walk over a table that finds it.
 -- Assumes nothing.
-use Prim.Native.Nat.{ℕ, _+_, _*_, _≤_, _<_}
-use mathlib.Core.Bool.{Bool, true, false, not}
-use mathlib.Core.List.{List}
-use mathlib.Core.Path.{_≡_, ap}
-use native.Mathlib.Omega.{arith}
+use Rattle.ground.proofs.Kit.{ℕ, _+_, _*_, _≤_, _<_, true, false, not, List, _≡_, ap, arith}
 use Rattle.ground.specs.First.{IsFirst}
 use Rattle.ground.proofs.Cases.{by-bool, true-false}
 use Rattle.ground.proofs.First.{first-is, first-cong}

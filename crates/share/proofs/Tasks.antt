@@ -1,8 +1,6 @@
 -- What document 01 says of the shares, the saturation step and the periods of a good task, and Ask 5 of its periods on notches.
 -- Assumes nothing.
-use Prim.Native.Nat.{ℕ, _*_, _≤_, _<_}
-use mathlib.Core.Path.{_≡_}
-use native.Mathlib.Omega.{arith}
+use Rattle.ground.proofs.Kit.{ℕ, _*_, _≤_, _<_, _≡_, arith}
 use Rattle.ground.proofs.Rounding.{ceil-enough}
 use Rattle.kinds.specs.declared.Task.{Task}
 use Rattle.kinds.specs.Limits.{scale}

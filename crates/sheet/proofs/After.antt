@@ -1,13 +1,8 @@
 -- Bytes after a sheet are refused by 11 at the first of them. Document 01, "Program", of more bytes than the longest sheet has: "refused as
 -- 11 at" that length "if the first .. read as a sheet of that length".
 -- Assumes nothing.
-use Prim.Native.Nat.{ℕ, _<_}
-use mathlib.Core.Bool.{true}
-use mathlib.Core.List.{List, _++_}
-use mathlib.Core.Path.{_≡_, sym, ap, _∙_}
-use native.Mathlib.Omega.{arith}
-use lib.ListN.{length, take, drop, length-append, length-drop, take-append-drop}
-use lib.Seq.{length-take-le}
+use Rattle.ground.proofs.Kit.{ℕ, _<_, true, List, _++_, _≡_, sym, _∙_, ap, arith, length, take, drop, length-append, length-drop, take-append-drop}
+use Rattle.ground.proofs.Kit.{length-take-le}
 use Rattle.kinds.specs.declared.Sheet.{Sheet}
 use Rattle.kinds.specs.declared.Refusal.the-variants.{BytesAfterLast}
 use Rattle.kinds.specs.Answer.{accepted, refused}

@@ -1,12 +1,8 @@
 -- The longest sheet's bytes and one more settle the reading of an input: `front-reads`. Beyond them nothing changes the reader's answer.
 -- Assumes nothing.
-use Prim.Native.Nat.{ℕ, _+_, _≤_, _<_}
-use mathlib.Core.Bool.{true}
-use mathlib.Core.List.{List, _++_}
-use mathlib.Core.Path.{_≡_, sym, ap, _∙_}
-use native.Mathlib.Omega.{arith}
-use lib.ListN.{length, take, drop, length-append, take-append-drop}
-use lib.Seq.{length-take-le, take-all}
+use Rattle.ground.proofs.Kit.{ℕ, _+_, _≤_, _<_, true, List, _++_, _≡_, sym, _∙_, ap, arith, length, take, drop, length-append, take-append-drop}
+use Rattle.ground.proofs.Kit.{length-take-le}
+use lib.Seq.{take-all}
 use Rattle.ground.proofs.Cases.{by-bool, by-le}
 use Rattle.kinds.specs.declared.Refusal.the-variants.{TooManyTasks, WrongResultCount, BytesAfterLast}
 use Rattle.kinds.specs.Limits.{mostSettings, mostTasks}

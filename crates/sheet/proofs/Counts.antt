@@ -1,10 +1,6 @@
 -- The counts of a front: each stands in the whole as soon as its two bytes are there.
 -- Assumes nothing.
-use Prim.Native.Nat.{ℕ, _≤_}
-use mathlib.Core.List.{List, _++_}
-use mathlib.Core.Path.{_≡_, ap, _∙_}
-use native.Mathlib.Omega.{arith}
-use lib.ListN.{length}
+use Rattle.ground.proofs.Kit.{ℕ, _≤_, List, _++_, _≡_, _∙_, ap, arith, length}
 use Rattle.field.specs.Number.{u16At}
 use Rattle.field.proofs.Numbers.{number-front}
 use Rattle.sheet.specs.Sections.{settingsPlace, numbersPlace, tasksPlace, recordsPlace, resultsPlace, grantedPlace}

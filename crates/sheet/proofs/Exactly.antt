@@ -1,9 +1,6 @@
 -- "Given exactly when", of the reader: `reader-exactly`; the numbers that it gives, from the left, are `reader-numbers`.
 -- Assumes nothing.
-use Prim.Native.Nat.{ℕ}
-use mathlib.Core.List.{List, [], _∷_}
-use mathlib.Core.Path.{_≡_, refl}
-use lib.ListN.{length}
+use Rattle.ground.proofs.Kit.{ℕ, List, [], _∷_, _≡_, refl, length}
 use Rattle.kinds.specs.Limits.{mostTasks}
 use Rattle.kinds.specs.Chain.{firstBy, handedBy, Exactly, numbersGiven}
 use Rattle.kinds.proofs.Chains.{exactly, not-most}

@@ -1,9 +1,6 @@
 -- Readings worked out over the definition: counts are judged as soon as they are there, and document 01's whole case is a sheet.
 -- Assumes nothing.
-use Prim.Native.Nat.{_+_}
-use mathlib.Core.List.{[], _∷_}
-use mathlib.Core.Path.{_≡_, refl}
-use lib.ListN.{replicate}
+use Rattle.ground.proofs.Kit.{_+_, [], _∷_, _≡_, refl, replicate}
 use Rattle.kinds.specs.declared.Policy.the-variants.{Pooled}
 use Rattle.kinds.specs.declared.Refusal.the-variants.{TooManyTasks, SheetEnds, WrongSettingsCount, WrongResultCount, BytesAfterLast}
 use Rattle.kinds.specs.Limits.{mostSettings}

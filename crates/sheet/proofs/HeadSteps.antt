@@ -1,12 +1,7 @@
 -- The head of a sheet, read section by section: what each way through `read_head` shows of the definition.
 -- Assumes nothing.
-use Prim.Native.Nat.{ℕ, _≤_, _<_}
-use mathlib.Core.Bool.{true, false}
-use mathlib.Core.List.{List}
-use mathlib.Core.Path.{_≡_, sym, ap, subst, _∙_}
-use native.Mathlib.Omega.{arith}
+use Rattle.ground.proofs.Kit.{ℕ, _≤_, _<_, true, false, List, _≡_, sym, _∙_, ap, subst, arith, length}
 use lib.Dec.{T}
-use lib.ListN.{length}
 use Rattle.kinds.specs.declared.Settings.{Settings}
 use Rattle.kinds.specs.declared.Refusal.{Refusal}
 use Rattle.kinds.specs.declared.Refusal.the-variants.{TooManyTasks, SheetEnds, WrongSettingsCount}

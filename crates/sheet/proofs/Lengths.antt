@@ -1,8 +1,6 @@
 -- How long a sheet is.
 -- Assumes nothing.
-use Prim.Native.Nat.{ℕ, _+_, _*_, _≤_}
-use mathlib.Core.Path.{_≡_, refl}
-use native.Mathlib.Omega.{arith}
+use Rattle.ground.proofs.Kit.{ℕ, _+_, _*_, _≤_, _≡_, refl, arith}
 use Rattle.kinds.specs.Limits.{mostSettings, mostTasks}
 use Rattle.sheet.specs.Sections.{tasksPlace, endPlace, longestSheet}
 

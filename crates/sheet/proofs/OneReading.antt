@@ -1,8 +1,6 @@
 -- No second answer meets the promise of `read`.
 -- Assumes nothing.
-use Prim.Native.Nat.{ℕ}
-use mathlib.Core.List.{List}
-use mathlib.Core.Path.{_≡_, sym, _∙_}
+use Rattle.ground.proofs.Kit.{ℕ, List, _≡_, sym, _∙_}
 use Rattle.kinds.proofs.Answers.{with-one}
 use Rattle.sheet.specs.declared.Reading.{Reading}
 use Rattle.sheet.specs.Reading.{readSheet, handedReading}

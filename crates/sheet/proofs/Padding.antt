@@ -1,12 +1,9 @@
 -- Rows laid over others: what stands where, and that this settles them; then the same of rows with unused places after them.
 -- Assumes nothing.
-use Prim.Native.Nat.{ℕ, zero, suc, _+_, _≤_, _<_}
-use mathlib.Core.List.{List}
-use mathlib.Core.Path.{_≡_, refl, sym, ap, _∙_}
-use native.Mathlib.Numerals.{add-one}
-use native.Mathlib.Omega.{arith}
-use lib.ListN.{length, getD, set, replicate, length-set, length-replicate, getD-replicate, List·getD-eq-default}
-use lib.Seq.{getD-set-same, getD-set-other, ext-getD}
+use Rattle.ground.proofs.Kit.{ℕ, zero, suc, _+_, _≤_, _<_, List, _≡_, refl, sym, _∙_, ap, add-one, arith, length, getD, set, replicate, length-set}
+use Rattle.ground.proofs.Kit.{length-replicate, getD-replicate, getD-set-same, getD-set-other}
+use lib.ListN.{List·getD-eq-default}
+use lib.Seq.{ext-getD}
 use Rattle.ground.proofs.Cases.{by-le}
 use Rattle.kinds.specs.Limits.{mostTasks}
 use Rattle.sheet.specs.Rows.{over, paddedRows}

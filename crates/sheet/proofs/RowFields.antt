@@ -1,12 +1,6 @@
 -- What the reading of a row says, and of the rows of a section: all there, or not. Said once for both sections where it can be.
 -- Assumes nothing.
-use Prim.Native.Nat.{ℕ, _+_, _*_, _≤_, _<_}
-use mathlib.Core.Bool.{Bool, true, false}
-use mathlib.Core.List.{List}
-use mathlib.Core.Path.{_≡_, refl, sym, ap, _∙_}
-use native.Mathlib.Omega.{arith}
-use lib.ListN.{length, set}
-use borrow.Author.Tests.{le-leb, lt-leb}
+use Rattle.ground.proofs.Kit.{ℕ, _+_, _*_, _≤_, _<_, Bool, true, false, List, _≡_, refl, sym, _∙_, ap, arith, length, set, le-leb, lt-leb}
 use Rattle.ground.proofs.Cases.{by-le, true-false}
 use Rattle.kinds.specs.declared.Task.{Task}
 use Rattle.kinds.specs.declared.Granted.{Granted}

@@ -1,13 +1,6 @@
 -- The stages of a reading, from the left: what the definition says at each.
 -- Assumes nothing.
-use Prim.Native.Nat.{ℕ, _≤_, _<_}
-use mathlib.Core.Bool.{true, false}
-use mathlib.Core.List.{List}
-use mathlib.Core.Path.{_≡_}
-use native.Mathlib.Omega.{arith}
-use lib.Dec.{leb, eqb}
-use lib.ListN.{length}
-use borrow.Author.Tests.{le-leb, lt-leb, leb-true, eqb-true}
+use Rattle.ground.proofs.Kit.{ℕ, _≤_, _<_, true, false, List, _≡_, arith, eqb, leb, length, eqb-true, le-leb, lt-leb, leb-true}
 use Rattle.ground.proofs.Cases.{by-bool, both-true}
 use Rattle.kinds.specs.declared.Refusal.the-variants.{TooManyTasks, SheetEnds, WrongSettingsCount, WrongResultCount, BytesAfterLast}
 use Rattle.kinds.specs.Limits.{fewestSettings, mostSettings, mostTasks}

@@ -1,12 +1,7 @@
 -- A sheet that is cut short anywhere is refused by 8 at the length that is left.
 -- Assumes nothing.
-use Prim.Native.Nat.{ℕ, _<_}
-use mathlib.Core.Bool.{true}
-use mathlib.Core.List.{List, _++_}
-use mathlib.Core.Path.{_≡_, sym, ap, _∙_}
-use native.Mathlib.Omega.{arith}
-use lib.ListN.{length, take, drop, length-append, length-drop, take-append-drop}
-use lib.Seq.{length-take-le}
+use Rattle.ground.proofs.Kit.{ℕ, _<_, true, List, _++_, _≡_, sym, _∙_, ap, arith, length, take, drop, length-append, length-drop, take-append-drop}
+use Rattle.ground.proofs.Kit.{length-take-le}
 use Rattle.ground.proofs.Cases.{by-le}
 use Rattle.kinds.specs.declared.Sheet.{Sheet}
 use Rattle.kinds.specs.declared.Refusal.the-variants.{SheetEnds}

@@ -1,6 +1,6 @@
 -- What the walks of the reader ask of the types that it hands on by value, and the reader's own type.
 -- Assumes nothing.
-use mathlib.Core.Path.{refl}
+use Rattle.ground.proofs.Kit.{refl}
 use contract.Lifetimes.{Lfts}
 use denote.RattleType.{RattleType}
 use denote.Signature.{namedLft}

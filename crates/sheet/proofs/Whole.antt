@@ -1,14 +1,7 @@
 -- What an accepted reading says of the bytes. The last laws are those that other crates use: `accepted-whole` from what was handed back,
 -- `whole-accepted` the other way.
 -- Assumes nothing.
-use Prim.Native.Nat.{ℕ, _≤_}
-use mathlib.Core.Bool.{true}
-use mathlib.Core.List.{List}
-use mathlib.Core.Path.{_≡_, sym, ap, _∙_}
-use native.Mathlib.Omega.{arith}
-use lib.Dec.{leb}
-use lib.ListN.{length}
-use borrow.Author.Tests.{leb-true}
+use Rattle.ground.proofs.Kit.{ℕ, _≤_, true, List, _≡_, sym, _∙_, ap, arith, leb, length, leb-true}
 use Rattle.kinds.specs.declared.Sheet.{Sheet}
 use Rattle.kinds.specs.declared.Refusal.the-variants.{TooManyTasks, SheetEnds, WrongSettingsCount, WrongResultCount, BytesAfterLast}
 use Rattle.kinds.specs.Limits.{mostSettings, mostTasks}

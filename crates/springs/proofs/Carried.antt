@@ -1,10 +1,6 @@
 -- Shares carried from step to step: one step further is one more elasticity off, never below the least.
 -- Assumes nothing.
-use Prim.Native.Nat.{ℕ, _+_, _-_, _≤_, _<_, max}
-use mathlib.Core.List.{List}
-use mathlib.Core.Path.{_≡_, refl, sym, ap, _∙_}
-use native.Mathlib.Omega.{arith}
-use lib.ListN.{length, getD, set}
+use Rattle.ground.proofs.Kit.{ℕ, _+_, _-_, _≤_, _<_, max, List, _≡_, refl, sym, _∙_, ap, arith, length, getD, set}
 use Rattle.ground.proofs.Buffer.{Front, front-more, list-at, list-past}
 use Rattle.ground.proofs.Folds.{sum-none, sum-more}
 use Rattle.kinds.specs.Limits.{scale, mostTasks}

@@ -1,11 +1,6 @@
 -- Charges from columns: the walks that write them, and that they are the loads of the records.
 -- Assumes nothing.
-use Prim.Native.Nat.{ℕ, _+_, _≤_, _<_}
-use mathlib.Core.Bool.{true, false}
-use mathlib.Core.List.{List}
-use mathlib.Core.Path.{_≡_, sym, ap, _∙_}
-use native.Mathlib.Omega.{arith}
-use lib.ListN.{length, getD, set}
+use Rattle.ground.proofs.Kit.{ℕ, _+_, _≤_, _<_, true, false, List, _≡_, _∙_, ap, arith, length, getD, set}
 use Rattle.ground.proofs.Buffer.{Front, front-more, list-at, list-past}
 use Rattle.ground.specs.Folds.{maxTo}
 use Rattle.ground.proofs.Folds.{max-to-le}

@@ -1,12 +1,7 @@
 -- Columns that hold the springs of a table: the walk that fills them, and what they then say of the table's shares and saturation steps.
 -- Assumes nothing.
-use Prim.Native.Nat.{ℕ, _+_, _≤_, _<_}
-use mathlib.Core.Bool.{Bool, false, not}
-use mathlib.Core.List.{List}
-use mathlib.Core.Path.{_≡_, refl, sym, ap, _∙_}
-use native.Mathlib.Omega.{arith}
-use lib.ListN.{length, getD, set, length-set}
-use lib.Seq.{getD-set-same, getD-set-other}
+use Rattle.ground.proofs.Kit.{ℕ, _+_, _≤_, _<_, Bool, false, not, List, _≡_, refl, sym, _∙_, ap, arith, length, getD, set, length-set, getD-set-same}
+use Rattle.ground.proofs.Kit.{getD-set-other}
 use Rattle.ground.specs.Folds.{listTo}
 use Rattle.ground.proofs.Buffer.{list-cong}
 use Rattle.ground.proofs.Cases.{by-eq, by-bool, true-false}

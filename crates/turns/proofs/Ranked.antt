@@ -1,11 +1,6 @@
 -- A kernel that goes by turns: what runs is pending, at most m run, and a pending job that waits has m before it that run.
 -- Assumes nothing.
-use Prim.Native.Nat.{ℕ, suc, _≤_, _<_}
-use mathlib.Core.Bool.{Bool, true, false}
-use mathlib.Core.Path.{_≡_, refl, sym, _∙_}
-use native.Mathlib.Omega.{arith}
-use lib.Dec.{ltb}
-use borrow.Author.Tests.{ltb-true, ltb-false, lt-ltb}
+use Rattle.ground.proofs.Kit.{ℕ, suc, _≤_, _<_, Bool, true, false, _≡_, refl, sym, _∙_, arith, ltb, lt-ltb, ltb-true, ltb-false}
 use Rattle.ground.specs.Choice.{bit, both}
 use Rattle.ground.proofs.Cases.{true-false, both-true}
 use Rattle.ground.proofs.Totals.{total-le}

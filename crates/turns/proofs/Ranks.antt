@@ -1,11 +1,7 @@
 -- Of the jobs at which a test holds, those that fewer than m come before are m, or all of them where there are fewer: no two have the same turn.
 -- Assumes nothing.
-use Prim.Native.Nat.{ℕ, zero, suc, _+_, _*_, _≤_, _<_, min}
-use mathlib.Core.Bool.{Bool, true, false}
-use mathlib.Core.Path.{_≡_, refl, ap}
-use native.Mathlib.Omega.{arith}
-use lib.Dec.{eqb, ltb}
-use borrow.Author.Tests.{eqb-true, eq-eqb, ne-eqb, lt-ltb, le-ltb, ltb-true, ltb-false}
+use Rattle.ground.proofs.Kit.{ℕ, zero, suc, _+_, _*_, _≤_, _<_, min, Bool, true, false, _≡_, refl, ap, arith, eqb, ltb, eq-eqb, ne-eqb, eqb-true, lt-ltb}
+use Rattle.ground.proofs.Kit.{le-ltb, ltb-true, ltb-false}
 use Rattle.ground.specs.Choice.{bit, both}
 use Rattle.ground.specs.Total.{total}
 use Rattle.ground.proofs.Cases.{by-bool, by-le, by-eq, both-true}

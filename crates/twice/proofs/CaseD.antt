@@ -1,7 +1,6 @@
 -- Bench case D, stretched by 55 steps and then by 91 more, has the shares of step 146, by computation.
 -- Assumes nothing.
-use mathlib.Core.List.{List, [], _∷_}
-use mathlib.Core.Path.{_≡_, refl}
+use Rattle.ground.proofs.Kit.{List, [], _∷_, _≡_, refl}
 use Rattle.ground.specs.Folds.{listTo}
 use Rattle.kinds.specs.declared.Task.{Task}
 use Rattle.kinds.specs.Task.{task}

@@ -4,10 +4,7 @@
 -- The same is not claimed of periods: a period is rounded up from its share, so a plan that took the periods of step a for its shortest
 -- ones would round twice and could grant a longer period than step a + b does. Periods are taken once, at the end.
 -- Assumes nothing.
-use Prim.Native.Nat.{ℕ, _+_, _-_}
-use mathlib.Core.List.{List}
-use mathlib.Core.Path.{_≡_, sym, ap, _∙_}
-use native.Mathlib.Omega.{arith}
+use Rattle.ground.proofs.Kit.{ℕ, _+_, List, _≡_, sym, _∙_, ap, arith}
 use Rattle.ground.proofs.Buffer.{list-cong}
 use Rattle.kinds.specs.declared.Task.{Task}
 use Rattle.kinds.specs.Task.{at, Good}

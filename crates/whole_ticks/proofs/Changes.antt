@@ -1,11 +1,6 @@
 -- One cell more: its row has one column more, and its column one row.
 -- Assumes nothing.
-use Prim.Native.Nat.{ℕ, zero, suc, _+_, _<_}
-use mathlib.Core.Bool.{Bool, true, false}
-use mathlib.Core.Path.{_≡_, refl, ap, sym, _∙_}
-use native.Mathlib.Omega.{arith}
-use lib.Dec.{eqb}
-use borrow.Author.Tests.{eq-eqb, ne-eqb}
+use Rattle.ground.proofs.Kit.{ℕ, zero, suc, _+_, _<_, Bool, true, false, _≡_, refl, sym, _∙_, ap, arith, eqb, eq-eqb, ne-eqb}
 use Rattle.ground.specs.Choice.{bit}
 use Rattle.ground.specs.Folds.{sumTo}
 use Rattle.ground.proofs.Cases.{by-eq, by-le}

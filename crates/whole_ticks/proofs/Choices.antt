@@ -1,11 +1,6 @@
 -- Laws of choices by a test.
 -- Assumes nothing.
-use Prim.Native.Nat.{ℕ, _+_, _≤_, _<_}
-use mathlib.Core.Bool.{Bool, true, false}
-use mathlib.Core.Path.{_≡_, refl, ap}
-use native.Mathlib.Omega.{arith}
-use lib.Dec.{eqb}
-use borrow.Author.Tests.{eq-eqb, ne-eqb}
+use Rattle.ground.proofs.Kit.{ℕ, _+_, _≤_, _<_, Bool, true, false, _≡_, refl, ap, arith, eqb, eq-eqb, ne-eqb}
 use Rattle.ground.specs.Choice.{pick, bit, both, either}
 use Rattle.ground.proofs.Cases.{by-eq, true-false}
 

@@ -1,12 +1,6 @@
 -- Rows that reach no further and want no column with room could be given no more than they have, so that none of them lacks a column.
 -- Assumes nothing.
-use Prim.Native.Nat.{ℕ, _*_, _≤_, _<_}
-use mathlib.Core.Bool.{Bool, true, false, not}
-use mathlib.Core.Path.{_≡_, refl, ap}
-use native.Mathlib.Nat.{mul-le-mul-right}
-use native.Mathlib.Omega.{arith}
-use lib.Dec.{ltb}
-use borrow.Author.Tests.{lt-ltb}
+use Rattle.ground.proofs.Kit.{ℕ, _*_, _≤_, _<_, Bool, true, false, not, _≡_, refl, ap, mul-le-mul-right, arith, ltb, lt-ltb}
 use Rattle.ground.specs.Choice.{pick, bit, both}
 use Rattle.ground.specs.Folds.{sumTo, anyTo}
 use Rattle.ground.proofs.Cases.{by-bool, by-le, both-true, true-false}

@@ -1,6 +1,6 @@
 -- Where m processors can share the loads, and all tasks release their jobs in step from one tick on, there is a fluid kernel in whole ticks.
 -- Assumes nothing.
-use Prim.Native.Nat.{ℕ, _≤_, _<_}
+use Rattle.ground.proofs.Kit.{ℕ, _≤_, _<_}
 use Rattle.ground.specs.Folds.{prodTo}
 use Rattle.schedule.specs.Periodic.{periodic}
 use Rattle.schedule.specs.Schedule.{Schedule}

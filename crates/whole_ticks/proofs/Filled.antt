@@ -1,11 +1,6 @@
 -- Where parts are enough, whole columns are: each row can have as many as it asks for.
 -- Assumes nothing.
-use Prim.Native.Nat.{ℕ, zero, suc, _+_, _≤_, _<_}
-use mathlib.Core.Bool.{Bool, true, false, not}
-use mathlib.Core.Path.{_≡_, refl, ap}
-use native.Mathlib.Omega.{arith}
-use lib.Dec.{ltb}
-use borrow.Author.Tests.{ltb-true, lt-ltb, not-true}
+use Rattle.ground.proofs.Kit.{ℕ, zero, suc, _+_, _≤_, _<_, Bool, true, false, not, _≡_, refl, ap, arith, ltb, lt-ltb, ltb-true, not-true}
 use Rattle.ground.specs.Choice.{bit, both}
 use Rattle.ground.specs.Folds.{sumTo, anyTo}
 use Rattle.ground.proofs.Cases.{by-bool, by-le, both-true, true-false}

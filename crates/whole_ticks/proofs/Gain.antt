@@ -1,11 +1,7 @@
 -- A row that lacks a column gets one more where a row that is reached from it wants a column that has room.
 -- Assumes nothing.
-use Prim.Native.Nat.{ℕ, zero, suc, _+_, _≤_, _<_}
-use mathlib.Core.Bool.{true, false, not}
-use mathlib.Core.Path.{_≡_, refl, ap, sym, _∙_}
-use native.Mathlib.Omega.{arith}
-use lib.Dec.{eqb, ltb}
-use borrow.Author.Tests.{ltb-true, lt-ltb, not-true, eqb-true, eq-eqb}
+use Rattle.ground.proofs.Kit.{ℕ, zero, suc, _+_, _≤_, _<_, true, false, not, _≡_, refl, sym, _∙_, ap, arith, eqb, ltb, eq-eqb, eqb-true, lt-ltb, ltb-true}
+use Rattle.ground.proofs.Kit.{not-true}
 use Rattle.ground.specs.Choice.{bit}
 use Rattle.ground.specs.Folds.{sumTo}
 use Rattle.ground.proofs.Cases.{by-bool, both-true, true-false}

@@ -1,10 +1,6 @@
 -- The rows that are reached: more with each step, by a step from a row to one that has a column that it wants, and no row else.
 -- Assumes nothing.
-use Prim.Native.Nat.{ℕ, zero, suc, _<_}
-use mathlib.Core.Bool.{Bool, true, false, not}
-use mathlib.Core.Path.{_≡_, refl, ap, _∙_}
-use lib.Dec.{ltb}
-use borrow.Author.Tests.{eq-eqb}
+use Rattle.ground.proofs.Kit.{ℕ, zero, suc, _<_, Bool, true, false, not, _≡_, refl, _∙_, ap, ltb, eq-eqb}
 use Rattle.ground.specs.Choice.{both}
 use Rattle.ground.proofs.Cases.{by-bool, both-true}
 use Rattle.ground.proofs.Folds.{any-has}

@@ -1,12 +1,7 @@
 -- Loads that m processors can share give the jobs of a round enough.
 -- Assumes nothing.
-use Prim.Native.Nat.{ℕ, zero, suc, _+_, _*_, _/_, _%_, _≤_, _<_}
-use mathlib.Core.Bool.{Bool}
-use mathlib.Core.Path.{_≡_, ap, sym}
-use native.Mathlib.Nat.{mul-le-mul-right, div-lt-iff-lt-mul, div-mul-le-self}
-use native.Mathlib.Omega.{arith}
-use lib.Dec.{eqb, ltb}
-use borrow.Author.Tests.{eq-eqb, ltb-true}
+use Rattle.ground.proofs.Kit.{ℕ, zero, suc, _+_, _*_, _/_, _%_, _≤_, _<_, Bool, _≡_, sym, ap, mul-le-mul-right, arith, eqb, ltb, eq-eqb, ltb-true}
+use native.Mathlib.Nat.{div-lt-iff-lt-mul, div-mul-le-self}
 use Rattle.ground.specs.Choice.{pick}
 use Rattle.ground.specs.Folds.{sumTo, prodTo}
 use Rattle.ground.proofs.Cases.{by-bool, by-le}

@@ -1,12 +1,8 @@
 -- Round after round: cells that fit the jobs of a round, and give each what it asks for, give every job its load of its period.
 -- Assumes nothing.
-use Prim.Native.Nat.{ℕ, suc, _+_, _*_, _-_, _/_, _%_, _≤_, _<_}
-use mathlib.Core.Bool.{true}
-use mathlib.Core.Path.{_≡_, refl, ap, _∙_}
-use native.Mathlib.Nat.{mul-le-mul-left, mul-le-mul-right, div-add-mod', mod-lt, div-le-self, le-trans}
-use native.Mathlib.Omega.{arith}
-use lib.Dec.{eqb, leb, ltb}
-use borrow.Author.Tests.{eq-eqb, eqb-true, lt-ltb, ltb-true, le-leb, leb-true}
+use Rattle.ground.proofs.Kit.{ℕ, suc, _+_, _-_, _*_, _/_, _%_, _≤_, _<_, true, _≡_, refl, _∙_, ap, le-trans, mul-le-mul-left, mul-le-mul-right, arith, eqb}
+use Rattle.ground.proofs.Kit.{leb, ltb, eq-eqb, eqb-true, le-leb, leb-true, lt-ltb, ltb-true}
+use native.Mathlib.Nat.{div-add-mod', mod-lt, div-le-self}
 use Rattle.ground.specs.Choice.{pick, bit}
 use Rattle.ground.specs.Folds.{sumTo}
 use Rattle.ground.specs.Total.{total}

@@ -1,9 +1,7 @@
 -- Stretches of numbers: sums over one, and over several of the same length one after the other.
 -- Assumes nothing.
-use Prim.Native.Nat.{ℕ, zero, suc, _+_, _*_, _-_, _/_, _%_, _≤_, _<_}
-use mathlib.Core.Path.{_≡_, ap, _∙_}
+use Rattle.ground.proofs.Kit.{ℕ, zero, suc, _+_, _-_, _*_, _/_, _%_, _≤_, _<_, _≡_, _∙_, ap, arith}
 use native.Mathlib.Nat.{add-suc, div-add-mod', mod-lt, mul-add-div-right, mul-add-mod-self-right, div-eq-of-lt, mod-eq-of-lt}
-use native.Mathlib.Omega.{arith}
 use Rattle.ground.specs.Folds.{sumTo}
 use Rattle.ground.proofs.Cases.{by-le}
 use Rattle.ground.proofs.Folds.{sum-most}

@@ -1,12 +1,6 @@
 -- Sums of numbers that are all the same, c times as large, by rows and by columns, and of one number only.
 -- Assumes nothing.
-use Prim.Native.Nat.{ℕ, zero, suc, _*_, _≤_}
-use mathlib.Core.Bool.{Bool, true, false}
-use mathlib.Core.Path.{_≡_, refl, sym, _∙_}
-use native.Mathlib.Nat.{mul-le-mul-left}
-use native.Mathlib.Omega.{arith}
-use lib.Dec.{eqb}
-use borrow.Author.Tests.{eqb-true}
+use Rattle.ground.proofs.Kit.{ℕ, zero, suc, _*_, _≤_, Bool, true, false, _≡_, refl, sym, _∙_, mul-le-mul-left, arith, eqb, eqb-true}
 use Rattle.ground.specs.Choice.{pick, bit}
 use Rattle.ground.specs.Folds.{sumTo, countTo}
 use Rattle.ground.proofs.Folds.{sum-cong, sum-line}

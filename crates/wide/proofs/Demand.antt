@@ -1,11 +1,7 @@
 -- An accepted call in the words of demands 1 and 2: the least passing step, each task's shortest period and fewest cores, and nothing past
 -- them; and a call refused by 7: no step from 0 to K passes.
 -- Assumes nothing.
-use Prim.Native.Nat.{ℕ, _≤_, _<_, min}
-use mathlib.Core.Bool.{false}
-use mathlib.Core.List.{List}
-use mathlib.Core.Path.{_≡_}
-use lib.ListN.{length, getD}
+use Rattle.ground.proofs.Kit.{ℕ, _≤_, _<_, min, false, List, _≡_, length, getD}
 use Rattle.ground.specs.Least.{LeastAt}
 use Rattle.ground.proofs.Buffer.{list-at, list-past}
 use Rattle.kinds.specs.declared.Answer.the-variants.{Accepted}

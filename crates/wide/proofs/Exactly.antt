@@ -1,10 +1,6 @@
 -- "Given exactly when", of the finder of jobs that need several cores: `wide-exactly`; the numbers that it gives are `wide-numbers`.
 -- Assumes nothing.
-use Prim.Native.Nat.{ℕ, _≤_}
-use mathlib.Core.Bool.{true, false}
-use mathlib.Core.List.{List, [], _∷_, _++_}
-use mathlib.Core.Path.{_≡_, refl, ap, _∙_}
-use lib.Dec.{ltb}
+use Rattle.ground.proofs.Kit.{ℕ, _≤_, true, false, List, [], _∷_, _++_, _≡_, refl, _∙_, ap, ltb}
 use Rattle.kinds.specs.declared.Verdict.{Verdict}
 use Rattle.kinds.specs.declared.Refusal.the-variants.{Misset, TooManyTasks, OutputTooShort, BadRecord}
 use Rattle.kinds.specs.Limits.{mostTasks}

@@ -1,13 +1,7 @@
 -- What an accepted answer has passed, so that its plan may be written.
 -- Assumes nothing.
-use Prim.Native.Nat.{ℕ, _≤_, min}
-use mathlib.Core.Bool.{Bool, true, false}
-use mathlib.Core.List.{List}
-use mathlib.Core.Path.{_≡_, refl}
-use native.Mathlib.Omega.{arith}
-use lib.Dec.{ltb, lit≤}
-use lib.ListN.{length}
-use borrow.Author.Tests.{ltb-false}
+use Rattle.ground.proofs.Kit.{ℕ, _≤_, min, List, _≡_, refl, arith, ltb, length, ltb-false}
+use lib.Dec.{lit≤}
 use Rattle.ground.specs.declared.Step.{Step}
 use Rattle.ground.specs.declared.Step.the-variants.{At, Nothing}
 use Rattle.ground.proofs.Cases.{true-false}

@@ -1,11 +1,7 @@
 -- The outcome depends on the first n records only, and where there are too many on none. That no second answer meets it is `plan`'s law
 -- `no-second-answer`, which is said of any outcome.
 -- Assumes nothing.
-use Prim.Native.Nat.{ℕ, _≤_, _<_, min}
-use mathlib.Core.List.{List}
-use mathlib.Core.Path.{_≡_, refl, ap₂}
-use native.Mathlib.Omega.{arith}
-use lib.ListN.{length}
+use Rattle.ground.proofs.Kit.{ℕ, _≤_, _<_, min, List, _≡_, refl, ap₂, arith, length}
 use Rattle.ground.specs.declared.Step.{Step}
 use Rattle.ground.proofs.Cases.{by-le}
 use Rattle.kinds.specs.declared.Answer.{Answer}

@@ -1,11 +1,6 @@
 -- Passing stays, since the cores of each task never rise with the step; and demand 2's words on the least passing step.
 -- Assumes nothing.
-use Prim.Native.Nat.{ℕ, zero, suc, _+_, _*_, _≤_, _<_}
-use mathlib.Core.Bool.{true, false}
-use mathlib.Core.List.{List}
-use mathlib.Core.Path.{_≡_, sym}
-use native.Mathlib.Omega.{arith}
-use borrow.Author.Tests.{leb-true, le-leb, lt-leb}
+use Rattle.ground.proofs.Kit.{ℕ, zero, suc, _+_, _*_, _≤_, _<_, true, false, List, _≡_, sym, arith, le-leb, lt-leb, leb-true}
 use Rattle.ground.specs.declared.Step.the-variants.{At, Nothing}
 use Rattle.ground.specs.Folds.{sumTo}
 use Rattle.ground.specs.Least.{LeastAt, Rising}

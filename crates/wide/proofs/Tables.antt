@@ -1,11 +1,6 @@
 -- What is said of full compression, of the first bad record and of the sum of the cores, and the walks over a table that work them out.
 -- Assumes nothing.
-use Prim.Native.Nat.{ℕ, _+_, _≤_, _<_}
-use mathlib.Core.Bool.{Bool, true, false, not}
-use mathlib.Core.List.{List}
-use mathlib.Core.Path.{_≡_, sym, ap, _∙_}
-use native.Mathlib.Omega.{arith}
-use lib.Dec.{leb}
+use Rattle.ground.proofs.Kit.{ℕ, _+_, _≤_, _<_, false, not, List, _≡_, sym, _∙_, ap, arith, leb}
 use Rattle.ground.specs.First.{IsFirst}
 use Rattle.ground.specs.Folds.{maxTo}
 use Rattle.ground.specs.Least.{leastUpTo}

@@ -1,10 +1,6 @@
 -- Ask 4's worked numbers over the definitions, the limits that are reached, and calls as one table under one claim.
 -- Assumes nothing.
-use Prim.Native.Nat.{ℕ}
-use mathlib.Core.Bool.{true}
-use mathlib.Core.List.{List, [], _∷_}
-use mathlib.Core.Path.{_≡_, refl}
-use lib.ListN.{length}
+use Rattle.ground.proofs.Kit.{ℕ, true, List, [], _∷_, _≡_, refl, length}
 use Rattle.ground.specs.First.{firstFrom, firstBelow}
 use Rattle.ground.specs.Folds.{sumTo, maxTo, listTo}
 use Rattle.ground.specs.Least.{leastUpTo}

@@ -1,10 +1,6 @@
 -- What an answer leaves in the two lent outputs.
 -- Assumes nothing.
-use Prim.Native.Nat.{ℕ}
-use mathlib.Core.Bool.{true, false}
-use mathlib.Core.List.{List, _++_}
-use mathlib.Core.Path.{_≡_, refl, sym}
-use lib.ListN.{drop}
+use Rattle.ground.proofs.Kit.{ℕ, true, false, List, _++_, _≡_, refl, sym, drop}
 use Rattle.ground.proofs.Cases.{true-false}
 use Rattle.kinds.specs.declared.Answer.{Answer}
 use Rattle.kinds.specs.declared.Answer.the-variants.{Accepted, Refused}

@@ -1,9 +1,6 @@
 -- What the finder says of the table of the lent rows, it says of the rows.
 -- Assumes nothing.
-use Prim.Native.Nat.{ℕ}
-use mathlib.Core.List.{List}
-use mathlib.Core.Path.{_≡_}
-use lib.ListN.{length}
+use Rattle.ground.proofs.Kit.{ℕ, List, _≡_, length}
 use Rattle.kinds.specs.Limits.{mostTasks}
 use Rattle.wide_task.specs.declared.WideTask.{WideTask}
 use Rattle.wide_task.specs.WideTask.{noWideTask, tableOf}

@@ -1,7 +1,6 @@
 -- A table of tasks that need several cores, as the law of `gather` takes it.
 -- Assumes nothing.
-use mathlib.Core.Path.{refl}
-use mathlib.Core.List.{[], _∷_}
+use Rattle.ground.proofs.Kit.{[], _∷_, refl}
 use mir.Syntax.{w32, w64}
 use Rattle.walk.proofs.Tabled.{Tabled, tabled, numbers-are}
 use Rattle.kinds.specs.Limits.{mostTasks}

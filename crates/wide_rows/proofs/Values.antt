@@ -1,6 +1,6 @@
 -- The types that a walk passes by value or returns.
 -- Assumes nothing.
-use mathlib.Core.Path.{refl}
+use Rattle.ground.proofs.Kit.{refl}
 use Rattle.walk.proofs.Thin.{Valued, of-struct, of-enum}
 use Rattle.kinds.proofs.Answer as A
 use Rattle.kinds.proofs.Answer.Laws as A′

@@ -1,8 +1,6 @@
 -- The test of a record says what Ask 4's sentence says.
 -- Assumes nothing.
-use mathlib.Core.Bool.{true}
-use mathlib.Core.Path.{_≡_}
-use borrow.Author.Tests.{leb-true, ltb-true, le-leb, lt-ltb}
+use Rattle.ground.proofs.Kit.{true, _≡_, le-leb, leb-true, lt-ltb, ltb-true}
 use Rattle.ground.proofs.Cases.{both-true}
 use Rattle.wide_task.specs.declared.WideTask.{WideTask}
 use Rattle.wide_task.specs.WideTask.{Good, isGood}

@@ -1,9 +1,6 @@
 -- What document 01 and Ask 4 say of the shares, the saturation step, the periods and the cores of a good task.
 -- Assumes nothing.
-use Prim.Native.Nat.{ℕ, _-_, _*_, _≤_, _<_}
-use mathlib.Core.Path.{_≡_, ap, _∙_}
-use native.Mathlib.Nat.{mul-le-mul-left}
-use native.Mathlib.Omega.{arith}
+use Rattle.ground.proofs.Kit.{ℕ, _-_, _*_, _≤_, _<_, _≡_, _∙_, ap, mul-le-mul-left, arith}
 use Rattle.ground.specs.Rounding.{ceilDiv}
 use Rattle.ground.proofs.Rounding.{ceil-enough, ceil-least, ceil-over, ceil-falls}
 use Rattle.kinds.specs.Limits.{scale, longestPeriod}

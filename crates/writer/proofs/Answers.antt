@@ -1,13 +1,6 @@
 -- What the writer answers in each case, with the buffer after it, and that no second answer meets its promise.
 -- Assumes nothing.
-use Prim.Native.Nat.{ℕ, _≤_, _<_}
-use mathlib.Core.Bool.{true, false}
-use mathlib.Core.List.{List, _++_}
-use mathlib.Core.Path.{_≡_, sym, ap, _∙_}
-use native.Mathlib.Omega.{arith}
-use lib.Dec.{leb}
-use lib.ListN.{length, drop}
-use borrow.Author.Tests.{le-leb, lt-leb, leb-true}
+use Rattle.ground.proofs.Kit.{ℕ, _≤_, _<_, true, false, List, _++_, _≡_, sym, _∙_, ap, arith, leb, length, drop, le-leb, lt-leb, leb-true}
 use Rattle.kinds.specs.declared.Sheet.{Sheet}
 use Rattle.kinds.specs.declared.Refusal.the-variants.{TooManyTasks, OutputTooShort, WrongSettingsCount, WrongResultCount}
 use Rattle.kinds.specs.Limits.{mostTasks}

@@ -1,11 +1,7 @@
 -- What was read is written back byte for byte: `back`. Each field, row and section stands in the bytes that it was read from.
 -- Assumes nothing.
-use Prim.Native.Nat.{ℕ, zero, suc, _+_, _*_, _≤_}
-use mathlib.Core.List.{List}
-use mathlib.Core.Path.{_≡_, refl}
-use native.Mathlib.Nat.{mul-zero, mul-suc, mul-le-mul-left}
-use native.Mathlib.Omega.{arith}
-use lib.ListN.{length}
+use Rattle.ground.proofs.Kit.{ℕ, zero, suc, _+_, _*_, _≤_, List, _≡_, refl, mul-le-mul-left, arith, length}
+use native.Mathlib.Nat.{mul-zero, mul-suc}
 use Rattle.kinds.specs.Task.{noTask}
 use Rattle.kinds.specs.Settings.{fillIns, settingsOf}
 use Rattle.kinds.proofs.Numbers.{numbers-back}

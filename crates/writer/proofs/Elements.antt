@@ -1,9 +1,7 @@
 -- The numbers of each row of an array fit their fields: the rule of the kind, which every value by its type has, said of the rows one by one.
 -- Assumes nothing.
-use Prim.Native.Nat.{ℕ, zero, suc, _<_}
-use mathlib.Core.List.{List, [], _∷_, map}
-use native.Mathlib.Omega.{arith}
-use lib.ListN.{getD}
+use Rattle.ground.proofs.Kit.{ℕ, zero, suc, _<_, List, [], _∷_, arith, getD}
+use mathlib.Core.List.{map}
 use mir.Val.{Val}
 use base.Fml.{Fml}
 use denote.Array.{each}

@@ -1,10 +1,6 @@
 -- "Given exactly when", of the writer: `writer-exactly`; the numbers that it gives are `writer-numbers`.
 -- Assumes nothing.
-use Prim.Native.Nat.{ℕ}
-use mathlib.Core.Bool.{not}
-use mathlib.Core.List.{[], _∷_}
-use mathlib.Core.Path.{_≡_, refl}
-use lib.Dec.{leb, ltb}
+use Rattle.ground.proofs.Kit.{ℕ, [], _∷_, _≡_, refl}
 use Rattle.kinds.specs.declared.Sheet.{Sheet}
 use Rattle.kinds.specs.Limits.{mostTasks}
 use Rattle.kinds.specs.Chain.{firstBy, handedBy, Exactly, numbersGiven}

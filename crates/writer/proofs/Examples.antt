@@ -1,7 +1,6 @@
 -- Document 01's whole case, worked out over the definition: the bytes of its answer; and settings written up to their count.
 -- Assumes nothing.
-use mathlib.Core.List.{[], _∷_}
-use mathlib.Core.Path.{_≡_, refl}
+use Rattle.ground.proofs.Kit.{[], _∷_, _≡_, refl}
 use Rattle.kinds.specs.declared.Policy.the-variants.{Pooled}
 use Rattle.kinds.specs.declared.Settings.{Settings}
 use Rattle.kinds.specs.Task.{task}

@@ -1,12 +1,7 @@
 -- What was written is read as the canonical form of the sheet: `forth`. Each section, row and field stands in the bytes written.
 -- Assumes nothing.
-use Prim.Native.Nat.{ℕ, zero, suc, _+_, _*_, _≤_, _<_}
-use mathlib.Core.Bool.{true}
-use mathlib.Core.List.{List, _++_}
-use mathlib.Core.Path.{_≡_, sym, ap, _∙_}
+use Rattle.ground.proofs.Kit.{ℕ, zero, suc, _+_, _*_, _≤_, _<_, true, List, _++_, _≡_, sym, _∙_, ap, arith, length, getD, length-append}
 use native.Mathlib.Nat.{mul-suc}
-use native.Mathlib.Omega.{arith}
-use lib.ListN.{length, getD, length-append}
 use Rattle.ground.proofs.Cases.{by-le}
 use Rattle.kinds.specs.declared.Task.{Task}
 use Rattle.kinds.specs.declared.Granted.{Granted}

@@ -1,13 +1,7 @@
 -- Both round trips between bytes and sheets, as the promises of `read` and `write` give them, and when a sheet is its own canonical form.
 -- Assumes nothing.
-use Prim.Native.Nat.{ℕ, _+_, _*_, _≤_}
-use mathlib.Core.Bool.{true}
-use mathlib.Core.List.{List, _++_}
-use mathlib.Core.Path.{_≡_, refl, sym, ap, _∙_}
-use lib.Dec.{leb}
-use lib.ListN.{length, take, drop}
+use Rattle.ground.proofs.Kit.{ℕ, _+_, _*_, _≤_, true, List, _++_, _≡_, refl, sym, _∙_, ap, leb, length, take, drop, le-leb}
 use lib.Seq.{take-at}
-use borrow.Author.Tests.{le-leb}
 use Rattle.kinds.specs.declared.Task.{Task}
 use Rattle.kinds.specs.declared.Granted.{Granted}
 use Rattle.kinds.specs.declared.Sheet.{Sheet}

@@ -1,21 +1,10 @@
 -- `admission::admit` meets its contract. Assumes nothing.
-use mathlib.Core.Path.{refl, sym, _∙_}
-use borrow.Author.Tests.{lt-ltb, le-ltb}
+use Rattle.ground.proofs.Kit.{refl, sym, _∙_, needs, lt-ltb, le-ltb}
 use Rattle.springs.proofs.Columns.{sprung-front}
 use Rattle.admission.specs.Admission.{admission}
 use Rattle.admission.proofs.Chain.{not-admitted, all-passed, notch-passed}
-use borrow.Author.Needs.{needs}
 use Rattle.admission.proofs.admit.Statement.{statement}
 use Rattle.admission.proofs.admit.Tie as tie
-
-gate-of-requires : tie.Need-gate-of-requires
-gate-of-requires c κs = search needs
-
-enum-told : tie.Need-enum-told
-enum-told c = search needs
-
-enum-told-2 : tie.Need-enum-told-2
-enum-told-2 c = search needs
 
 returns : tie.Need-returns
 unfolding admission
@@ -63,13 +52,4 @@ returns-3 c =
     }
 
 pub admit-spec : {M : Type 1} → statement M
-admit-spec =
-    tie.close
-    (tie.spec
-    gate-of-requires
-    enum-told
-    enum-told-2
-    returns
-    springs-of-requires
-    returns-2
-    returns-3)
+admit-spec = tie.close (tie.spec (λ c κs. search needs) (λ c. search needs) (λ c. search needs) returns springs-of-requires returns-2 returns-3)

@@ -1,5 +1,5 @@
 -- `admission::gate` meets its contract. Assumes nothing.
-use borrow.Author.Tests.{lt-ltb, le-ltb}
+use Rattle.ground.proofs.Kit.{lt-ltb, le-ltb}
 use Rattle.admission.specs.Admission.{gate}
 use Rattle.admission.proofs.gate.Statement.{statement}
 use Rattle.admission.proofs.gate.Tie as tie

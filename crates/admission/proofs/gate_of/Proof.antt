@@ -1,34 +1,7 @@
 -- `admission::gate_of` meets its contract. Assumes nothing.
-use borrow.Author.Needs.{needs}
+use Rattle.ground.proofs.Kit.{needs}
 use Rattle.admission.proofs.gate_of.Statement.{statement}
 use Rattle.admission.proofs.gate_of.Tie as tie
-
-meant-requires : tie.Need-meant-requires
-meant-requires c κs = search needs
-
-served-requires : tie.Need-served-requires
-served-requires c κs = search needs
-
-roomy-requires : tie.Need-roomy-requires
-roomy-requires c κs = search needs
-
-and-then-requires : tie.Need-and-then-requires
-and-then-requires c κs = search needs
-
-misset-under-requires : tie.Need-misset-under-requires
-misset-under-requires c κs = search needs
-
-gate-requires : tie.Need-gate-requires
-gate-requires c κs = search needs
-
-and-then-requires-2 : tie.Need-and-then-requires-2
-and-then-requires-2 c κs = search needs
-
-knows-requires : tie.Need-knows-requires
-knows-requires c κs = search needs
-
-and-then-requires-3 : tie.Need-and-then-requires-3
-and-then-requires-3 c κs = search needs
 
 returns : tie.Need-returns
 returns c =
@@ -50,14 +23,5 @@ returns c =
 pub gate-of-spec : {M : Type 1} → statement M
 gate-of-spec =
     tie.close
-    (tie.spec
-    meant-requires
-    served-requires
-    roomy-requires
-    and-then-requires
-    misset-under-requires
-    gate-requires
-    and-then-requires-2
-    knows-requires
-    and-then-requires-3
-    returns)
+    (tie.spec (λ c κs. search needs) (λ c κs. search needs) (λ c κs. search needs) (λ c κs. search needs) (λ c κs. search needs)
+    (λ c κs. search needs) (λ c κs. search needs) (λ c κs. search needs) (λ c κs. search needs) returns)

@@ -1,8 +1,5 @@
 -- `admission::misset_numbers` meets its contract. Assumes nothing.
-use mathlib.Core.Bool.{false}
-use mathlib.Core.Path.{_≡_}
-use borrow.Author.Tests.{eq-eqb, ne-eqb}
-use borrow.Author.Needs.{needs}
+use Rattle.ground.proofs.Kit.{false, _≡_, needs, eq-eqb, ne-eqb}
 use Rattle.admission.specs.Admission.{misset}
 use Rattle.admission.proofs.misset_numbers.Statement.{statement}
 use Rattle.admission.proofs.misset_numbers.Tie as tie
@@ -11,20 +8,14 @@ use Rattle.admission.proofs.misset_numbers.Tie as tie
 set : (c : tie.Else1) → misset (c .before .before .args .settings .m) ≡ false
 set c = rw (c .before .misset .ensures) at (c .if1 .left)
 
-misset-requires : tie.Need-misset-requires
-misset-requires c κs = search needs
-
 returns : tie.Need-returns
 returns c = simp (rw (c .before .misset .ensures) at (c .if1 .taken))
 
 returns-2 : tie.Need-returns-2
 returns-2 c = rw (set (c .before .before), eq-eqb _ _ (c .if2 .taken))
 
-no-edition-requires : tie.Need-no-edition-requires
-no-edition-requires c κs = search needs
-
 returns-3 : tie.Need-returns-3
 returns-3 c = let i = c .before in rw (set (i .before .before), ne-eqb _ _ (i .if2 .left)) (c .no-edition .ensures)
 
 pub misset-numbers-spec : {M : Type 1} → statement M
-misset-numbers-spec = tie.close (tie.spec misset-requires returns returns-2 no-edition-requires returns-3)
+misset-numbers-spec = tie.close (tie.spec (λ c κs. search needs) returns returns-2 (λ c κs. search needs) returns-3)

@@ -1,9 +1,6 @@
 -- `admission::no_edition` meets its contract. Assumes nothing.
-use mathlib.Core.Bool.{not}
-use mathlib.Core.Path.{refl, ap}
-use borrow.Author.Tests.{eq-eqb, ne-eqb}
+use Rattle.ground.proofs.Kit.{not, refl, ap, eq-eqb, ne-eqb}
 use Rattle.ground.proofs.Cases.{both-taken, both-left}
-use borrow.Author.Needs.{needs}
 use Rattle.admission.proofs.no_edition.Statement.{statement}
 use Rattle.admission.proofs.no_edition.Tie as tie
 

@@ -1,10 +1,7 @@
 -- `admission::served` meets its contract. Assumes nothing.
-use borrow.Author.Needs.{needs}
+use Rattle.ground.proofs.Kit.{needs}
 use Rattle.admission.proofs.served.Statement.{statement}
 use Rattle.admission.proofs.served.Tie as tie
-
-unserved-requires : tie.Need-unserved-requires
-unserved-requires c κs = search needs
 
 returns : tie.Need-returns
 returns c = simp (rw (c .before .unserved .ensures) at (c .if1 .taken))
@@ -13,4 +10,4 @@ returns-2 : tie.Need-returns-2
 returns-2 c = simp (rw (c .before .unserved .ensures) at (c .if1 .left))
 
 pub served-spec : {M : Type 1} → statement M
-served-spec = tie.close (tie.spec unserved-requires returns returns-2)
+served-spec = tie.close (tie.spec (λ c κs. search needs) returns returns-2)

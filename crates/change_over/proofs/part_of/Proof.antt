@@ -1,16 +1,9 @@
 -- `change_over::part_of` meets its contract: each `return` is one law of `Parts`. Assumes nothing.
-use mathlib.Core.Path.{sym, _∙_}
+use Rattle.ground.proofs.Kit.{sym, _∙_, needs}
 use Rattle.change_over.proofs.Sections.{section-fits}
 use Rattle.change_over.proofs.Parts.{takes-proposed, takes-standing, takes-nothing}
-use borrow.Author.Needs.{needs}
 use Rattle.change_over.proofs.part_of.Statement.{statement}
 use Rattle.change_over.proofs.part_of.Tie as tie
-
-section-of-requires : tie.Need-section-of-requires
-section-of-requires c κs = search needs
-
-enum-known-settings : tie.Need-enum-known-settings
-enum-known-settings c = search needs
 
 tasks-of-requires : tie.Need-tasks-of-requires
 tasks-of-requires c κs =
@@ -21,15 +14,6 @@ returns : tie.Need-returns
 returns c =
     let told = c .before .before in
     c .tasks-of .ensures ∙ takes-proposed _ _ _ _ (sym (told .before .before .section-of .ensures) ∙ told .settings .given .1)
-
-enum-told : tie.Need-enum-told
-enum-told c = search needs
-
-section-of-requires-2 : tie.Need-section-of-requires-2
-section-of-requires-2 c κs = search needs
-
-enum-known-settings-2 : tie.Need-enum-known-settings-2
-enum-known-settings-2 c = search needs
 
 tasks-of-requires-2 : tie.Need-tasks-of-requires-2
 tasks-of-requires-2 c κs =
@@ -44,9 +28,6 @@ returns-2 c =
     ∙ takes-standing _ _ (sym (other .before .before .section-of .ensures) ∙ other .enum-told .given .1) _ _
     (sym (told .before .before .section-of2 .ensures) ∙ told .settings2 .given .1)
 
-enum-told-2 : tie.Need-enum-told-2
-enum-told-2 c = search needs
-
 returns-3 : tie.Need-returns-3
 returns-3 c =
     let other = c .before .before .before in
@@ -56,15 +37,5 @@ returns-3 c =
 pub part-of-spec : {M : Type 1} → statement M
 part-of-spec =
     tie.close
-    (tie.spec
-    section-of-requires
-    enum-known-settings
-    tasks-of-requires
-    returns
-    enum-told
-    section-of-requires-2
-    enum-known-settings-2
-    tasks-of-requires-2
-    returns-2
-    enum-told-2
-    returns-3)
+    (tie.spec (λ c κs. search needs) (λ c. search needs) tasks-of-requires returns (λ c. search needs) (λ c κs. search needs) (λ c. search needs)
+    tasks-of-requires-2 returns-2 (λ c. search needs) returns-3)

@@ -1,10 +1,5 @@
 -- `checked_plan::plan_or_refuse` meets its contract. Assumes nothing.
-use Prim.Native.Nat.{min}
-use mathlib.Core.Path.{_≡_, sym}
-use native.Mathlib.Omega.{arith}
-use lib.ListN.{length, take}
-use lib.Seq.{length-take-le}
-use borrow.Author.Needs.{needs}
+use Rattle.ground.proofs.Kit.{min, _≡_, sym, arith, length, take, length-take-le, needs}
 use Rattle.kinds.specs.Limits.{mostTasks}
 use Rattle.kinds.specs.declared.Verdict.the-variants.{Accepted}
 use Rattle.proposal.specs.Proposal.{outcome, Meets}
@@ -31,31 +26,10 @@ accepted : (c : tie.After-enum-told) → let d = c .before .before .before .befo
     Accepted (d .check .last .1 .1 .1 .1 .0)
 accepted c = rw (c .enum-told .given .1) at (checked (c .before .before .before .before))
 
-propose-requires : tie.Need-propose-requires
-propose-requires c κs = search needs
-
-shorter-requires : tie.Need-shorter-requires
-shorter-requires c κs = search needs
-
-array-share-prefix-planned : tie.Need-array-share-prefix-planned
-array-share-prefix-planned c = search needs
-
 slice-aggregate-check : tie.Need-slice-aggregate-check
 slice-aggregate-check c =
     let f = c .before in
     sym (length-take-le (f .shorter .result) (f .before .propose .result) (omega (arith, f .shorter .ensures, room (f .before))))
-
-check-requires : tie.Need-check-requires
-check-requires c κs = search needs
-
-enum-told : tie.Need-enum-told
-enum-told c = search needs
-
-enum-told-2 : tie.Need-enum-told-2
-enum-told-2 c = search needs
-
-same-length : tie.Need-same-length
-same-length c = search needs
 
 returns : tie.Need-returns
 returns c =
@@ -69,12 +43,6 @@ write-front-requires c κs =
     let a = p .before .before .before .args in
     accepted-fits (a .settings) (a .table .rows) (a .table .n) (a .step) (a .proposal .now) (a .loads .now) (p .propose .result) (room p) _ (accepted t)
 
-same-length-2 : tie.Need-same-length-2
-same-length-2 c = search needs
-
-same-length-3 : tie.Need-same-length-3
-same-length-3 c = search needs
-
 returns-2 : tie.Need-returns-2
 returns-2 c =
     let w = c .before .before in
@@ -85,17 +53,5 @@ returns-2 c =
 pub plan-or-refuse-spec : {M : Type 1} → statement M
 plan-or-refuse-spec =
     tie.close
-    (tie.spec
-    propose-requires
-    shorter-requires
-    array-share-prefix-planned
-    slice-aggregate-check
-    check-requires
-    enum-told
-    enum-told-2
-    same-length
-    returns
-    write-front-requires
-    same-length-2
-    same-length-3
-    returns-2)
+    (tie.spec (λ c κs. search needs) (λ c κs. search needs) (λ c. search needs) slice-aggregate-check (λ c κs. search needs) (λ c. search needs)
+    (λ c. search needs) (λ c. search needs) returns write-front-requires (λ c. search needs) (λ c. search needs) returns-2)

@@ -1,9 +1,5 @@
 -- `clock::clock_from` meets its contract. Assumes nothing.
-use Prim.Native.Nat.{ℕ, _-_, _≤_}
-use mathlib.Core.List.{List}
-use mathlib.Core.Path.{_≡_, refl, sym, _∙_}
-use native.Mathlib.Omega.{arith}
-use lib.ListN.{length, getD, replicate, length-replicate, getD-replicate}
+use Rattle.ground.proofs.Kit.{ℕ, _-_, _≤_, List, _≡_, refl, sym, _∙_, arith, length, getD, replicate, length-replicate, getD-replicate}
 use Rattle.clock.specs.Start.{clockFrom}
 use Rattle.clock.proofs.Starts.{Column, column-none, column-more, column-all}
 use Rattle.clock.proofs.clock_from.Statement.{statement}
@@ -18,30 +14,6 @@ abbrev μ-loop : tie.MeasureT-loop
 
 loop-holds : tie.Need-loop-holds Inv-loop μ-loop
 loop-holds c = (omega arith, column-none _, column-none _)
-
-mul-held : tie.Need-mul-held Inv-loop μ-loop
-mul-held c = omega arith
-
-shared-slice-read-held : tie.Need-shared-slice-read-held Inv-loop μ-loop
-shared-slice-read-held c = omega arith
-
-mul-held-2 : tie.Need-mul-held-2 Inv-loop μ-loop
-mul-held-2 c = omega arith
-
-array-write-held : tie.Need-array-write-held Inv-loop μ-loop
-array-write-held c = omega arith
-
-mul-next : tie.Need-mul-next Inv-loop μ-loop
-mul-next c = omega arith
-
-array-write-next : tie.Need-array-write-next Inv-loop μ-loop
-array-write-next c = omega arith
-
-add-i : tie.Need-add-i Inv-loop μ-loop
-add-i c = omega arith
-
-loop-less : tie.Need-loop-less Inv-loop μ-loop
-loop-less c = omega arith
 
 loop-again : tie.Need-loop-again Inv-loop μ-loop
 loop-again c =
@@ -68,17 +40,5 @@ returns c =
 pub clock-from-spec : {M : Type 1} → statement M
 clock-from-spec =
     tie.close
-    (tie.spec
-    Inv-loop
-    μ-loop
-    loop-holds
-    mul-held
-    shared-slice-read-held
-    mul-held-2
-    array-write-held
-    mul-next
-    array-write-next
-    add-i
-    loop-less
-    loop-again
-    returns)
+    (tie.spec Inv-loop μ-loop loop-holds (λ c. omega arith) (λ c. omega arith) (λ c. omega arith) (λ c. omega arith) (λ c. omega arith)
+    (λ c. omega arith) (λ c. omega arith) (λ c. omega arith) loop-again returns)

@@ -1,9 +1,5 @@
 -- `clock::first_bad` meets its contract. Assumes nothing.
-use Prim.Native.Nat.{ℕ, _-_, _≤_, _<_}
-use mathlib.Core.Bool.{false, not}
-use mathlib.Core.Path.{_≡_}
-use native.Mathlib.Omega.{arith}
-use lib.ListN.{length}
+use Rattle.ground.proofs.Kit.{ℕ, _-_, _≤_, _<_, false, not, _≡_, arith, length}
 use Rattle.ground.proofs.First.{bad-here, bad-more, bad-none}
 use Rattle.clock.specs.Start.{every, isPeriod, firstBad}
 use Rattle.clock.proofs.first_bad.Statement.{statement}
@@ -18,27 +14,12 @@ abbrev μ-loop : tie.MeasureT-loop
 loop-holds : tie.Need-loop-holds Inv-loop μ-loop
 loop-holds c = (omega arith, λ j l. absurd (omega arith))
 
-mul-ticks : tie.Need-mul-ticks Inv-loop μ-loop
-mul-ticks c = omega arith
-
-shared-slice-read-ticks : tie.Need-shared-slice-read-ticks Inv-loop μ-loop
-shared-slice-read-ticks c = omega arith
-
-is-period-requires : tie.Need-is-period-requires Inv-loop μ-loop
-is-period-requires c κs = tt
-
 returns : tie.Need-returns Inv-loop μ-loop
 unfolding firstBad
 returns c =
     let b = c .before .before .before .before in
     let periods = b .before .before .args .periods .now in
     bad-here (λ j. isPeriod (every periods j)) (length periods) (b .loop .i) (b .loop .inv .1) (omega arith) _ (c .before .is-period .ensures) (c .if1 .taken)
-
-add-i : tie.Need-add-i Inv-loop μ-loop
-add-i c = omega arith
-
-loop-less : tie.Need-loop-less Inv-loop μ-loop
-loop-less c = omega arith
 
 loop-again : tie.Need-loop-again Inv-loop μ-loop
 loop-again c =
@@ -55,15 +36,5 @@ returns-2 c =
 pub first-bad-spec : {M : Type 1} → statement M
 first-bad-spec =
     tie.close
-    (tie.spec
-    Inv-loop
-    μ-loop
-    loop-holds
-    mul-ticks
-    shared-slice-read-ticks
-    is-period-requires
-    returns
-    add-i
-    loop-less
-    loop-again
+    (tie.spec Inv-loop μ-loop loop-holds (λ c. omega arith) (λ c. omega arith) (λ _ _. tt) returns (λ c. omega arith) (λ c. omega arith) loop-again
     returns-2)

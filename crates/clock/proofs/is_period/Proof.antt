@@ -1,6 +1,5 @@
 -- `clock::is_period` meets its contract. Assumes nothing.
-use mathlib.Core.Path.{refl}
-use borrow.Author.Tests.{le-leb, lt-leb}
+use Rattle.ground.proofs.Kit.{refl, le-leb, lt-leb}
 use Rattle.ground.proofs.Cases.{both-taken, both-left}
 use Rattle.clock.proofs.is_period.Statement.{statement}
 use Rattle.clock.proofs.is_period.Tie as tie

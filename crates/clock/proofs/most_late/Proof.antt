@@ -1,8 +1,5 @@
 -- `clock::most_late` meets its contract. Assumes nothing.
-use Prim.Native.Nat.{ℕ, _-_, _≤_}
-use mathlib.Core.Logic.{⊎-elim}
-use mathlib.Core.Path.{_≡_}
-use native.Mathlib.Omega.{arith}
+use Rattle.ground.proofs.Kit.{ℕ, _-_, _≤_, _≡_, ⊎-elim, arith}
 use Rattle.clock.specs.Call.{lateAt}
 use Rattle.clock.proofs.Greatest.{Walked, walked-none, walked-here, walked-past, walked-all}
 use Rattle.clock.proofs.most_late.Statement.{statement}
@@ -16,21 +13,6 @@ abbrev μ-loop : tie.MeasureT-loop
 
 loop-holds : tie.Need-loop-holds Inv-loop μ-loop
 loop-holds c = (omega arith, walked-none _)
-
-mul-lateness : tie.Need-mul-lateness Inv-loop μ-loop
-mul-lateness c = omega arith
-
-element-copy-out-lateness : tie.Need-element-copy-out-lateness Inv-loop μ-loop
-element-copy-out-lateness c = omega arith
-
-lateness-requires : tie.Need-lateness-requires Inv-loop μ-loop
-lateness-requires c κs = tt
-
-add-i : tie.Need-add-i Inv-loop μ-loop
-add-i c = omega arith
-
-loop-less : tie.Need-loop-less Inv-loop μ-loop
-loop-less c = omega arith
 
 loop-again : tie.Need-loop-again Inv-loop μ-loop
 loop-again c =
@@ -56,14 +38,4 @@ returns c =
 pub most-late-spec : {M : Type 1} → statement M
 most-late-spec =
     tie.close
-    (tie.spec
-    Inv-loop
-    μ-loop
-    loop-holds
-    mul-lateness
-    element-copy-out-lateness
-    lateness-requires
-    add-i
-    loop-less
-    loop-again
-    returns)
+    (tie.spec Inv-loop μ-loop loop-holds (λ c. omega arith) (λ c. omega arith) (λ _ _. tt) (λ c. omega arith) (λ c. omega arith) loop-again returns)

@@ -1,10 +1,8 @@
 -- `division::divide` meets its contract. Assumes nothing.
-use mathlib.Core.Path.{_≡_, refl, _∙_}
-use native.Mathlib.Omega.{arith}
+use Rattle.ground.proofs.Kit.{_≡_, refl, _∙_, arith, needs}
 use Rattle.springs.specs.Columns.{springIn}
 use Rattle.division.specs.Division.{slopeSum}
 use Rattle.division.proofs.Stretches.{slopes-are, something-falls, divided-worked-out}
-use borrow.Author.Needs.{needs}
 use Rattle.division.proofs.divide.Statement.{statement}
 use Rattle.division.proofs.divide.Tie as tie
 
@@ -39,18 +37,6 @@ needed-requires c κs =
       },
     )
 
-sub-if1 : tie.Need-sub-if1
-sub-if1 c = search needs
-
-cast-if1 : tie.Need-cast-if1
-cast-if1 c = search needs
-
-cast-result : tie.Need-cast-result
-cast-result c = search needs
-
-add-result : tie.Need-add-result
-add-result c = search needs
-
 returns : tie.Need-returns
 returns c =
     let b = c .before .before in
@@ -70,12 +56,4 @@ returns-2 c =
 pub divide-spec : {M : Type 1} → statement M
 divide-spec =
     tie.close
-    (tie.spec
-    slope-sum-requires
-    needed-requires
-    sub-if1
-    cast-if1
-    cast-result
-    add-result
-    returns
-    returns-2)
+    (tie.spec slope-sum-requires needed-requires (λ c. search needs) (λ c. search needs) (λ c. search needs) (λ c. search needs) returns returns-2)

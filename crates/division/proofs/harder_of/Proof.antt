@@ -1,8 +1,6 @@
 -- `division::harder_of` meets its contract. Assumes nothing.
-use native.Mathlib.Nat.{mul-le-mul}
-use native.Mathlib.Omega.{arith}
+use Rattle.ground.proofs.Kit.{mul-le-mul, arith, needs}
 use Rattle.division.proofs.Lines.{harder-kept, harder-divided}
-use borrow.Author.Needs.{needs}
 use Rattle.division.proofs.harder_of.Statement.{statement}
 use Rattle.division.proofs.harder_of.Tie as tie
 
@@ -14,9 +12,6 @@ returns c =
     let s = c .before .before .before in
     harder-kept _ _ _ (s .pre .1) (s .pre .0 .by-some) (c .if1 .taken)
 
-need-of-requires : tie.Need-need-of-requires
-need-of-requires c κs = search needs
-
 returns-2 : tie.Need-returns-2
 returns-2 c =
     let other = c .before in
@@ -24,4 +19,4 @@ returns-2 c =
     harder-divided _ _ _ (s .pre .1) _ (s .pre .0 .by-some) (other .if1 .left) (c .need-of .ensures)
 
 pub harder-of-spec : {M : Type 1} → statement M
-harder-of-spec = tie.close (tie.spec mul-if1 returns need-of-requires returns-2)
+harder-of-spec = tie.close (tie.spec mul-if1 returns (λ c κs. search needs) returns-2)

@@ -1,17 +1,7 @@
 -- `division::line_of` meets its contract. Assumes nothing.
-use native.Mathlib.Omega.{arith}
-use borrow.Author.Needs.{needs}
+use Rattle.ground.proofs.Kit.{arith, needs}
 use Rattle.division.proofs.line_of.Statement.{statement}
 use Rattle.division.proofs.line_of.Tie as tie
-
-left-of-requires : tie.Need-left-of-requires
-left-of-requires c κs = search needs
-
-less-or-zero-requires : tie.Need-less-or-zero-requires
-less-or-zero-requires c κs = search needs
-
-left-of-requires-2 : tie.Need-left-of-requires-2
-left-of-requires-2 c κs = search needs
 
 returns : tie.Need-returns
 returns c =
@@ -31,4 +21,4 @@ returns c =
     }
 
 pub line-of-spec : {M : Type 1} → statement M
-line-of-spec = tie.close (tie.spec left-of-requires less-or-zero-requires left-of-requires-2 returns)
+line-of-spec = tie.close (tie.spec (λ c κs. search needs) (λ c κs. search needs) (λ c κs. search needs) returns)

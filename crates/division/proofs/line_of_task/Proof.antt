@@ -1,30 +1,13 @@
 -- `division::line_of_task` meets its contract. Assumes nothing.
-use mathlib.Core.Path.{_≡_, _∙_}
-use native.Mathlib.Omega.{arith}
+use Rattle.ground.proofs.Kit.{_≡_, _∙_, arith, needs}
 use Rattle.rule.specs.Rule.{shareOf}
 use Rattle.division.proofs.Lines.{slope-most}
-use borrow.Author.Needs.{needs}
 use Rattle.division.proofs.line_of_task.Statement.{statement}
 use Rattle.division.proofs.line_of_task.Tie as tie
 
 -- the share at p
 shared : (c : tie.After-share-at) → let a = c .before .before .before .args in c .share-at .result ≡ shareOf (a .largest) (a .least) (a .elasticity) (a .p)
 shared c = rw (c .before .before .widened .ensures, c .before .widened2 .ensures) at (c .share-at .ensures)
-
-widened-requires : tie.Need-widened-requires
-widened-requires c κs = search needs
-
-widened-requires-2 : tie.Need-widened-requires-2
-widened-requires-2 c κs = search needs
-
-share-at-requires : tie.Need-share-at-requires
-share-at-requires c κs = search needs
-
-slope-of-requires : tie.Need-slope-of-requires
-slope-of-requires c κs = search needs
-
-widened-requires-3 : tie.Need-widened-requires-3
-widened-requires-3 c κs = search needs
 
 line-of-requires : tie.Need-line-of-requires
 line-of-requires c κs =
@@ -42,11 +25,5 @@ returns c =
 pub line-of-task-spec : {M : Type 1} → statement M
 line-of-task-spec =
     tie.close
-    (tie.spec
-    widened-requires
-    widened-requires-2
-    share-at-requires
-    slope-of-requires
-    widened-requires-3
-    line-of-requires
+    (tie.spec (λ c κs. search needs) (λ c κs. search needs) (λ c κs. search needs) (λ c κs. search needs) (λ c κs. search needs) line-of-requires
     returns)

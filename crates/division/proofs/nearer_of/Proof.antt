@@ -1,6 +1,5 @@
 -- `division::nearer_of` meets its contract. Assumes nothing.
-use mathlib.Core.Path.{sym}
-use native.Mathlib.Omega.{arith}
+use Rattle.ground.proofs.Kit.{sym, arith}
 use Rattle.division.proofs.Nexts.{nearer-low, nearer-first, nearer-min}
 use Rattle.division.proofs.nearer_of.Statement.{statement}
 use Rattle.division.proofs.nearer_of.Tie as tie

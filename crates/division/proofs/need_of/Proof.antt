@@ -1,12 +1,8 @@
 -- `division::need_of` meets its contract. Assumes nothing.
-use native.Mathlib.Omega.{arith}
+use Rattle.ground.proofs.Kit.{arith, needs}
 use Rattle.ground.proofs.Rounding.{ceil-high}
-use borrow.Author.Needs.{needs}
 use Rattle.division.proofs.need_of.Statement.{statement}
 use Rattle.division.proofs.need_of.Tie as tie
-
-ceil-div-requires : tie.Need-ceil-div-requires
-ceil-div-requires c κs = search needs
 
 returns : tie.Need-returns
 returns c =
@@ -14,4 +10,4 @@ returns c =
     record { is = c .ceil-div .ensures; most = omega (arith, c .ceil-div .ensures, ceil-high (l .over) (l .by), c .before .pre .over-most) }
 
 pub need-of-spec : {M : Type 1} → statement M
-need-of-spec = tie.close (tie.spec ceil-div-requires returns)
+need-of-spec = tie.close (tie.spec (λ c κs. search needs) returns)

@@ -1,8 +1,5 @@
 -- `division::need_over` meets its contract. Assumes nothing.
-use Prim.Native.Nat.{_-_, _≤_, max}
-use mathlib.Core.Path.{_≡_, sym, ap₂, _∙_}
-use native.Mathlib.Omega.{arith}
-use lib.ListN.{getD}
+use Rattle.ground.proofs.Kit.{_-_, _≤_, max, _≡_, sym, _∙_, ap₂, arith, getD}
 use Rattle.springs.specs.Spring.{shareOn, saturationOn}
 use Rattle.springs.specs.Columns.{springIn}
 use Rattle.division.specs.Division.{slopeOf, needTo}
@@ -30,30 +27,6 @@ loop-holds c =
     let n = c .need-of .ensures in
     (omega arith, record { is = n .is ∙ (need-line _ _ _ _ _ _ (c .before .line-of .ensures) ∙ sym (need-none _ _ _ _ _)); most = n .most })
 
-mul-line-of-task : tie.Need-mul-line-of-task Inv-loop μ-loop
-mul-line-of-task c = omega arith
-
-element-copy-out-line-of-task : tie.Need-element-copy-out-line-of-task Inv-loop μ-loop
-element-copy-out-line-of-task c = omega arith
-
-mul-line-of-task-2 : tie.Need-mul-line-of-task-2 Inv-loop μ-loop
-mul-line-of-task-2 c = omega arith
-
-element-copy-out-line-of-task-2 : tie.Need-element-copy-out-line-of-task-2 Inv-loop μ-loop
-element-copy-out-line-of-task-2 c = omega arith
-
-mul-line-of-task-3 : tie.Need-mul-line-of-task-3 Inv-loop μ-loop
-mul-line-of-task-3 c = omega arith
-
-element-copy-out-line-of-task-3 : tie.Need-element-copy-out-line-of-task-3 Inv-loop μ-loop
-element-copy-out-line-of-task-3 c = omega arith
-
-mul-line-of-task-4 : tie.Need-mul-line-of-task-4 Inv-loop μ-loop
-mul-line-of-task-4 c = omega arith
-
-element-copy-out-line-of-task-4 : tie.Need-element-copy-out-line-of-task-4 Inv-loop μ-loop
-element-copy-out-line-of-task-4 c = omega arith
-
 line-of-task-requires : tie.Need-line-of-task-requires Inv-loop μ-loop
 line-of-task-requires c κs =
     let t = c .before .before .before .before in
@@ -73,12 +46,6 @@ line-of-task-requires c κs =
 
 harder-of-requires : tie.Need-harder-of-requires Inv-loop μ-loop
 harder-of-requires c κs = (c .line-of-task .ensures .falling, c .before .before .before .before .before .before .loop .inv .1 .most)
-
-add-i : tie.Need-add-i Inv-loop μ-loop
-add-i c = omega arith
-
-loop-less : tie.Need-loop-less Inv-loop μ-loop
-loop-less c = omega arith
 
 loop-again : tie.Need-loop-again Inv-loop μ-loop
 unfolding shareOn
@@ -110,23 +77,6 @@ returns c = let e : c .before .loop .i ≡ c .before .before .before .before .ar
 pub need-over-spec : {M : Type 1} → statement M
 need-over-spec =
     tie.close
-    (tie.spec
-    Inv-loop
-    μ-loop
-    line-of-requires
-    need-of-requires
-    loop-holds
-    mul-line-of-task
-    element-copy-out-line-of-task
-    mul-line-of-task-2
-    element-copy-out-line-of-task-2
-    mul-line-of-task-3
-    element-copy-out-line-of-task-3
-    mul-line-of-task-4
-    element-copy-out-line-of-task-4
-    line-of-task-requires
-    harder-of-requires
-    add-i
-    loop-less
-    loop-again
-    returns)
+    (tie.spec Inv-loop μ-loop line-of-requires need-of-requires loop-holds (λ c. omega arith) (λ c. omega arith) (λ c. omega arith)
+    (λ c. omega arith) (λ c. omega arith) (λ c. omega arith) (λ c. omega arith) (λ c. omega arith) line-of-task-requires harder-of-requires
+    (λ c. omega arith) (λ c. omega arith) loop-again returns)

@@ -1,10 +1,8 @@
 -- `division::needed` meets its contract. Assumes nothing.
-use mathlib.Core.Path.{_∙_, sym}
-use native.Mathlib.Omega.{arith}
+use Rattle.ground.proofs.Kit.{sym, _∙_, arith, needs}
 use Rattle.springs.specs.Columns.{springIn}
 use Rattle.division.proofs.Lines.{need-line}
 use Rattle.division.proofs.Stretches.{need-flatly}
-use borrow.Author.Needs.{needs}
 use Rattle.division.proofs.needed.Statement.{statement}
 use Rattle.division.proofs.needed.Tie as tie
 
@@ -26,11 +24,5 @@ returns c =
     c .need-of .ensures .is
     ∙ (need-line _ _ _ _ _ _ (l .line-of .ensures) ∙ sym (need-flatly (a .w) springs (a .p) (a .sum) (a .fall) (a .n) (flat .if1 .taken)))
 
-need-over-requires : tie.Need-need-over-requires
-need-over-requires c κs = search needs
-
-returns-2 : tie.Need-returns-2
-returns-2 c = search needs
-
 pub needed-spec : {M : Type 1} → statement M
-needed-spec = tie.close (tie.spec line-of-requires need-of-requires returns need-over-requires returns-2)
+needed-spec = tie.close (tie.spec line-of-requires need-of-requires returns (λ c κs. search needs) (λ c. search needs))

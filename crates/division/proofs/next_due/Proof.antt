@@ -1,8 +1,5 @@
 -- `division::next_due` meets its contract. Assumes nothing.
-use Prim.Native.Nat.{ℕ, _-_, _≤_}
-use mathlib.Core.Path.{_≡_, sym, ap, _∙_}
-use native.Mathlib.Omega.{arith}
-use lib.ListN.{getD}
+use Rattle.ground.proofs.Kit.{ℕ, _-_, _≤_, _≡_, sym, _∙_, ap, arith, getD}
 use Rattle.division.specs.Next.{nearer, nextTo}
 use Rattle.division.proofs.Nexts.{next-start, next-more}
 use Rattle.division.proofs.next_due.Statement.{statement}
@@ -16,21 +13,6 @@ abbrev μ-loop : tie.MeasureT-loop
 
 loop-holds : tie.Need-loop-holds Inv-loop μ-loop
 loop-holds c = (omega arith, sym (next-start _ _))
-
-mul-nearer-of : tie.Need-mul-nearer-of Inv-loop μ-loop
-mul-nearer-of c = omega arith
-
-element-copy-out-nearer-of : tie.Need-element-copy-out-nearer-of Inv-loop μ-loop
-element-copy-out-nearer-of c = omega arith
-
-nearer-of-requires : tie.Need-nearer-of-requires Inv-loop μ-loop
-nearer-of-requires c κs = tt
-
-add-i : tie.Need-add-i Inv-loop μ-loop
-add-i c = omega arith
-
-loop-less : tie.Need-loop-less Inv-loop μ-loop
-loop-less c = omega arith
 
 loop-again : tie.Need-loop-again Inv-loop μ-loop
 loop-again c =
@@ -46,14 +28,4 @@ returns c = let e : c .before .loop .i ≡ c .before .before .args .n = omega ar
 pub next-due-spec : {M : Type 1} → statement M
 next-due-spec =
     tie.close
-    (tie.spec
-    Inv-loop
-    μ-loop
-    loop-holds
-    mul-nearer-of
-    element-copy-out-nearer-of
-    nearer-of-requires
-    add-i
-    loop-less
-    loop-again
-    returns)
+    (tie.spec Inv-loop μ-loop loop-holds (λ c. omega arith) (λ c. omega arith) (λ _ _. tt) (λ c. omega arith) (λ c. omega arith) loop-again returns)

@@ -1,5 +1,5 @@
 -- `division::slope_of` meets its contract. Assumes nothing.
-use mathlib.Core.Path.{sym}
+use Rattle.ground.proofs.Kit.{sym}
 use Rattle.division.proofs.Lines.{slope-before, slope-after}
 use Rattle.division.proofs.slope_of.Statement.{statement}
 use Rattle.division.proofs.slope_of.Tie as tie

@@ -1,8 +1,5 @@
 -- `division::slope_sum` meets its contract. Assumes nothing.
-use Prim.Native.Nat.{_-_, _≤_}
-use mathlib.Core.Path.{_≡_, _∙_}
-use native.Mathlib.Omega.{arith}
-use lib.ListN.{getD}
+use Rattle.ground.proofs.Kit.{_-_, _≤_, _≡_, _∙_, arith, getD}
 use Rattle.kinds.specs.Limits.{greatestElasticity}
 use Rattle.division.specs.Division.{slopesIn}
 use Rattle.division.specs.Handover.{FallIs}
@@ -34,32 +31,8 @@ sloped c =
 loop-holds : tie.Need-loop-holds Inv-loop μ-loop
 loop-holds c = (omega arith, fall-none _)
 
-mul-slope-of : tie.Need-mul-slope-of Inv-loop μ-loop
-mul-slope-of c = omega arith
-
-element-copy-out-slope-of : tie.Need-element-copy-out-slope-of Inv-loop μ-loop
-element-copy-out-slope-of c = omega arith
-
-mul-slope-of-2 : tie.Need-mul-slope-of-2 Inv-loop μ-loop
-mul-slope-of-2 c = omega arith
-
-element-copy-out-slope-of-2 : tie.Need-element-copy-out-slope-of-2 Inv-loop μ-loop
-element-copy-out-slope-of-2 c = omega arith
-
-slope-of-requires : tie.Need-slope-of-requires Inv-loop μ-loop
-slope-of-requires c κs = tt
-
-widened-requires : tie.Need-widened-requires Inv-loop μ-loop
-widened-requires c κs = tt
-
 add-fall : tie.Need-add-fall Inv-loop μ-loop
 add-fall c = omega (arith, sloped c .1)
-
-add-i : tie.Need-add-i Inv-loop μ-loop
-add-i c = omega arith
-
-loop-less : tie.Need-loop-less Inv-loop μ-loop
-loop-less c = omega arith
 
 loop-again : tie.Need-loop-again Inv-loop μ-loop
 loop-again c =
@@ -73,18 +46,5 @@ returns c = let e : c .before .loop .i ≡ c .before .before .args .n = omega ar
 pub slope-sum-spec : {M : Type 1} → statement M
 slope-sum-spec =
     tie.close
-    (tie.spec
-    Inv-loop
-    μ-loop
-    loop-holds
-    mul-slope-of
-    element-copy-out-slope-of
-    mul-slope-of-2
-    element-copy-out-slope-of-2
-    slope-of-requires
-    widened-requires
-    add-fall
-    add-i
-    loop-less
-    loop-again
-    returns)
+    (tie.spec Inv-loop μ-loop loop-holds (λ c. omega arith) (λ c. omega arith) (λ c. omega arith) (λ c. omega arith) (λ _ _. tt) (λ _ _. tt)
+    add-fall (λ c. omega arith) (λ c. omega arith) loop-again returns)

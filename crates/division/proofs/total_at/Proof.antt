@@ -1,7 +1,5 @@
 -- `division::total_at` meets its contract. Assumes nothing.
-use Prim.Native.Nat.{_-_, _≤_}
-use mathlib.Core.Path.{_≡_}
-use native.Mathlib.Omega.{arith}
+use Rattle.ground.proofs.Kit.{_-_, _≤_, _≡_, arith}
 use Rattle.kinds.specs.Limits.{scale}
 use Rattle.policy.specs.Handover.{TotalIs}
 use Rattle.policy.proofs.Totals.{total-none, total-more}
@@ -36,44 +34,8 @@ shared c =
 loop-holds : tie.Need-loop-holds Inv-loop μ-loop
 loop-holds c = (omega arith, total-none _)
 
-mul-widened : tie.Need-mul-widened Inv-loop μ-loop
-mul-widened c = omega arith
-
-element-copy-out-widened : tie.Need-element-copy-out-widened Inv-loop μ-loop
-element-copy-out-widened c = omega arith
-
-widened-requires : tie.Need-widened-requires Inv-loop μ-loop
-widened-requires c κs = tt
-
-mul-widened-2 : tie.Need-mul-widened-2 Inv-loop μ-loop
-mul-widened-2 c = omega arith
-
-element-copy-out-widened-2 : tie.Need-element-copy-out-widened-2 Inv-loop μ-loop
-element-copy-out-widened-2 c = omega arith
-
-widened-requires-2 : tie.Need-widened-requires-2 Inv-loop μ-loop
-widened-requires-2 c κs = tt
-
-mul-share-at : tie.Need-mul-share-at Inv-loop μ-loop
-mul-share-at c = omega arith
-
-element-copy-out-share-at : tie.Need-element-copy-out-share-at Inv-loop μ-loop
-element-copy-out-share-at c = omega arith
-
-share-at-requires : tie.Need-share-at-requires Inv-loop μ-loop
-share-at-requires c κs = tt
-
 add-sum : tie.Need-add-sum Inv-loop μ-loop
 add-sum c = omega (arith, shared c .1)
-
-larger-requires : tie.Need-larger-requires Inv-loop μ-loop
-larger-requires c κs = tt
-
-add-i : tie.Need-add-i Inv-loop μ-loop
-add-i c = omega arith
-
-loop-less : tie.Need-loop-less Inv-loop μ-loop
-loop-less c = omega arith
 
 loop-again : tie.Need-loop-again Inv-loop μ-loop
 loop-again c =
@@ -89,22 +51,5 @@ returns c = let e : c .before .loop .i ≡ c .before .before .args .n = omega ar
 pub total-at-spec : {M : Type 1} → statement M
 total-at-spec =
     tie.close
-    (tie.spec
-    Inv-loop
-    μ-loop
-    loop-holds
-    mul-widened
-    element-copy-out-widened
-    widened-requires
-    mul-widened-2
-    element-copy-out-widened-2
-    widened-requires-2
-    mul-share-at
-    element-copy-out-share-at
-    share-at-requires
-    add-sum
-    larger-requires
-    add-i
-    loop-less
-    loop-again
-    returns)
+    (tie.spec Inv-loop μ-loop loop-holds (λ c. omega arith) (λ c. omega arith) (λ _ _. tt) (λ c. omega arith) (λ c. omega arith) (λ _ _. tt)
+    (λ c. omega arith) (λ c. omega arith) (λ _ _. tt) add-sum (λ _ _. tt) (λ c. omega arith) (λ c. omega arith) loop-again returns)

@@ -1,34 +1,12 @@
 -- `field::put_u16` meets its contract. Assumes nothing.
-use mathlib.Core.Path.{refl}
-use native.Mathlib.Omega.{arith}
-use native.Mathlib.Numerals.{add-one}
-use lib.ListN.{length-set}
-use borrow.Author.Needs.{needs}
+use Rattle.ground.proofs.Kit.{refl, add-one, arith, length-set, needs}
 use Rattle.field.specs.Number.{bytesOf}
 use Rattle.field.specs.Handover.{stored}
 use Rattle.field.proofs.put_u16.Statement.{statement}
 use Rattle.field.proofs.put_u16.Tie as tie
 
-cast-out : tie.Need-cast-out
-cast-out c = search needs
-
-slice-write-out : tie.Need-slice-write-out
-slice-write-out c = search needs
-
-cast-out-2 : tie.Need-cast-out-2
-cast-out-2 c = search needs
-
-add-out : tie.Need-add-out
-add-out c = search needs
-
 slice-write-out-2 : tie.Need-slice-write-out-2
 slice-write-out-2 c = simp length-set (omega arith)
-
-add-result : tie.Need-add-result
-add-result c = search needs
-
-same-length : tie.Need-same-length
-same-length c = search needs
 
 returns : tie.Need-returns
 unfolding stored bytesOf
@@ -37,12 +15,5 @@ returns c = record { next-is = refl; run-long = refl; new-is = simp (add-one) }
 pub put-u16-spec : {M : Type 1} → statement M
 put-u16-spec =
     tie.close
-    (tie.spec
-    cast-out
-    slice-write-out
-    cast-out-2
-    add-out
-    slice-write-out-2
-    add-result
-    same-length
-    returns)
+    (tie.spec (λ c. search needs) (λ c. search needs) (λ c. search needs) (λ c. search needs) slice-write-out-2 (λ c. search needs)
+    (λ c. search needs) returns)

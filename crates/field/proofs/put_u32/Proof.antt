@@ -1,53 +1,19 @@
 -- `field::put_u32` meets its contract. Assumes nothing.
-use mathlib.Core.Path.{refl}
-use native.Mathlib.Omega.{arith}
-use native.Mathlib.Numerals.{add-one}
-use lib.ListN.{length-set}
-use borrow.Author.Needs.{needs}
+use Rattle.ground.proofs.Kit.{refl, add-one, arith, length-set, needs}
 use Rattle.field.specs.Number.{bytesOf}
 use Rattle.field.specs.Handover.{stored}
 use Rattle.field.proofs.Stores.{two-on, three-on}
 use Rattle.field.proofs.put_u32.Statement.{statement}
 use Rattle.field.proofs.put_u32.Tie as tie
 
-cast-out : tie.Need-cast-out
-cast-out c = search needs
-
-slice-write-out : tie.Need-slice-write-out
-slice-write-out c = search needs
-
-cast-out-2 : tie.Need-cast-out-2
-cast-out-2 c = search needs
-
-add-out : tie.Need-add-out
-add-out c = search needs
-
 slice-write-out-2 : tie.Need-slice-write-out-2
 slice-write-out-2 c = simp length-set (omega arith)
-
-cast-out-3 : tie.Need-cast-out-3
-cast-out-3 c = search needs
-
-add-out-2 : tie.Need-add-out-2
-add-out-2 c = search needs
 
 slice-write-out-3 : tie.Need-slice-write-out-3
 slice-write-out-3 c = simp length-set (omega arith)
 
-cast-out-4 : tie.Need-cast-out-4
-cast-out-4 c = search needs
-
-add-out-3 : tie.Need-add-out-3
-add-out-3 c = search needs
-
 slice-write-out-4 : tie.Need-slice-write-out-4
 slice-write-out-4 c = simp length-set (omega arith)
-
-add-result : tie.Need-add-result
-add-result c = search needs
-
-same-length : tie.Need-same-length
-same-length c = search needs
 
 returns : tie.Need-returns
 unfolding stored bytesOf
@@ -56,18 +22,5 @@ returns c = record { next-is = refl; run-long = refl; new-is = simp (add-one, tw
 pub put-u32-spec : {M : Type 1} → statement M
 put-u32-spec =
     tie.close
-    (tie.spec
-    cast-out
-    slice-write-out
-    cast-out-2
-    add-out
-    slice-write-out-2
-    cast-out-3
-    add-out-2
-    slice-write-out-3
-    cast-out-4
-    add-out-3
-    slice-write-out-4
-    add-result
-    same-length
-    returns)
+    (tie.spec (λ c. search needs) (λ c. search needs) (λ c. search needs) (λ c. search needs) slice-write-out-2 (λ c. search needs)
+    (λ c. search needs) slice-write-out-3 (λ c. search needs) (λ c. search needs) slice-write-out-4 (λ c. search needs) (λ c. search needs) returns)

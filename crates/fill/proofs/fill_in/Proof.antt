@@ -1,19 +1,10 @@
 -- `fill::fill_in` meets its contract. Assumes nothing.
 use Rattle.fill.proofs.Fills.{refuses}
 use Rattle.fill.proofs.Readings.{reading-refused, reading-accepted}
-use borrow.Author.Needs.{needs}
+use Rattle.ground.proofs.Kit.{needs}
 use Rattle.sheet.proofs.Handed.{reading-taken, reading-few}
 use Rattle.fill.proofs.fill_in.Statement.{statement}
 use Rattle.fill.proofs.fill_in.Tie as tie
-
-read-requires : tie.Need-read-requires
-read-requires c κs = search needs
-
-enum-known-verdict : tie.Need-enum-known-verdict
-enum-known-verdict c = search needs
-
-enum-told : tie.Need-enum-told
-enum-told c = search needs
 
 fill-sheet-requires : tie.Need-fill-sheet-requires
 fill-sheet-requires c κs =
@@ -31,6 +22,4 @@ returns-2 c =
     rw (reading-accepted _ _ (told .before .before .read .ensures) (told .enum-told .given .1)) (c .fill-sheet .ensures)
 
 pub fill-in-spec : {M : Type 1} → statement M
-fill-in-spec =
-    tie.close
-    (tie.spec read-requires enum-known-verdict enum-told fill-sheet-requires returns returns-2)
+fill-in-spec = tie.close (tie.spec (λ c κs. search needs) (λ c. search needs) (λ c. search needs) fill-sheet-requires returns returns-2)

@@ -1,9 +1,5 @@
 -- `fill::results_of` meets its contract: the rows so far are the first entries, and the rest are unused places. Assumes nothing.
-use Prim.Native.Nat.{_-_, _≤_}
-use mathlib.Core.Path.{_≡_, refl, sym}
-use native.Mathlib.Omega.{arith}
-use lib.ListN.{length, length-set}
-use borrow.Author.Needs.{needs}
+use Rattle.ground.proofs.Kit.{_-_, _≤_, _≡_, refl, sym, arith, length, length-set, needs}
 use Rattle.kinds.specs.Limits.{mostTasks}
 use Rattle.sheet.specs.Rows.{noGranted, noResults, paddedRows}
 use Rattle.sheet.proofs.Padding.{over-none}
@@ -22,30 +18,6 @@ abbrev μ-loop : tie.MeasureT-loop
 loop-holds : tie.Need-loop-holds Inv-loop μ-loop
 loop-holds c = (search needs, (refl, sym (over-none noResults (entryAt (c .args .t1) (c .args .t2)))))
 
-mul-t10 : tie.Need-mul-t10 Inv-loop μ-loop
-mul-t10 c = search needs
-
-array-read-t13 : tie.Need-array-read-t13 Inv-loop μ-loop
-array-read-t13 c = search needs
-
-mul-t14 : tie.Need-mul-t14 Inv-loop μ-loop
-mul-t14 c = search needs
-
-array-read-t17 : tie.Need-array-read-t17 Inv-loop μ-loop
-array-read-t17 c = search needs
-
-mul-rows : tie.Need-mul-rows Inv-loop μ-loop
-mul-rows c = search needs
-
-array-set-from-rows : tie.Need-array-set-from-rows Inv-loop μ-loop
-array-set-from-rows c = search needs
-
-add-i : tie.Need-add-i Inv-loop μ-loop
-add-i c = search needs
-
-loop-less : tie.Need-loop-less Inv-loop μ-loop
-loop-less c = search needs
-
 loop-again : tie.Need-loop-again Inv-loop μ-loop
 loop-again c =
     let l = c .before .loop in
@@ -61,17 +33,5 @@ returns c =
 pub results-of-spec : {M : Type 1} → statement M
 results-of-spec =
     tie.close
-    (tie.spec
-    Inv-loop
-    μ-loop
-    loop-holds
-    mul-t10
-    array-read-t13
-    mul-t14
-    array-read-t17
-    mul-rows
-    array-set-from-rows
-    add-i
-    loop-less
-    loop-again
-    returns)
+    (tie.spec Inv-loop μ-loop loop-holds (λ c. search needs) (λ c. search needs) (λ c. search needs) (λ c. search needs) (λ c. search needs)
+    (λ c. search needs) (λ c. search needs) (λ c. search needs) loop-again returns)

@@ -1,21 +1,8 @@
 -- `filled_sheet::check_sheet` meets its contract: each `return` is one law of `Compared`. Assumes nothing.
-use mathlib.Core.Path.{refl}
-use borrow.Author.Needs.{needs}
+use Rattle.ground.proofs.Kit.{refl, needs}
 use Rattle.filled_sheet.proofs.Compared.{finder-refuses, without-results, one-differs, all-agree}
 use Rattle.filled_sheet.proofs.check_sheet.Statement.{statement}
 use Rattle.filled_sheet.proofs.check_sheet.Tie as tie
-
-slice-aggregate-find : tie.Need-slice-aggregate-find
-slice-aggregate-find c = search needs
-
-slice-aggregate-find-2 : tie.Need-slice-aggregate-find-2
-slice-aggregate-find-2 c = search needs
-
-find-requires : tie.Need-find-requires
-find-requires c κs = search needs
-
-enum-known-answer : tie.Need-enum-known-answer
-enum-known-answer c = search needs
 
 returns : tie.Need-returns
 returns c =
@@ -23,18 +10,12 @@ returns c =
     let entry = found .before .before .before .before .before .before in
     finder-refuses (entry .args .x) (entry .pre) _ _ _ _ refl refl (found .find .result) (found .find .ensures) _ (c .before .answer .given .1)
 
-enum-told : tie.Need-enum-told
-enum-told c = search needs
-
 returns-2 : tie.Need-returns-2
 returns-2 c =
     let found = c .before .before .before .before .before .before in
     let entry = found .before .before .before .before .before .before in
     without-results (entry .args .x) (entry .pre) _ _ _ _ refl refl (found .find .result) (found .find .ensures) _
     (c .before .before .enum-told .given .1) (c .if1 .taken)
-
-first-unlike-requires : tie.Need-first-unlike-requires
-first-unlike-requires c κs = search needs
 
 returns-3 : tie.Need-returns-3
 returns-3 c =
@@ -55,14 +36,5 @@ returns-4 c =
 pub check-sheet-spec : {M : Type 1} → statement M
 check-sheet-spec =
     tie.close
-    (tie.spec
-    slice-aggregate-find
-    slice-aggregate-find-2
-    find-requires
-    enum-known-answer
-    returns
-    enum-told
-    returns-2
-    first-unlike-requires
-    returns-3
-    returns-4)
+    (tie.spec (λ c. search needs) (λ c. search needs) (λ c κs. search needs) (λ c. search needs) returns (λ c. search needs) returns-2
+    (λ c κs. search needs) returns-3 returns-4)

@@ -1,5 +1,5 @@
 -- `filled_sheet::differ` meets its contract. Assumes nothing.
-use borrow.Author.Tests.{eq-eqb, ne-eqb}
+use Rattle.ground.proofs.Kit.{eq-eqb, ne-eqb}
 use Rattle.filled_sheet.proofs.differ.Statement.{statement}
 use Rattle.filled_sheet.proofs.differ.Tie as tie
 

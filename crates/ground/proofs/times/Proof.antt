@@ -1,8 +1,5 @@
 -- `ground::times` meets its contract. Assumes nothing.
-use Prim.Native.Nat.{_*_, _≤_}
-use native.Mathlib.Nat.{mul-le-mul}
-use native.Mathlib.Omega.{arith}
-use borrow.Author.Needs.{needs}
+use Rattle.ground.proofs.Kit.{_*_, _≤_, mul-le-mul, arith, needs}
 use Rattle.ground.proofs.times.Statement.{statement}
 use Rattle.ground.proofs.times.Tie as tie
 
@@ -11,8 +8,5 @@ mul-result c =
     let l : c .args .a * c .args .b ≤ 4294967295 * 4294967295 = mul-le-mul {n₂ = 4294967295} {m₂ = 4294967295} (omega arith) (omega arith) in
     omega arith
 
-returns : tie.Need-returns
-returns c = search needs
-
 pub times-spec : {M : Type 1} → statement M
-times-spec = tie.close (tie.spec mul-result returns)
+times-spec = tie.close (tie.spec mul-result (λ c. search needs))

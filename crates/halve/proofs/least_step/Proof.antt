@@ -1,7 +1,5 @@
 -- `halve::least_step` meets its contract. Assumes nothing.
-use Prim.Native.Nat.{ℕ, _-_, _≤_}
-use mathlib.Core.Bool.{Bool}
-use native.Mathlib.Omega.{arith}
+use Rattle.ground.proofs.Kit.{ℕ, _-_, _≤_, Bool, arith}
 use Rattle.ground.proofs.Halving.{counted-all, counted-done, halved-found, halved-none}
 use Rattle.springs.specs.Columns.{springIn}
 use Rattle.springs.proofs.Charged.{full-low}
@@ -93,14 +91,4 @@ returns-2 c =
 pub least-step-spec : {M : Type 1} → statement M
 least-step-spec =
     tie.close
-    (tie.spec
-    Inv-loop
-    μ-loop
-    full-compression-requires
-    add-none
-    loop-holds
-    look-requires
-    loop-less
-    loop-again
-    returns
-    returns-2)
+    (tie.spec Inv-loop μ-loop full-compression-requires add-none loop-holds look-requires loop-less loop-again returns returns-2)

@@ -1,10 +1,9 @@
 -- `halve::look` meets its contract. Assumes nothing.
-use mathlib.Core.Path.{_≡_, sym, _∙_}
+use Rattle.ground.proofs.Kit.{_≡_, sym, _∙_, needs}
 use Rattle.ground.specs.Halving.{middle}
 use Rattle.springs.specs.Columns.{springIn}
 use Rattle.division.proofs.Weighing.{weighed-worked-out}
 use Rattle.halve.specs.Halves.{chargedAt}
-use borrow.Author.Needs.{needs}
 use Rattle.halve.proofs.look.Statement.{statement}
 use Rattle.halve.proofs.look.Tie as tie
 
@@ -16,26 +15,13 @@ tested : (c : tie.After-weighs) → let t = c .before in
     (middle (a .range .from) (a .range .to))
 tested c = c .weighs .ensures ∙ weighed-worked-out _ _ _ _ _ (c .before .charged-total .ensures)
 
-add-middle : tie.Need-add-middle
-add-middle c = search needs
-
-charged-total-requires : tie.Need-charged-total-requires
-charged-total-requires c κs = search needs
-
-weighs-requires : tie.Need-weighs-requires
-weighs-requires c κs = search needs
-
-add-looks : tie.Need-add-looks
-add-looks c = search needs
-
 returns : tie.Need-returns
 returns c = let t = c .before .before in rw (sym (tested t) ∙ c .if1 .taken)
-
-add-above : tie.Need-add-above
-add-above c = search needs
 
 returns-2 : tie.Need-returns-2
 returns-2 c = let t = c .before .before in rw (sym (tested t) ∙ c .if1 .left)
 
 pub look-spec : {M : Type 1} → statement M
-look-spec = tie.close (tie.spec add-middle charged-total-requires weighs-requires add-looks returns add-above returns-2)
+look-spec =
+    tie.close
+    (tie.spec (λ c. search needs) (λ c κs. search needs) (λ c κs. search needs) (λ c. search needs) returns (λ c. search needs) returns-2)

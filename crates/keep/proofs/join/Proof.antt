@@ -1,8 +1,5 @@
 -- `keep::join` meets its contract. Assumes nothing.
-use Prim.Native.Nat.{_+_, _≤_}
-use mathlib.Core.Path.{_∙_, ap}
-use native.Mathlib.Omega.{arith}
-use borrow.Author.Needs.{needs}
+use Rattle.ground.proofs.Kit.{_+_, _≤_, _∙_, ap, arith, needs}
 use Rattle.kinds.specs.declared.Table.{Table}
 use Rattle.keep.specs.Keep.{joinedRows}
 use Rattle.keep.specs.Handover.{JudgedUntil}
@@ -23,22 +20,13 @@ found : (c : tie.After-judge) → let a = start c .args in let k = a .kept .tabl
     JudgedUntil (a .swap) (a .notch) (joinedRows (k .rows) (k .n) (a .task)) (k .n + 1) (c .judge .result) (l .0) (l .1 .0)
 found c = rw (with-task c .with .ensures) at (c .judge .ensures)
 
-refuse-requires : tie.Need-refuse-requires
-refuse-requires c κs = search needs
-
 returns : tie.Need-returns
 returns c = c .refuse .ensures ∙ join-zero _ _ _ _ (c .before .if1 .taken)
-
-refuse-requires-2 : tie.Need-refuse-requires-2
-refuse-requires-2 c κs = search needs
 
 returns-2 : tie.Need-returns-2
 returns-2 c =
     let b = c .before in
     c .refuse2 .ensures ∙ join-many _ _ _ _ (b .before .if1 .left) (b .if2 .taken)
-
-with-requires : tie.Need-with-requires
-with-requires c κs = search needs
 
 judge-requires : tie.Need-judge-requires
 judge-requires c κs =
@@ -46,25 +34,16 @@ judge-requires c κs =
     let some : 1 ≤ w .before .before .before .before .args .notch = search needs in
     (omega (arith, ap (λ (x : Table). x .n) (w .with .ensures)), some, search needs, search needs)
 
-refuse-requires-3 : tie.Need-refuse-requires-3
-refuse-requires-3 c κs = search needs
-
 returns-3 : tie.Need-returns-3
 returns-3 c =
     let j = c .before .before in
     let i = with-task j .before in
     c .refuse3 .ensures ∙ join-bad _ _ _ _ (i .before .if1 .left) (i .if2 .left) _ (found j .first) (c .before .if3 .taken)
 
-add-index-of : tie.Need-add-index-of
-add-index-of c = search needs
-
 index-of-requires : tie.Need-index-of-requires
 index-of-requires c κs =
     let i = c .before .before in
     (omega (arith, with-task (i .before) .before .if2 .left), judged-low _ _ _ _ _ _ _ (found (i .before)) (omega (arith, i .if3 .left)))
-
-accept-requires : tie.Need-accept-requires
-accept-requires c κs = search needs
 
 returns-4 : tie.Need-returns-4
 returns-4 c =
@@ -79,16 +58,5 @@ returns-4 c =
 pub join-spec : {M : Type 1} → statement M
 join-spec =
     tie.close
-    (tie.spec
-    refuse-requires
-    returns
-    refuse-requires-2
-    returns-2
-    with-requires
-    judge-requires
-    refuse-requires-3
-    returns-3
-    add-index-of
-    index-of-requires
-    accept-requires
-    returns-4)
+    (tie.spec (λ c κs. search needs) returns (λ c κs. search needs) returns-2 (λ c κs. search needs) judge-requires (λ c κs. search needs) returns-3
+    (λ c. search needs) index-of-requires (λ c κs. search needs) returns-4)

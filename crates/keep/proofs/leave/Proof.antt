@@ -1,7 +1,5 @@
 -- `keep::leave` meets its contract. Assumes nothing.
-use mathlib.Core.Path.{_∙_}
-use native.Mathlib.Omega.{arith}
-use borrow.Author.Needs.{needs}
+use Rattle.ground.proofs.Kit.{_∙_, arith, needs}
 use Rattle.keep.specs.Keep.{leftRows}
 use Rattle.keep.proofs.Columns.{left-low, left-index}
 use Rattle.keep.proofs.Changes.{fresh-is, leave-zero, leave-many, leave-bad, leave-missing, leave-made}
@@ -16,34 +14,19 @@ gate c = c .before .before .before
 abbrev opened : tie.After-close-up2 → tie.Else4
 opened c = c .before .before .before .before
 
-refuse-requires : tie.Need-refuse-requires
-refuse-requires c κs = search needs
-
 returns : tie.Need-returns
 returns c = c .refuse .ensures ∙ leave-zero _ _ _ _ (c .before .if1 .taken)
-
-refuse-requires-2 : tie.Need-refuse-requires-2
-refuse-requires-2 c κs = search needs
 
 returns-2 : tie.Need-returns-2
 returns-2 c =
     let b = c .before in
     c .refuse2 .ensures ∙ leave-many _ _ _ _ (b .before .if1 .left) (b .if2 .taken)
 
-judge-requires : tie.Need-judge-requires
-judge-requires c κs = search needs
-
-refuse-requires-3 : tie.Need-refuse-requires-3
-refuse-requires-3 c κs = search needs
-
 returns-3 : tie.Need-returns-3
 returns-3 c =
     let j = c .before .before in
     let g = gate j in
     c .refuse3 .ensures ∙ leave-bad _ _ _ _ (g .before .if1 .left) (g .if2 .left) _ (j .judge .ensures .first) (c .before .if3 .taken)
-
-refuse-requires-4 : tie.Need-refuse-requires-4
-refuse-requires-4 c κs = search needs
 
 returns-4 : tie.Need-returns-4
 returns-4 c =
@@ -52,15 +35,6 @@ returns-4 c =
     let g = gate j in
     c .refuse4 .ensures
     ∙ leave-missing _ _ _ _ (g .before .if1 .left) (g .if2 .left) _ (j .judge .ensures .first) (t .if3 .left) (c .before .if4 .taken)
-
-close-up-requires : tie.Need-close-up-requires
-close-up-requires c κs = search needs
-
-close-up-requires-2 : tie.Need-close-up-requires-2
-close-up-requires-2 c κs = search needs
-
-sub-index-of : tie.Need-sub-index-of
-sub-index-of c = search needs
 
 index-of-requires : tie.Need-index-of-requires
 index-of-requires c κs =
@@ -71,15 +45,6 @@ index-of-requires c κs =
       omega (arith, few),
       left-low _ _ _ _ _ _ _ _ _ _ (j .judge .ensures) (o .before .if3 .left) few (u .before .before .close-up .ensures) (u .close-up2 .ensures),
     )
-
-sub-without : tie.Need-sub-without
-sub-without c = search needs
-
-without-requires : tie.Need-without-requires
-without-requires c κs = search needs
-
-accept-requires : tie.Need-accept-requires
-accept-requires c κs = search needs
 
 returns-5 : tie.Need-returns-5
 unfolding leftRows
@@ -100,21 +65,6 @@ returns-5 c =
 pub leave-spec : {M : Type 1} → statement M
 leave-spec =
     tie.close
-    (tie.spec
-    refuse-requires
-    returns
-    refuse-requires-2
-    returns-2
-    judge-requires
-    refuse-requires-3
-    returns-3
-    refuse-requires-4
-    returns-4
-    close-up-requires
-    close-up-requires-2
-    sub-index-of
-    index-of-requires
-    sub-without
-    without-requires
-    accept-requires
-    returns-5)
+    (tie.spec (λ c κs. search needs) returns (λ c κs. search needs) returns-2 (λ c κs. search needs) (λ c κs. search needs) returns-3
+    (λ c κs. search needs) returns-4 (λ c κs. search needs) (λ c κs. search needs) (λ c. search needs) index-of-requires (λ c. search needs)
+    (λ c κs. search needs) (λ c κs. search needs) returns-5)

@@ -1,6 +1,5 @@
 -- `line::put_refusal` meets its contract: five runs, one after the other. Assumes nothing.
-use native.Mathlib.Omega.{arith}
-use borrow.Author.Needs.{needs}
+use Rattle.ground.proofs.Kit.{arith, needs}
 use Rattle.field.proofs.Stores.{put-then}
 use Rattle.numeral.proofs.Digits.{few-digits}
 use Rattle.line.specs.Line.{refusalLine}
@@ -8,25 +7,10 @@ use Rattle.line.proofs.Fronts.{put-fronts}
 use Rattle.line.proofs.put_refusal.Statement.{statement}
 use Rattle.line.proofs.put_refusal.Tie as tie
 
-slice-aggregate-put-bytes : tie.Need-slice-aggregate-put-bytes
-slice-aggregate-put-bytes c = search needs
-
-put-bytes-requires : tie.Need-put-bytes-requires
-put-bytes-requires c κs = search needs
-
-number-requires : tie.Need-number-requires
-number-requires c κs = search needs
-
-cast-put-decimal : tie.Need-cast-put-decimal
-cast-put-decimal c = search needs
-
 put-decimal-requires : tie.Need-put-decimal-requires
 put-decimal-requires c κs =
     let d = few-digits 4 (c .number .result) (omega arith) in
     omega (arith, c .before .before .before .before .put-bytes .ensures .next-is)
-
-slice-aggregate-put-bytes-2 : tie.Need-slice-aggregate-put-bytes-2
-slice-aggregate-put-bytes-2 c = search needs
 
 put-bytes-requires-2 : tie.Need-put-bytes-requires-2
 put-bytes-requires-2 c κs =
@@ -34,9 +18,6 @@ put-bytes-requires-2 c κs =
     let front = number .before .before .before .before .before in
     let d = few-digits 4 (number .before .number .result) (omega arith) in
     omega (arith, front .put-bytes .ensures .next-is, number .put-decimal .ensures .next-is)
-
-place-requires : tie.Need-place-requires
-place-requires c κs = search needs
 
 put-decimal-requires-2 : tie.Need-put-decimal-requires-2
 put-decimal-requires-2 c κs =
@@ -47,9 +28,6 @@ put-decimal-requires-2 c κs =
     let g = few-digits 19 (c .place .result) (omega arith) in
     omega (arith, front .put-bytes .ensures .next-is, number .put-decimal .ensures .next-is, word .put-bytes2 .ensures .next-is)
 
-slice-aggregate-put-bytes-3 : tie.Need-slice-aggregate-put-bytes-3
-slice-aggregate-put-bytes-3 c = search needs
-
 put-bytes-requires-3 : tie.Need-put-bytes-requires-3
 put-bytes-requires-3 c κs =
     let place = c .before .before .before .before in
@@ -59,9 +37,6 @@ put-bytes-requires-3 c κs =
     let d = few-digits 4 (number .before .number .result) (omega arith) in
     let g = few-digits 19 (place .before .place .result) (omega arith) in
     omega (arith, front .put-bytes .ensures .next-is, number .put-decimal .ensures .next-is, word .put-bytes2 .ensures .next-is, place .put-decimal2 .ensures .next-is)
-
-same-length : tie.Need-same-length
-same-length c = search needs
 
 returns : tie.Need-returns
 unfolding refusalLine
@@ -84,17 +59,5 @@ returns c =
 pub put-refusal-spec : {M : Type 1} → statement M
 put-refusal-spec =
     tie.close
-    (tie.spec
-    slice-aggregate-put-bytes
-    put-bytes-requires
-    number-requires
-    cast-put-decimal
-    put-decimal-requires
-    slice-aggregate-put-bytes-2
-    put-bytes-requires-2
-    place-requires
-    put-decimal-requires-2
-    slice-aggregate-put-bytes-3
-    put-bytes-requires-3
-    same-length
-    returns)
+    (tie.spec (λ c. search needs) (λ c κs. search needs) (λ c κs. search needs) (λ c. search needs) put-decimal-requires (λ c. search needs)
+    put-bytes-requires-2 (λ c κs. search needs) put-decimal-requires-2 (λ c. search needs) put-bytes-requires-3 (λ c. search needs) returns)

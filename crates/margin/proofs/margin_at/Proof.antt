@@ -1,9 +1,5 @@
 -- `margin::margin_at` meets its contract. Assumes nothing.
-use Prim.Native.Nat.{ℕ, _≤_, _<_}
-use mathlib.Core.Bool.{false}
-use mathlib.Core.List.{List}
-use mathlib.Core.Path.{_≡_, _∙_, ap}
-use native.Mathlib.Omega.{arith}
+use Rattle.ground.proofs.Kit.{ℕ, _≤_, _<_, false, List, _≡_, _∙_, ap, arith, needs}
 use Rattle.kinds.specs.Answer.{accepted}
 use Rattle.kinds.specs.Limits.{scale}
 use Rattle.kinds.specs.Task.{at}
@@ -18,7 +14,6 @@ use Rattle.policy.proofs.Tests.{margin-same}
 use Rattle.admission.proofs.Chain.{passed-weighed}
 use Rattle.admission.proofs.Opened.{Opened, opened}
 use Rattle.margin.specs.Margin.{marginHanded}
-use borrow.Author.Needs.{needs}
 use Rattle.margin.proofs.margin_at.Statement.{statement}
 use Rattle.margin.proofs.margin_at.Tie as tie
 
@@ -67,15 +62,6 @@ loaded c i l =
     ∙ held-loads (a .settings) (rowsUnder (a .settings) (a .table .rows) (a .table .n)) (a .table .n) (a .step) (springs d .cost) (springs d .tmin) _
     (held (stepped c)) i l
 
-admit-requires : tie.Need-admit-requires
-admit-requires c κs = search needs
-
-enum-known-admission : tie.Need-enum-known-admission
-enum-known-admission c = search needs
-
-enum-told : tie.Need-enum-told
-enum-told c = search needs
-
 shares-at-requires : tie.Need-shares-at-requires
 shares-at-requires c κs =
     let b = begun (c .before .before .before) in
@@ -92,9 +78,6 @@ loads-of-requires c κs =
     held-allowed paid (a .table .n) (a .step) (springs d .cost) (springs d .tmin) (h .shares-at .last .0) (held h)
     (a .settings .notch) (b .ready .notched) (b .good) (b .on) in
     (b .ready .passed .few, h .shares-at .ensures .long, allowed)
-
-meant-requires : tie.Need-meant-requires
-meant-requires c κs = search needs
 
 margin-of-requires : tie.Need-margin-of-requires
 margin-of-requires c κs =
@@ -126,13 +109,5 @@ returns-2 c = rw (← c .before .before .before .admit .ensures .is, c .before .
 pub margin-at-spec : {M : Type 1} → statement M
 margin-at-spec =
     tie.close
-    (tie.spec
-    admit-requires
-    enum-known-admission
-    enum-told
-    shares-at-requires
-    loads-of-requires
-    meant-requires
-    margin-of-requires
-    returns
-    returns-2)
+    (tie.spec (λ c κs. search needs) (λ c. search needs) (λ c. search needs) shares-at-requires loads-of-requires (λ c κs. search needs)
+    margin-of-requires returns returns-2)

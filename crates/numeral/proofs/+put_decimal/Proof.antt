@@ -1,7 +1,5 @@
 -- `numeral::put_decimal` meets its contract; the number falls at each call. Assumes nothing.
-use Prim.Native.Nat.{ℕ, _<_}
-use native.Mathlib.Omega.{arith}
-use borrow.Author.Needs.{needs}
+use Rattle.ground.proofs.Kit.{ℕ, _<_, arith, needs}
 use borrow.Fn.Kinds.{In}
 use borrow.Fn.PlainCycle.{Measures, is, falls, and}
 use Rattle.numeral.proofs.Digits.{one-long, more-long, puts-one, puts-more}

@@ -1,5 +1,5 @@
 -- `numeral::is_digit` meets its contract. Assumes nothing.
-use borrow.Author.Tests.{lt-leb, le-leb}
+use Rattle.ground.proofs.Kit.{le-leb, lt-leb}
 use Rattle.numeral.proofs.is_digit.Statement.{statement}
 use Rattle.numeral.proofs.is_digit.Tie as tie
 

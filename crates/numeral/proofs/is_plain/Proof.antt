@@ -1,16 +1,8 @@
 -- `numeral::is_plain` meets its contract, by the count of digits. Assumes nothing.
-use native.Mathlib.Omega.{arith}
-use mathlib.Core.Path.{sym, ap, _∙_}
-use mathlib.Core.Bool.{not}
-use Prim.Native.Nat.{ℕ}
-use lib.Dec.{eqb}
+use Rattle.ground.proofs.Kit.{ℕ, not, sym, _∙_, ap, arith, eqb, needs}
 use Rattle.numeral.proofs.Scan.{plain-none, plain-one, plain-more, first-digit}
-use borrow.Author.Needs.{needs}
 use Rattle.numeral.proofs.is_plain.Statement.{statement}
 use Rattle.numeral.proofs.is_plain.Tie as tie
-
-sub-count : tie.Need-sub-count
-sub-count c = search needs
 
 returns : tie.Need-returns
 returns c = sym (plain-none _ (omega arith))
@@ -18,13 +10,10 @@ returns c = sym (plain-none _ (omega arith))
 returns-2 : tie.Need-returns-2
 returns-2 c = sym (plain-one _ (omega arith))
 
-byte-at-requires : tie.Need-byte-at-requires
-byte-at-requires c κs = search needs
-
 returns-3 : tie.Need-returns-3
 returns-3 c =
     let a = c .before .before .before .before .args in
     ap (λ (x : ℕ). not (eqb x 48)) (c .byte-at .ensures ∙ sym (first-digit (a .s .now) (a .at) (omega arith))) ∙ sym (plain-more _ (omega arith))
 
 pub is-plain-spec : {M : Type 1} → statement M
-is-plain-spec = tie.close (tie.spec sub-count returns returns-2 byte-at-requires returns-3)
+is-plain-spec = tie.close (tie.spec (λ c. search needs) returns returns-2 (λ c κs. search needs) returns-3)

@@ -1,20 +1,8 @@
 -- `numeral::numeral_at` meets its contract. Assumes nothing.
-use Prim.Native.Nat.{_<_}
-use lib.ListN.{length}
-use borrow.Author.Tests.{not-true, not-false}
-use native.Mathlib.Omega.{arith}
-use mathlib.Core.Path.{sym, _∙_}
-use lib.ListN.{getD}
+use Rattle.ground.proofs.Kit.{_<_, sym, _∙_, arith, length, getD, needs, not-true, not-false}
 use Rattle.numeral.proofs.Scan.{within, not-plain, read-large, read-other, read-whole}
-use borrow.Author.Needs.{needs}
 use Rattle.numeral.proofs.numeral_at.Statement.{statement}
 use Rattle.numeral.proofs.numeral_at.Tie as tie
-
-run-at-requires : tie.Need-run-at-requires
-run-at-requires c κs = search needs
-
-is-plain-requires : tie.Need-is-plain-requires
-is-plain-requires c κs = search needs
 
 returns : tie.Need-returns
 returns c = sym (not-plain _ _ _ (sym (c .before .is-plain .ensures) ∙ not-true _ (c .if1 .taken)))
@@ -25,18 +13,12 @@ returns-2 c =
     let is-plain = sym (judged .is-plain .ensures) ∙ not-false _ (c .before .if1 .left) in
     sym (read-large _ _ _ _ (judged .before .run-at .ensures) is-plain (c .if2 .taken))
 
-byte-at-requires : tie.Need-byte-at-requires
-byte-at-requires c κs = search needs
-
 returns-3 : tie.Need-returns-3
 returns-3 c =
     let small = c .before .before in
     let judged = small .before .before in
     let is-plain = sym (judged .is-plain .ensures) ∙ not-false _ (small .before .if1 .left) in
     sym (read-other _ _ _ _ (judged .before .run-at .ensures) is-plain (small .if2 .left) _ (c .before .byte-at .ensures) (c .if3 .taken))
-
-cast-t10 : tie.Need-cast-t10
-cast-t10 c = search needs
 
 add-t11 : tie.Need-add-t11
 add-t11 c =
@@ -59,13 +41,5 @@ returns-4 c =
 pub numeral-at-spec : {M : Type 1} → statement M
 numeral-at-spec =
     tie.close
-    (tie.spec
-    run-at-requires
-    is-plain-requires
-    returns
-    returns-2
-    byte-at-requires
-    returns-3
-    cast-t10
-    add-t11
+    (tie.spec (λ c κs. search needs) (λ c κs. search needs) returns returns-2 (λ c κs. search needs) returns-3 (λ c. search needs) add-t11
     returns-4)

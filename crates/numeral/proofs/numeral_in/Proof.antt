@@ -1,16 +1,8 @@
 -- `numeral::numeral_in` meets its contract. Assumes nothing.
-use borrow.Author.Tests.{not-true, not-false}
-use mathlib.Core.Path.{sym, _∙_}
+use Rattle.ground.proofs.Kit.{sym, _∙_, needs, not-true, not-false}
 use Rattle.numeral.proofs.Scan.{in-not-plain, in-large, in-longer, in-whole}
-use borrow.Author.Needs.{needs}
 use Rattle.numeral.proofs.numeral_in.Statement.{statement}
 use Rattle.numeral.proofs.numeral_in.Tie as tie
-
-run-at-requires : tie.Need-run-at-requires
-run-at-requires c κs = search needs
-
-is-plain-requires : tie.Need-is-plain-requires
-is-plain-requires c κs = search needs
 
 returns : tie.Need-returns
 returns c = sym (in-not-plain _ (sym (c .before .is-plain .ensures) ∙ not-true _ (c .if1 .taken)))
@@ -27,9 +19,6 @@ returns-3 c =
     let is-plain = sym (judged .is-plain .ensures) ∙ not-false _ (c .before .before .if1 .left) in
     sym (in-longer _ _ (judged .before .run-at .ensures) is-plain (c .before .if2 .left) (c .if3 .taken))
 
-cast-t8 : tie.Need-cast-t8
-cast-t8 c = search needs
-
 returns-4 : tie.Need-returns-4
 returns-4 c =
     let judged = c .before .before .before in
@@ -37,6 +26,4 @@ returns-4 c =
     in-whole _ _ (judged .before .run-at .ensures) is-plain (c .before .if2 .left) (c .if3 .left)
 
 pub numeral-in-spec : {M : Type 1} → statement M
-numeral-in-spec =
-    tie.close
-    (tie.spec run-at-requires is-plain-requires returns returns-2 returns-3 cast-t8 returns-4)
+numeral-in-spec = tie.close (tie.spec (λ c κs. search needs) (λ c κs. search needs) returns returns-2 returns-3 (λ c. search needs) returns-4)

@@ -1,10 +1,5 @@
 -- `numeral::run_at` meets its contract: what is left of the run gives the whole. Assumes nothing.
-use borrow.Author.Needs.{needs}
-use borrow.Author.Tests.{not-true, not-false}
-use native.Mathlib.Omega.{arith}
-use mathlib.Core.Path.{sym, _∙_}
-use Prim.Native.Nat.{_-_, _<_}
-use lib.ListN.{length}
+use Rattle.ground.proofs.Kit.{_-_, _<_, sym, _∙_, arith, length, needs, not-true, not-false}
 use Rattle.numeral.proofs.Scan.{Going, going-none, going-more, going-end, digit-within}
 use Rattle.numeral.proofs.run_at.Statement.{statement}
 use Rattle.numeral.proofs.run_at.Tie as tie
@@ -17,12 +12,6 @@ abbrev μ-loop : tie.MeasureT-loop
 
 loop-holds : tie.Need-loop-holds Inv-loop μ-loop
 loop-holds c = going-none _ _
-
-byte-at-requires : tie.Need-byte-at-requires Inv-loop μ-loop
-byte-at-requires c κs = search needs
-
-is-digit-requires : tie.Need-is-digit-requires Inv-loop μ-loop
-is-digit-requires c κs = search needs
 
 grown-requires : tie.Need-grown-requires Inv-loop μ-loop
 grown-requires c κs = (c .before .before .before .loop .inv .low, sym (c .before .is-digit .ensures) ∙ not-false _ (c .if1 .left))
@@ -60,14 +49,4 @@ returns c =
 pub run-at-spec : {M : Type 1} → statement M
 run-at-spec =
     tie.close
-    (tie.spec
-    Inv-loop
-    μ-loop
-    loop-holds
-    byte-at-requires
-    is-digit-requires
-    grown-requires
-    add-next
-    loop-less
-    loop-again
-    returns)
+    (tie.spec Inv-loop μ-loop loop-holds (λ c κs. search needs) (λ c κs. search needs) grown-requires add-next loop-less loop-again returns)

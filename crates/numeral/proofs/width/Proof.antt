@@ -1,8 +1,5 @@
 -- `numeral::width` meets its contract: the digits that are left and those counted are all. Assumes nothing.
-use native.Mathlib.Omega.{arith}
-use Prim.Native.Nat.{_+_}
-use mathlib.Core.Path.{_≡_}
-use lib.ListN.{length}
+use Rattle.ground.proofs.Kit.{_+_, _≡_, arith, length}
 use Rattle.numeral.specs.Decimal.{decimal}
 use Rattle.numeral.proofs.Digits.{one-long, more-long, few-digits}
 use Rattle.numeral.proofs.width.Statement.{statement}
@@ -14,14 +11,8 @@ Inv-loop n left₀ count₀ left count = count + length (decimal left) ≡ lengt
 abbrev μ-loop : tie.MeasureT-loop
 μ-loop n left₀ count₀ left count = left
 
-loop-holds : tie.Need-loop-holds Inv-loop μ-loop
-loop-holds c = omega arith
-
 add-count : tie.Need-add-count Inv-loop μ-loop
 add-count c = omega (arith, few-digits 9 (c .before .before .args .n) (omega arith))
-
-loop-less : tie.Need-loop-less Inv-loop μ-loop
-loop-less c = omega arith
 
 loop-again : tie.Need-loop-again Inv-loop μ-loop
 loop-again c = omega (arith, more-long (c .before .loop .left) (c .loop-test .taken))
@@ -33,4 +24,4 @@ returns c =
     record { is = omega arith; few = omega arith }
 
 pub width-spec : {M : Type 1} → statement M
-width-spec = tie.close (tie.spec Inv-loop μ-loop loop-holds add-count loop-less loop-again returns)
+width-spec = tie.close (tie.spec Inv-loop μ-loop (λ c. omega arith) add-count (λ c. omega arith) loop-again returns)

@@ -1,7 +1,5 @@
 -- `office::import` meets its contract: what is left of the text gives the whole reading. Assumes nothing.
-use borrow.Author.Needs.{needs}
-use Prim.Native.Nat.{_-_}
-use mathlib.Core.Path.{sym, _∙_}
+use Rattle.ground.proofs.Kit.{_-_, sym, _∙_, needs}
 use Rattle.kinds.specs.Limits.{mostTasks}
 use Rattle.office.proofs.Lines.{Going, going-none, going-many, going-bad, going-more}
 use Rattle.office.proofs.Answers.{reads-not, reads-short, reads-done}
@@ -17,26 +15,11 @@ abbrev μ-loop : tie.MeasureT-loop
 loop-holds : tie.Need-loop-holds Inv-loop μ-loop
 loop-holds c = going-none _
 
-refused-requires : tie.Need-refused-requires Inv-loop μ-loop
-refused-requires c κs = tt
-
 returns : tie.Need-returns Inv-loop μ-loop
 returns c =
     let turn = c .before .before in
     let many = going-many _ _ _ _ (turn .before .loop .inv) (turn .loop-test .taken) (c .before .if1 .taken) in
     reads-not _ _ _ many _ (c .refused .ensures)
-
-line-at-requires : tie.Need-line-at-requires Inv-loop μ-loop
-line-at-requires c κs = search needs
-
-enum-known-row : tie.Need-enum-known-row Inv-loop μ-loop
-enum-known-row c = search needs
-
-enum-told : tie.Need-enum-told Inv-loop μ-loop
-enum-told c = search needs
-
-refused-requires-2 : tie.Need-refused-requires-2 Inv-loop μ-loop
-refused-requires-2 c κs = tt
 
 returns-2 : tie.Need-returns-2 Inv-loop μ-loop
 returns-2 c =
@@ -46,18 +29,6 @@ returns-2 c =
     (sym (line .line-at .ensures) ∙ c .before .enum-told .given .1) in
     reads-not _ _ _ bad _ (c .refused2 .ensures)
 
-mul-rows : tie.Need-mul-rows Inv-loop μ-loop
-mul-rows c = search needs
-
-array-set-from-rows : tie.Need-array-set-from-rows Inv-loop μ-loop
-array-set-from-rows c = search needs
-
-add-n : tie.Need-add-n Inv-loop μ-loop
-add-n c = search needs
-
-loop-less : tie.Need-loop-less Inv-loop μ-loop
-loop-less c = search needs
-
 loop-again : tie.Need-loop-again Inv-loop μ-loop
 loop-again c =
     let line = c .before .before .before in
@@ -65,15 +36,9 @@ loop-again c =
     going-more _ _ _ _ (turn .before .loop .inv) (turn .loop-test .taken) (line .before .if1 .left) _ _
     (sym (line .line-at .ensures) ∙ c .before .row .given .1)
 
-refused-requires-3 : tie.Need-refused-requires-3 Inv-loop μ-loop
-refused-requires-3 c κs = tt
-
 returns-3 : tie.Need-returns-3 Inv-loop μ-loop
 returns-3 c =
     reads-short _ _ _ _ _ (c .before .before .before .loop .inv) (c .before .before .loop-test .left) (c .before .if2 .taken) _ (c .refused3 .ensures)
-
-new-requires : tie.Need-new-requires Inv-loop μ-loop
-new-requires c κs = search needs
 
 returns-4 : tie.Need-returns-4 Inv-loop μ-loop
 returns-4 c =
@@ -83,23 +48,6 @@ returns-4 c =
 pub import-spec : {M : Type 1} → statement M
 import-spec =
     tie.close
-    (tie.spec
-    Inv-loop
-    μ-loop
-    loop-holds
-    refused-requires
-    returns
-    line-at-requires
-    enum-known-row
-    enum-told
-    refused-requires-2
-    returns-2
-    mul-rows
-    array-set-from-rows
-    add-n
-    loop-less
-    loop-again
-    refused-requires-3
-    returns-3
-    new-requires
+    (tie.spec Inv-loop μ-loop loop-holds (λ _ _. tt) returns (λ c κs. search needs) (λ c. search needs) (λ c. search needs) (λ _ _. tt) returns-2
+    (λ c. search needs) (λ c. search needs) (λ c. search needs) (λ c. search needs) loop-again (λ _ _. tt) returns-3 (λ c κs. search needs)
     returns-4)

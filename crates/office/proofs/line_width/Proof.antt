@@ -1,33 +1,8 @@
 -- `office::line_width` meets its contract. Assumes nothing.
-use native.Mathlib.Omega.{arith}
+use Rattle.ground.proofs.Kit.{arith, needs}
 use Rattle.office.proofs.Widths.{line-long}
-use borrow.Author.Needs.{needs}
 use Rattle.office.proofs.line_width.Statement.{statement}
 use Rattle.office.proofs.line_width.Tie as tie
-
-width-requires : tie.Need-width-requires
-width-requires c κs = search needs
-
-width-requires-2 : tie.Need-width-requires-2
-width-requires-2 c κs = search needs
-
-add-result : tie.Need-add-result
-add-result c = search needs
-
-width-requires-3 : tie.Need-width-requires-3
-width-requires-3 c κs = search needs
-
-add-result-2 : tie.Need-add-result-2
-add-result-2 c = search needs
-
-width-requires-4 : tie.Need-width-requires-4
-width-requires-4 c κs = search needs
-
-add-result-3 : tie.Need-add-result-3
-add-result-3 c = search needs
-
-add-result-4 : tie.Need-add-result-4
-add-result-4 c = search needs
 
 returns : tie.Need-returns
 returns c =
@@ -36,13 +11,5 @@ returns c =
 pub line-width-spec : {M : Type 1} → statement M
 line-width-spec =
     tie.close
-    (tie.spec
-    width-requires
-    width-requires-2
-    add-result
-    width-requires-3
-    add-result-2
-    width-requires-4
-    add-result-3
-    add-result-4
-    returns)
+    (tie.spec (λ c κs. search needs) (λ c κs. search needs) (λ c. search needs) (λ c κs. search needs) (λ c. search needs) (λ c κs. search needs)
+    (λ c. search needs) (λ c. search needs) returns)

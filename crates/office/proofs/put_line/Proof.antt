@@ -1,8 +1,7 @@
 -- `office::put_line` meets its contract: four runs, one after the other. Assumes nothing.
-use native.Mathlib.Omega.{arith}
+use Rattle.ground.proofs.Kit.{arith, needs}
 use Rattle.office.specs.Text.{comma, newline}
 use Rattle.office.proofs.Widths.{number-long, line-long, puts-line}
-use borrow.Author.Needs.{needs}
 use Rattle.office.proofs.put_line.Statement.{statement}
 use Rattle.office.proofs.put_line.Tie as tie
 
@@ -46,9 +45,6 @@ put-number-requires-4 c κs =
     let f = number-long (t .e) newline in
     omega arith
 
-same-length : tie.Need-same-length
-same-length c = search needs
-
 returns : tie.Need-returns
 returns c =
     let at-e = c .before .before in
@@ -64,10 +60,4 @@ returns c =
 pub put-line-spec : {M : Type 1} → statement M
 put-line-spec =
     tie.close
-    (tie.spec
-    put-number-requires
-    put-number-requires-2
-    put-number-requires-3
-    put-number-requires-4
-    same-length
-    returns)
+    (tie.spec put-number-requires put-number-requires-2 put-number-requires-3 put-number-requires-4 (λ c. search needs) returns)

@@ -1,7 +1,6 @@
 -- `office::put_number` meets its contract. Assumes nothing.
-use native.Mathlib.Omega.{arith}
+use Rattle.ground.proofs.Kit.{arith, needs}
 use Rattle.office.proofs.Widths.{number-long, puts-number}
-use borrow.Author.Needs.{needs}
 use Rattle.office.proofs.put_number.Statement.{statement}
 use Rattle.office.proofs.put_number.Tie as tie
 
@@ -20,13 +19,9 @@ add-result c =
     let l = number-long (put .before .before .args .v) (put .before .before .args .end) in
     omega arith
 
-same-length : tie.Need-same-length
-same-length c = search needs
-
 returns : tie.Need-returns
 returns c =
     puts-number _ _ _ _ _ _ (c .before .before .put-decimal .ensures)
 
 pub put-number-spec : {M : Type 1} → statement M
-put-number-spec =
-    tie.close (tie.spec put-decimal-requires slice-write-out add-result same-length returns)
+put-number-spec = tie.close (tie.spec put-decimal-requires slice-write-out add-result (λ c. search needs) returns)

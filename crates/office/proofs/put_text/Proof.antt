@@ -1,9 +1,5 @@
 -- `office::put_text` meets its contract: the lines so far are stored, and nothing else. Assumes nothing.
-use borrow.Author.Needs.{needs}
-use native.Mathlib.Omega.{arith}
-use Prim.Native.Nat.{_+_, _-_, _≤_}
-use mathlib.Core.Path.{_≡_, refl, _∙_}
-use lib.ListN.{length}
+use Rattle.ground.proofs.Kit.{_+_, _-_, _≤_, _≡_, refl, _∙_, arith, length, needs}
 use Rattle.field.specs.Handover.{Put}
 use Rattle.field.proofs.Stores.{put-long}
 use Rattle.office.specs.Text.{textTo}
@@ -20,12 +16,6 @@ abbrev μ-loop : tie.MeasureT-loop
 loop-holds : tie.Need-loop-holds Inv-loop μ-loop
 loop-holds c = (search needs, (refl, puts-none _ _))
 
-mul-put-line : tie.Need-mul-put-line Inv-loop μ-loop
-mul-put-line c = search needs
-
-array-copy-out-put-line : tie.Need-array-copy-out-put-line Inv-loop μ-loop
-array-copy-out-put-line c = search needs
-
 put-line-requires : tie.Need-put-line-requires Inv-loop μ-loop
 put-line-requires c κs =
     let turn = c .before .before .before in
@@ -35,21 +25,12 @@ put-line-requires c κs =
     let u = text-within (a .t2) (i + 1) (a .n) (omega arith) in
     omega arith
 
-add-i : tie.Need-add-i Inv-loop μ-loop
-add-i c = search needs
-
-loop-less : tie.Need-loop-less Inv-loop μ-loop
-loop-less c = search needs
-
 loop-again : tie.Need-loop-again Inv-loop μ-loop
 loop-again c =
     let put = c .before .before .put-line .ensures in
     let turn = c .before .before .before .before in
     let so-far = turn .before .before .loop .inv in
     (search needs, (put-long put ∙ so-far .1 .0, puts-more _ _ _ _ _ _ _ (so-far .1 .1) put))
-
-same-length : tie.Need-same-length Inv-loop μ-loop
-same-length c = search needs
 
 returns : tie.Need-returns Inv-loop μ-loop
 returns c =
@@ -58,15 +39,5 @@ returns c =
 pub put-text-spec : {M : Type 1} → statement M
 put-text-spec =
     tie.close
-    (tie.spec
-    Inv-loop
-    μ-loop
-    loop-holds
-    mul-put-line
-    array-copy-out-put-line
-    put-line-requires
-    add-i
-    loop-less
-    loop-again
-    same-length
-    returns)
+    (tie.spec Inv-loop μ-loop loop-holds (λ c. search needs) (λ c. search needs) put-line-requires (λ c. search needs) (λ c. search needs)
+    loop-again (λ c. search needs) returns)

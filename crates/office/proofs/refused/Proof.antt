@@ -1,13 +1,10 @@
 -- `office::refused` meets its contract. Assumes nothing.
-use borrow.Author.Needs.{needs}
+use Rattle.ground.proofs.Kit.{needs}
 use Rattle.office.proofs.refused.Statement.{statement}
 use Rattle.office.proofs.refused.Tie as tie
-
-new-requires : tie.Need-new-requires
-new-requires c κs = search needs
 
 returns : tie.Need-returns
 returns c = rw (c .new .ensures)
 
 pub refused-spec : {M : Type 1} → statement M
-refused-spec = tie.close (tie.spec new-requires returns)
+refused-spec = tie.close (tie.spec (λ c κs. search needs) returns)

@@ -1,9 +1,5 @@
 -- `office::text_width` meets its contract: the lines so far are counted. Assumes nothing.
-use borrow.Author.Needs.{needs}
-use native.Mathlib.Omega.{arith}
-use Prim.Native.Nat.{ℕ, _*_, _-_, _≤_}
-use mathlib.Core.Path.{_≡_, sym, ap, _∙_}
-use lib.ListN.{length}
+use Rattle.ground.proofs.Kit.{ℕ, _-_, _*_, _≤_, _≡_, sym, _∙_, ap, arith, length, needs}
 use Rattle.office.specs.Text.{textTo, longestLine}
 use Rattle.office.proofs.Widths.{text-none, text-long}
 use Rattle.office.proofs.text_width.Statement.{statement}
@@ -18,24 +14,6 @@ abbrev μ-loop : tie.MeasureT-loop
 loop-holds : tie.Need-loop-holds Inv-loop μ-loop
 loop-holds c = (search needs, (ap length (sym (text-none (c .args .t1))), omega arith))
 
-mul-line-width : tie.Need-mul-line-width Inv-loop μ-loop
-mul-line-width c = search needs
-
-array-copy-out-line-width : tie.Need-array-copy-out-line-width Inv-loop μ-loop
-array-copy-out-line-width c = search needs
-
-line-width-requires : tie.Need-line-width-requires Inv-loop μ-loop
-line-width-requires c κs = search needs
-
-add-width : tie.Need-add-width Inv-loop μ-loop
-add-width c = search needs
-
-add-i : tie.Need-add-i Inv-loop μ-loop
-add-i c = search needs
-
-loop-less : tie.Need-loop-less Inv-loop μ-loop
-loop-less c = search needs
-
 loop-again : tie.Need-loop-again Inv-loop μ-loop
 loop-again c =
     let l = text-long (c .before .before .before .before .args .t1) (c .before .before .before .loop .i) in (search needs, (omega arith, omega arith))
@@ -48,15 +26,5 @@ returns c =
 pub text-width-spec : {M : Type 1} → statement M
 text-width-spec =
     tie.close
-    (tie.spec
-    Inv-loop
-    μ-loop
-    loop-holds
-    mul-line-width
-    array-copy-out-line-width
-    line-width-requires
-    add-width
-    add-i
-    loop-less
-    loop-again
-    returns)
+    (tie.spec Inv-loop μ-loop loop-holds (λ c. search needs) (λ c. search needs) (λ c κs. search needs) (λ c. search needs) (λ c. search needs)
+    (λ c. search needs) loop-again returns)

@@ -1,20 +1,8 @@
 -- `office_sheet::put_text` meets its contract. Assumes nothing.
 use Rattle.office_sheet.proofs.Taking.{table-refused, table-taken}
-use borrow.Author.Needs.{needs}
+use Rattle.ground.proofs.Kit.{needs}
 use Rattle.office_sheet.proofs.put_text.Statement.{statement}
 use Rattle.office_sheet.proofs.put_text.Tie as tie
-
-export-requires : tie.Need-export-requires
-export-requires c κs = search needs
-
-enum-known-refusal : tie.Need-enum-known-refusal
-enum-known-refusal c = search needs
-
-put-refusal-requires : tie.Need-put-refusal-requires
-put-refusal-requires c κs = search needs
-
-enum-known-k : tie.Need-enum-known-k
-enum-known-k c = search needs
 
 returns : tie.Need-returns
 returns c =
@@ -26,12 +14,4 @@ returns-2 c =
     table-taken _ _ (search needs) _ _ (rw (c .before .k .given .1) at (c .before .before .before .export .ensures))
 
 pub put-text-spec : {M : Type 1} → statement M
-put-text-spec =
-    tie.close
-    (tie.spec
-    export-requires
-    enum-known-refusal
-    put-refusal-requires
-    enum-known-k
-    returns
-    returns-2)
+put-text-spec = tie.close (tie.spec (λ c κs. search needs) (λ c. search needs) (λ c κs. search needs) (λ c. search needs) returns returns-2)

@@ -1,13 +1,11 @@
 -- `plain::decide_in` meets its contract. Assumes nothing.
-use mathlib.Core.Bool.{true}
-use mathlib.Core.Path.{_∙_}
+use Rattle.ground.proofs.Kit.{true, _∙_, needs}
 use Rattle.springs.specs.Columns.{Columns, columns}
 use Rattle.springs.proofs.Columns.{held-columns}
 use Rattle.admission.proofs.Chain.{passed-served}
 use Rattle.admission.proofs.Opened.{Opened, opened}
 use Rattle.plan.proofs.Found.{refused-found, admitted-found, answered-at, refused-held}
 use Rattle.plain.proofs.Stepping.{step-found, step-held}
-use borrow.Author.Needs.{needs}
 use Rattle.plain.proofs.decide_in.Statement.{statement}
 use Rattle.plain.proofs.decide_in.Tie as tie
 
@@ -27,18 +25,6 @@ begun : (c : tie.After-enum-told) → let a = start (c .before .before) .args in
     Opened true (a .settings) (a .table .rows) (a .table .n) (a .room) (springs (c .before .before))
 begun c = let d = c .before .before in opened true _ _ _ _ _ (springs d) (d .admit .ensures) (c .enum-told .given .1)
 
-admit-requires : tie.Need-admit-requires
-admit-requires c κs = search needs
-
-enum-told : tie.Need-enum-told
-enum-told c = search needs
-
-enum-told-2 : tie.Need-enum-told-2
-enum-told-2 c = search needs
-
-decide-requires : tie.Need-decide-requires
-decide-requires c κs = search needs
-
 returns : tie.Need-returns
 returns c =
     let e = c .before .enum-told2 .given .1 in
@@ -55,9 +41,6 @@ least-step-requires c κs =
     let b = begun (half-lent .before .before .before) in
     let p = b .ready .passed in
     (b .sprung .roomy .largest, record { few = p .few; within = b .within; allowed = b .allowed; whole = b .whole }, p .m-some, p .m-most, passed-served true _ _ _ _ p)
-
-decide-requires-2 : tie.Need-decide-requires-2
-decide-requires-2 c κs = search needs
 
 returns-2 : tie.Need-returns-2
 returns-2 c =
@@ -81,12 +64,5 @@ returns-2 c =
 pub decide-in-spec : {M : Type 1} → statement M
 decide-in-spec =
     tie.close
-    (tie.spec
-    admit-requires
-    enum-told
-    enum-told-2
-    decide-requires
-    returns
-    least-step-requires
-    decide-requires-2
-    returns-2)
+    (tie.spec (λ c κs. search needs) (λ c. search needs) (λ c. search needs) (λ c κs. search needs) returns least-step-requires
+    (λ c κs. search needs) returns-2)

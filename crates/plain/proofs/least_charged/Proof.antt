@@ -1,9 +1,5 @@
 -- `plain::least_charged` meets its contract. Assumes nothing.
-use Prim.Native.Nat.{ℕ, _-_, _≤_, _<_}
-use mathlib.Core.Bool.{Bool, false}
-use mathlib.Core.Path.{_≡_, sym, _∙_}
-use native.Mathlib.Omega.{arith}
-use lib.ListN.{length}
+use Rattle.ground.proofs.Kit.{ℕ, _-_, _≤_, _<_, Bool, false, _≡_, sym, _∙_, arith, length}
 use Rattle.ground.proofs.First.{first-more}
 use Rattle.ground.proofs.Least.{least-here, least-none}
 use Rattle.kinds.specs.Limits.{mostTasks}
@@ -58,12 +54,6 @@ returns-2 c =
     least-none (test s) _ _ (first-more (test s) 0 _ (l .loop .inv .2) (sym (p .passes-charged .ensures .0) ∙ c .before .if1 .left))
     (omega (arith, f .full-compression .ensures, c .if2 .taken))
 
-add-step : tie.Need-add-step Inv-loop μ-loop
-add-step c = omega arith
-
-loop-less : tie.Need-loop-less Inv-loop μ-loop
-loop-less c = omega arith
-
 loop-again : tie.Need-loop-again Inv-loop μ-loop
 loop-again c =
     let i = c .before in
@@ -75,14 +65,5 @@ loop-again c =
 pub least-charged-spec : {M : Type 1} → statement M
 least-charged-spec =
     tie.close
-    (tie.spec
-    Inv-loop
-    μ-loop
-    full-compression-requires
-    loop-holds
-    passes-charged-requires
-    returns
-    returns-2
-    add-step
-    loop-less
+    (tie.spec Inv-loop μ-loop full-compression-requires loop-holds passes-charged-requires returns returns-2 (λ c. omega arith) (λ c. omega arith)
     loop-again)

@@ -1,6 +1,5 @@
 -- `plain::least_shared` meets its contract. Assumes nothing.
-use Prim.Native.Nat.{_-_, _≤_}
-use native.Mathlib.Omega.{arith}
+use Rattle.ground.proofs.Kit.{_-_, _≤_, arith}
 use Rattle.springs.specs.Columns.{springIn}
 use Rattle.plain.proofs.Stepping.{Stepped, first-loads, stepped-none, stepped-loads, stepped-within, stepped-here, stepped-end, stepped-more}
 use Rattle.plain.proofs.least_shared.Statement.{statement}
@@ -63,12 +62,6 @@ next-shares-requires c κs =
     stepped-within (a .policy) (a .m) (a .shares .now) (a .least .now) (a .elasticity .now) (a .saturation .now) _ (s .pre .0) _ _ _ w in
     (s .pre .0 .few, w .held .long, within)
 
-add-k : tie.Need-add-k Inv-loop μ-loop
-add-k c = omega arith
-
-loop-less : tie.Need-loop-less Inv-loop μ-loop
-loop-less c = omega arith
-
 loop-again : tie.Need-loop-again Inv-loop μ-loop
 loop-again c =
     let i = c .before .before .before in
@@ -85,16 +78,5 @@ loop-again c =
 pub least-shared-spec : {M : Type 1} → statement M
 least-shared-spec =
     tie.close
-    (tie.spec
-    Inv-loop
-    μ-loop
-    full-compression-requires
-    total-of-requires
-    loop-holds
-    passes-summed-requires
-    returns
-    returns-2
-    next-shares-requires
-    add-k
-    loop-less
-    loop-again)
+    (tie.spec Inv-loop μ-loop full-compression-requires total-of-requires loop-holds passes-summed-requires returns returns-2 next-shares-requires
+    (λ c. omega arith) (λ c. omega arith) loop-again)

@@ -1,16 +1,9 @@
 -- `plain::least_step` meets its contract. Assumes nothing.
-use mathlib.Core.Path.{sym, _∙_}
+use Rattle.ground.proofs.Kit.{sym, _∙_, needs}
 use Rattle.springs.specs.Columns.{springIn}
 use Rattle.plain.proofs.Stepping.{as-first, as-second}
-use borrow.Author.Needs.{needs}
 use Rattle.plain.proofs.least_step.Statement.{statement}
 use Rattle.plain.proofs.least_step.Tie as tie
-
-meant-requires : tie.Need-meant-requires
-meant-requires c κs = search needs
-
-tests-charge-requires : tie.Need-tests-charge-requires
-tests-charge-requires c κs = search needs
 
 least-charged-requires : tie.Need-least-charged-requires
 least-charged-requires c κs =
@@ -54,11 +47,4 @@ returns-2 c =
 pub least-step-spec : {M : Type 1} → statement M
 least-step-spec =
     tie.close
-    (tie.spec
-    meant-requires
-    tests-charge-requires
-    least-charged-requires
-    let-down-to-requires
-    returns
-    least-shared-requires
-    returns-2)
+    (tie.spec (λ c κs. search needs) (λ c κs. search needs) least-charged-requires let-down-to-requires returns least-shared-requires returns-2)

@@ -1,16 +1,11 @@
 -- `plan::grant` meets its contract. Assumes nothing.
-use Prim.Native.Nat.{ℕ}
-use mathlib.Core.Bool.{true}
-use mathlib.Core.List.{List, _++_}
-use mathlib.Core.Path.{_≡_, _∙_, sym, ap}
-use lib.ListN.{drop}
+use Rattle.ground.proofs.Kit.{ℕ, true, List, _++_, _≡_, sym, _∙_, ap, drop, needs}
 use Rattle.kinds.specs.Answer.{isAccepted}
 use Rattle.kinds.specs.Policy.{meant}
 use Rattle.springs.specs.Columns.{loadBy}
 use Rattle.fit.specs.Fit.{loadIn}
 use Rattle.plan.proofs.Processors.{processors-same, placeable-same}
 use Rattle.plan.proofs.Writing.{leaves-refused, leaves-accepted}
-use borrow.Author.Needs.{needs}
 use Rattle.plan.proofs.grant.Statement.{statement}
 use Rattle.plan.proofs.grant.Tie as tie
 
@@ -26,9 +21,6 @@ begun c = let periods-written = c .before .before .before .before in periods-wri
 abbrev column : tie.After-loads-of → List ℕ
 column c = c .loads-of .last .1 .1 .1 .0
 
-accepted-requires : tie.Need-accepted-requires
-accepted-requires c κs = search needs
-
 write-periods-requires : tie.Need-write-periods-requires
 write-periods-requires c κs =
     let i = c .before .before in
@@ -42,9 +34,6 @@ loads-of-requires c κs =
     let g = i .before .before .before .before .pre (granted i) in
     (g .placeable .few, g .long, g .allowed)
 
-meant-requires : tie.Need-meant-requires
-meant-requires c κs = search needs
-
 write-processors-requires : tie.Need-write-processors-requires
 write-processors-requires c κs =
     let m = c .before .before in
@@ -54,12 +43,6 @@ write-processors-requires c κs =
     rw (m .meant .ensures)
     (placeable-same (meant (a .settings .policy)) (a .settings .m) (loadIn (column l)) (loadBy (a .settings) (a .cost .now) (a .tmin .now) (a .shares .now)) _
     (l .loads-of .ensures) _ (s .pre (granted (begun l)) .placeable))
-
-same-length : tie.Need-same-length
-same-length c = search needs
-
-same-length-2 : tie.Need-same-length-2
-same-length-2 c = search needs
 
 returns : tie.Need-returns
 returns c =
@@ -81,13 +64,5 @@ returns-2 c = leaves-refused (c .before .before .before .before .args .answer) _
 pub grant-spec : {M : Type 1} → statement M
 grant-spec =
     tie.close
-    (tie.spec
-    accepted-requires
-    write-periods-requires
-    loads-of-requires
-    meant-requires
-    write-processors-requires
-    same-length
-    same-length-2
-    returns
-    returns-2)
+    (tie.spec (λ c κs. search needs) write-periods-requires loads-of-requires (λ c κs. search needs) write-processors-requires (λ c. search needs)
+    (λ c. search needs) returns returns-2)

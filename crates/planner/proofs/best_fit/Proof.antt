@@ -20,9 +20,6 @@ processor c =
     let t = c .before .before .before .before .before in
     omega (arith, c .if1 .left, t .before .before .pre .1)
 
-loop-holds : tie.Need-loop-holds Inv-loop μ-loop
-loop-holds c = omega arith
-
 heaviest-requires : tie.Need-heaviest-requires Inv-loop μ-loop
 heaviest-requires c κs = (omega (arith, c .before .loop-test .taken), c .before .before .before .pre .0 .few)
 
@@ -37,9 +34,6 @@ fullest-requires c κs =
     let h = c .before in
     let s = h .before .before .before .before in
     (s .pre .0 .most _ (h .heaviest .ensures), s .pre .1)
-
-returns : tie.Need-returns Inv-loop μ-loop
-returns c = tt
 
 mul-held : tie.Need-mul-held Inv-loop μ-loop
 mul-held c = omega (arith, processor c)
@@ -74,42 +68,9 @@ mul-processors c = omega (arith, task (c .before .before .before))
 array-write-processors : tie.Need-array-write-processors Inv-loop μ-loop
 array-write-processors c = task (c .before .before .before)
 
-add-placed : tie.Need-add-placed Inv-loop μ-loop
-add-placed c = omega arith
-
-loop-less : tie.Need-loop-less Inv-loop μ-loop
-loop-less c = omega arith
-
-loop-again : tie.Need-loop-again Inv-loop μ-loop
-loop-again c = omega arith
-
-returns-2 : tie.Need-returns-2 Inv-loop μ-loop
-returns-2 c = tt
-
 pub best-fit-spec : {M : Type 1} → statement M
 best-fit-spec =
     tie.close
-    (tie.spec
-    Inv-loop
-    μ-loop
-    loop-holds
-    heaviest-requires
-    mul-load
-    array-read-load
-    fullest-requires
-    returns
-    mul-held
-    array-read-held
-    add-held
-    mul-held-2
-    array-write-held
-    mul-left
-    array-write-left
-    add-processors
-    cast-processors
-    mul-processors
-    array-write-processors
-    add-placed
-    loop-less
-    loop-again
-    returns-2)
+    (tie.spec Inv-loop μ-loop (λ c. omega arith) heaviest-requires mul-load array-read-load fullest-requires (λ c. tt) mul-held array-read-held
+    add-held mul-held-2 array-write-held mul-left array-write-left add-processors cast-processors mul-processors array-write-processors
+    (λ c. omega arith) (λ c. omega arith) (λ c. omega arith) (λ c. tt))

@@ -19,12 +19,6 @@ fuller-requires c κs =
     let l = c .before in
     (l .before .pre .0, c .loop-test .taken, l .before .pre .1, l .loop .inv .1)
 
-add-j : tie.Need-add-j Inv-loop μ-loop
-add-j c = omega arith
-
-loop-less : tie.Need-loop-less Inv-loop μ-loop
-loop-less c = omega arith
-
 loop-again : tie.Need-loop-again Inv-loop μ-loop
 loop-again c = (omega arith, c .fuller .ensures)
 
@@ -32,6 +26,4 @@ returns : tie.Need-returns Inv-loop μ-loop
 returns c = c .before .loop .inv .1
 
 pub fullest-spec : {M : Type 1} → statement M
-fullest-spec =
-    tie.close
-    (tie.spec Inv-loop μ-loop loop-holds fuller-requires add-j loop-less loop-again returns)
+fullest-spec = tie.close (tie.spec Inv-loop μ-loop loop-holds fuller-requires (λ c. omega arith) (λ c. omega arith) loop-again returns)

@@ -18,12 +18,6 @@ heavier-requires c κs =
     let l = c .before in
     (l .loop .inv .1, c .loop-test .taken, l .before .pre .1)
 
-add-i : tie.Need-add-i Inv-loop μ-loop
-add-i c = omega arith
-
-loop-less : tie.Need-loop-less Inv-loop μ-loop
-loop-less c = omega arith
-
 loop-again : tie.Need-loop-again Inv-loop μ-loop
 loop-again c = (omega arith, c .heavier .ensures)
 
@@ -31,6 +25,4 @@ returns : tie.Need-returns Inv-loop μ-loop
 returns c = c .before .loop .inv .1
 
 pub heaviest-spec : {M : Type 1} → statement M
-heaviest-spec =
-    tie.close
-    (tie.spec Inv-loop μ-loop loop-holds heavier-requires add-i loop-less loop-again returns)
+heaviest-spec = tie.close (tie.spec Inv-loop μ-loop loop-holds heavier-requires (λ c. omega arith) (λ c. omega arith) loop-again returns)

@@ -1,8 +1,5 @@
 -- `policy::charged_total` meets its contract. Assumes nothing.
-use Prim.Native.Nat.{_-_, _≤_}
-use mathlib.Core.Path.{_≡_, ap, _∙_}
-use native.Mathlib.Omega.{arith}
-use lib.ListN.{getD}
+use Rattle.ground.proofs.Kit.{_-_, _≤_, _≡_, _∙_, ap, arith, getD}
 use Rattle.springs.specs.Columns.{springIn, chargeOn, chargesOn}
 use Rattle.springs.proofs.Carried.{on-spring}
 use Rattle.springs.proofs.Charged.{may-charge}
@@ -21,36 +18,6 @@ abbrev μ-loop : tie.MeasureT-loop
 loop-holds : tie.Need-loop-holds Inv-loop μ-loop
 loop-holds c = (omega arith, total-none _)
 
-mul-charge-at : tie.Need-mul-charge-at Inv-loop μ-loop
-mul-charge-at c = omega arith
-
-element-copy-out-charge-at : tie.Need-element-copy-out-charge-at Inv-loop μ-loop
-element-copy-out-charge-at c = omega arith
-
-mul-charge-at-2 : tie.Need-mul-charge-at-2 Inv-loop μ-loop
-mul-charge-at-2 c = omega arith
-
-element-copy-out-charge-at-2 : tie.Need-element-copy-out-charge-at-2 Inv-loop μ-loop
-element-copy-out-charge-at-2 c = omega arith
-
-mul-charge-at-3 : tie.Need-mul-charge-at-3 Inv-loop μ-loop
-mul-charge-at-3 c = omega arith
-
-element-copy-out-charge-at-3 : tie.Need-element-copy-out-charge-at-3 Inv-loop μ-loop
-element-copy-out-charge-at-3 c = omega arith
-
-mul-charge-at-4 : tie.Need-mul-charge-at-4 Inv-loop μ-loop
-mul-charge-at-4 c = omega arith
-
-element-copy-out-charge-at-4 : tie.Need-element-copy-out-charge-at-4 Inv-loop μ-loop
-element-copy-out-charge-at-4 c = omega arith
-
-mul-charge-at-5 : tie.Need-mul-charge-at-5 Inv-loop μ-loop
-mul-charge-at-5 c = omega arith
-
-element-copy-out-charge-at-5 : tie.Need-element-copy-out-charge-at-5 Inv-loop μ-loop
-element-copy-out-charge-at-5 c = omega arith
-
 charge-at-requires : tie.Need-charge-at-requires Inv-loop μ-loop
 charge-at-requires c κs =
     let copied = c .before .before .before in
@@ -61,15 +28,6 @@ charge-at-requires c κs =
 
 add-sum : tie.Need-add-sum Inv-loop μ-loop
 add-sum c = omega (arith, c .charge-at .ensures .1)
-
-later-requires : tie.Need-later-requires Inv-loop μ-loop
-later-requires c κs = tt
-
-add-i : tie.Need-add-i Inv-loop μ-loop
-add-i c = omega arith
-
-loop-less : tie.Need-loop-less Inv-loop μ-loop
-loop-less c = omega arith
 
 loop-again : tie.Need-loop-again Inv-loop μ-loop
 loop-again c =
@@ -83,12 +41,6 @@ loop-again c =
     let is = h .charge-at .ensures .0 ∙ ap (chargeOn (a .notch) (getD (a .cost .now) i 0) (getD (a .tmin .now) i 0)) share in
     (omega arith, total-more charges _ _ _ _ _ (l .loop .inv .1) is (h .charge-at .ensures .1) (c .later .ensures))
 
-widened-requires : tie.Need-widened-requires Inv-loop μ-loop
-widened-requires c κs = tt
-
-widened-requires-2 : tie.Need-widened-requires-2 Inv-loop μ-loop
-widened-requires-2 c κs = tt
-
 returns : tie.Need-returns Inv-loop μ-loop
 returns c =
     let l = c .before .before .before in
@@ -98,26 +50,6 @@ returns c =
 pub charged-total-spec : {M : Type 1} → statement M
 charged-total-spec =
     tie.close
-    (tie.spec
-    Inv-loop
-    μ-loop
-    loop-holds
-    mul-charge-at
-    element-copy-out-charge-at
-    mul-charge-at-2
-    element-copy-out-charge-at-2
-    mul-charge-at-3
-    element-copy-out-charge-at-3
-    mul-charge-at-4
-    element-copy-out-charge-at-4
-    mul-charge-at-5
-    element-copy-out-charge-at-5
-    charge-at-requires
-    add-sum
-    later-requires
-    add-i
-    loop-less
-    loop-again
-    widened-requires
-    widened-requires-2
-    returns)
+    (tie.spec Inv-loop μ-loop loop-holds (λ c. omega arith) (λ c. omega arith) (λ c. omega arith) (λ c. omega arith) (λ c. omega arith)
+    (λ c. omega arith) (λ c. omega arith) (λ c. omega arith) (λ c. omega arith) (λ c. omega arith) charge-at-requires add-sum (λ _ _. tt)
+    (λ c. omega arith) (λ c. omega arith) loop-again (λ _ _. tt) (λ _ _. tt) returns)

@@ -1,6 +1,5 @@
 -- `policy::left_of` meets its contract. Assumes nothing.
-use native.Mathlib.Omega.{arith}
-use mathlib.Core.Path.{refl}
+use Rattle.ground.proofs.Kit.{refl, arith}
 use Rattle.policy.proofs.OneForm.{max-part}
 use Rattle.policy.proofs.left_of.Statement.{statement}
 use Rattle.policy.proofs.left_of.Tie as tie

@@ -1,21 +1,8 @@
 -- `policy::margin_of` meets its contract. Assumes nothing.
-use mathlib.Core.Path.{_∙_}
+use Rattle.ground.proofs.Kit.{_∙_, needs}
 use Rattle.policy.proofs.Tests.{margin-worked-out}
-use borrow.Author.Needs.{needs}
 use Rattle.policy.proofs.margin_of.Statement.{statement}
 use Rattle.policy.proofs.margin_of.Tie as tie
-
-weights-of-requires : tie.Need-weights-of-requires
-weights-of-requires c κs = search needs
-
-total-of-requires : tie.Need-total-of-requires
-total-of-requires c κs = search needs
-
-left-of-requires : tie.Need-left-of-requires
-left-of-requires c κs = search needs
-
-difference-requires : tie.Need-difference-requires
-difference-requires c κs = search needs
 
 returns : tie.Need-returns
 returns c =
@@ -25,11 +12,4 @@ returns c =
     search needs ∙ (c .difference .ensures ∙ worked)
 
 pub margin-of-spec : {M : Type 1} → statement M
-margin-of-spec =
-    tie.close
-    (tie.spec
-    weights-of-requires
-    total-of-requires
-    left-of-requires
-    difference-requires
-    returns)
+margin-of-spec = tie.close (tie.spec (λ c κs. search needs) (λ c κs. search needs) (λ c κs. search needs) (λ c κs. search needs) returns)

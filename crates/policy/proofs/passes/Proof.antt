@@ -1,15 +1,8 @@
 -- `policy::passes` meets its contract. Assumes nothing.
-use mathlib.Core.Path.{_∙_, sym}
+use Rattle.ground.proofs.Kit.{sym, _∙_, needs}
 use Rattle.policy.proofs.Tests.{passes-worked-out, first-fit-passes}
-use borrow.Author.Needs.{needs}
 use Rattle.policy.proofs.passes.Statement.{statement}
 use Rattle.policy.proofs.passes.Tie as tie
-
-is-first-fit-requires : tie.Need-is-first-fit-requires
-is-first-fit-requires c κs = search needs
-
-first-fit-requires : tie.Need-first-fit-requires
-first-fit-requires c κs = search needs
 
 returns : tie.Need-returns
 returns c =
@@ -18,12 +11,6 @@ returns c =
 
 weights-of-requires : tie.Need-weights-of-requires
 weights-of-requires c κs = let p = c .before .before .pre in (p .1, p .2, p .0 .few)
-
-total-of-requires : tie.Need-total-of-requires
-total-of-requires c κs = search needs
-
-left-of-requires : tie.Need-left-of-requires
-left-of-requires c κs = search needs
 
 returns-2 : tie.Need-returns-2
 returns-2 c =
@@ -37,11 +24,4 @@ returns-2 c =
 pub passes-spec : {M : Type 1} → statement M
 passes-spec =
     tie.close
-    (tie.spec
-    is-first-fit-requires
-    first-fit-requires
-    returns
-    weights-of-requires
-    total-of-requires
-    left-of-requires
-    returns-2)
+    (tie.spec (λ c κs. search needs) (λ c κs. search needs) returns weights-of-requires (λ c κs. search needs) (λ c κs. search needs) returns-2)

@@ -1,12 +1,9 @@
 -- `policy::passes_charged` meets its contract. Assumes nothing.
-use Prim.Native.Nat.{ℕ}
-use mathlib.Core.List.{List}
-use mathlib.Core.Path.{sym, _∙_}
+use Rattle.ground.proofs.Kit.{ℕ, List, sym, _∙_, needs}
 use Rattle.springs.specs.Columns.{springIn, chargesOn}
 use Rattle.springs.proofs.Charged.{charges-most}
 use Rattle.fit.specs.Fit.{loadIn}
 use Rattle.policy.proofs.Tests.{first-fit-passes, passes-same, passes-worked-out}
-use borrow.Author.Needs.{needs}
 use Rattle.policy.proofs.passes_charged.Statement.{statement}
 use Rattle.policy.proofs.passes_charged.Tie as tie
 
@@ -19,12 +16,6 @@ abbrev charges : tie.Start → ℕ → ℕ → ℕ
 charges s =
     let a = s .args in
     chargesOn (a .notch) (a .cost .now) (a .tmin .now) (springIn (a .largest .now) (a .least .now) (a .elasticity .now))
-
-is-first-fit-requires : tie.Need-is-first-fit-requires
-is-first-fit-requires c κs = search needs
-
-charges-at-requires : tie.Need-charges-at-requires
-charges-at-requires c κs = search needs
 
 first-fit-requires : tie.Need-first-fit-requires
 first-fit-requires c κs =
@@ -51,12 +42,6 @@ returns c =
 weights-of-requires : tie.Need-weights-of-requires
 weights-of-requires c κs = let p = c .before .before .pre in (p .2, p .3, p .0 .few)
 
-charged-total-requires : tie.Need-charged-total-requires
-charged-total-requires c κs = search needs
-
-left-of-requires : tie.Need-left-of-requires
-left-of-requires c κs = search needs
-
 returns-2 : tie.Need-returns-2
 returns-2 c =
     let l = c .before in
@@ -74,12 +59,5 @@ returns-2 c =
 pub passes-charged-spec : {M : Type 1} → statement M
 passes-charged-spec =
     tie.close
-    (tie.spec
-    is-first-fit-requires
-    charges-at-requires
-    first-fit-requires
-    returns
-    weights-of-requires
-    charged-total-requires
-    left-of-requires
-    returns-2)
+    (tie.spec (λ c κs. search needs) (λ c κs. search needs) first-fit-requires returns weights-of-requires (λ c κs. search needs)
+    (λ c κs. search needs) returns-2)

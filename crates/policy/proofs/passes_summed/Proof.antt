@@ -1,9 +1,7 @@
 -- `policy::passes_summed` meets its contract. Assumes nothing.
-use mathlib.Core.Path.{sym}
-use native.Mathlib.Omega.{arith}
+use Rattle.ground.proofs.Kit.{sym, arith, needs}
 use Rattle.fit.specs.Fit.{loadIn}
 use Rattle.policy.proofs.Tests.{too-much}
-use borrow.Author.Needs.{needs}
 use Rattle.policy.proofs.passes_summed.Statement.{statement}
 use Rattle.policy.proofs.passes_summed.Tie as tie
 
@@ -18,11 +16,5 @@ returns c =
     let p = s .pre in
     sym (too-much (a .policy) (a .m) (loadIn (a .loads .now)) (a .n) (p .2) (p .3) (omega (arith, p .4, most .most-sum .ensures)))
 
-passes-requires : tie.Need-passes-requires
-passes-requires c κs = search needs
-
-returns-2 : tie.Need-returns-2
-returns-2 c = search needs
-
 pub passes-summed-spec : {M : Type 1} → statement M
-passes-summed-spec = tie.close (tie.spec most-sum-requires returns passes-requires returns-2)
+passes-summed-spec = tie.close (tie.spec most-sum-requires returns (λ c κs. search needs) (λ c. search needs))

@@ -1,7 +1,5 @@
 -- `policy::total_of` meets its contract. Assumes nothing.
-use Prim.Native.Nat.{_-_, _≤_}
-use mathlib.Core.Path.{_≡_, refl}
-use native.Mathlib.Omega.{arith}
+use Rattle.ground.proofs.Kit.{_-_, _≤_, _≡_, refl, arith}
 use Rattle.fit.specs.Fit.{loadIn}
 use Rattle.policy.specs.Handover.{TotalIs}
 use Rattle.policy.proofs.Totals.{total-none, total-more}
@@ -17,37 +15,16 @@ abbrev μ-loop : tie.MeasureT-loop
 loop-holds : tie.Need-loop-holds Inv-loop μ-loop
 loop-holds c = (omega arith, total-none _)
 
-mul-load : tie.Need-mul-load Inv-loop μ-loop
-mul-load c = omega arith
-
-element-copy-out-load : tie.Need-element-copy-out-load Inv-loop μ-loop
-element-copy-out-load c = omega arith
-
 add-sum : tie.Need-add-sum Inv-loop μ-loop
 add-sum c =
     let t = c .before in
     omega (arith, t .before .before .pre .most _ (t .loop-test .taken))
-
-later-requires : tie.Need-later-requires Inv-loop μ-loop
-later-requires c κs = tt
-
-add-i : tie.Need-add-i Inv-loop μ-loop
-add-i c = omega arith
-
-loop-less : tie.Need-loop-less Inv-loop μ-loop
-loop-less c = omega arith
 
 loop-again : tie.Need-loop-again Inv-loop μ-loop
 loop-again c =
     let t = c .before .before in
     let s = t .before .before in
     (omega arith, total-more (loadIn (s .args .loads .now)) _ _ _ _ _ (t .before .loop .inv .1) refl (s .pre .most _ (t .loop-test .taken)) (c .later .ensures))
-
-widened-requires : tie.Need-widened-requires Inv-loop μ-loop
-widened-requires c κs = tt
-
-widened-requires-2 : tie.Need-widened-requires-2 Inv-loop μ-loop
-widened-requires-2 c κs = tt
 
 returns : tie.Need-returns Inv-loop μ-loop
 returns c =
@@ -58,17 +35,5 @@ returns c =
 pub total-of-spec : {M : Type 1} → statement M
 total-of-spec =
     tie.close
-    (tie.spec
-    Inv-loop
-    μ-loop
-    loop-holds
-    mul-load
-    element-copy-out-load
-    add-sum
-    later-requires
-    add-i
-    loop-less
-    loop-again
-    widened-requires
-    widened-requires-2
-    returns)
+    (tie.spec Inv-loop μ-loop loop-holds (λ c. omega arith) (λ c. omega arith) add-sum (λ _ _. tt) (λ c. omega arith) (λ c. omega arith) loop-again
+    (λ _ _. tt) (λ _ _. tt) returns)

@@ -1,8 +1,5 @@
 -- `proposal::admit` meets its contract. Assumes nothing.
-use Prim.Native.Nat.{_≤_}
-use mathlib.Core.Path.{refl, sym, _∙_}
-use borrow.Author.Tests.{lt-ltb, le-ltb}
-use native.Mathlib.Omega.{arith}
+use Rattle.ground.proofs.Kit.{_≤_, refl, sym, _∙_, arith, needs, lt-ltb, le-ltb}
 use Rattle.share.specs.Table.{firstBad}
 use Rattle.springs.specs.Columns.{Columns, columns}
 use Rattle.springs.specs.Handover.{Sprung}
@@ -11,7 +8,6 @@ use Rattle.policy.specs.Under.{rowsUnder}
 use Rattle.admission.proofs.Chain.{not-admitted}
 use Rattle.proposal.specs.Proposal.{admission}
 use Rattle.proposal.proofs.Admitting.{Passed, gate-passed, springs-within, shares-allowed, loads-loaded}
-use borrow.Author.Needs.{needs}
 use Rattle.proposal.proofs.admit.Statement.{statement}
 use Rattle.proposal.proofs.admit.Tie as tie
 
@@ -38,15 +34,6 @@ none-bad c = omega (arith, c .if1 .left, c .before .springs-of .ensures .first)
 sprung : (c : tie.Else1) → let a = told (c .before) .before .before .before .args in
     Sprung (rowsUnder (a .settings) (a .table .rows) (a .table .n)) (a .table .n) (springs (c .before))
 sprung c = sprung-front _ _ _ _ (c .if1 .left) (c .before .springs-of .ensures .sprung)
-
-gate-of-requires : tie.Need-gate-of-requires
-gate-of-requires c κs = search needs
-
-enum-told : tie.Need-enum-told
-enum-told c = search needs
-
-enum-told-2 : tie.Need-enum-told-2
-enum-told-2 c = search needs
 
 returns : tie.Need-returns
 unfolding admission
@@ -112,13 +99,5 @@ returns-3 c =
 pub admit-spec : {M : Type 1} → statement M
 admit-spec =
     tie.close
-    (tie.spec
-    gate-of-requires
-    enum-told
-    enum-told-2
-    returns
-    springs-of-requires
-    returns-2
-    shares-at-requires
-    loads-of-requires
-    returns-3)
+    (tie.spec (λ c κs. search needs) (λ c. search needs) (λ c. search needs) returns springs-of-requires returns-2 shares-at-requires
+    loads-of-requires returns-3)

@@ -1,10 +1,5 @@
 -- `proposal::before_overfull` meets its contract. Assumes nothing.
-use Prim.Native.Nat.{ℕ, _-_, _≤_, _<_}
-use mathlib.Core.Bool.{false}
-use mathlib.Core.Path.{_≡_, refl, sym, _∙_}
-use native.Mathlib.Omega.{arith}
-use lib.ListN.{getD}
-use borrow.Author.Tests.{lt-ltb, le-ltb}
+use Rattle.ground.proofs.Kit.{ℕ, _-_, _≤_, _<_, false, _≡_, refl, sym, _∙_, arith, getD, lt-ltb, le-ltb}
 use Rattle.ground.proofs.First.{first-here, first-more, first-none}
 use Rattle.kinds.specs.Limits.{scale}
 use Rattle.proposal.specs.Loads.{isOverfull}
@@ -17,17 +12,8 @@ Inv-loop m held most j₀ j = (j ≤ m) × (most ≡ scale) × ((x : ℕ) → x 
 abbrev μ-loop : tie.MeasureT-loop
 μ-loop m held most j₀ j = m - j
 
-cast-most : tie.Need-cast-most Inv-loop μ-loop
-cast-most c = omega arith
-
 loop-holds : tie.Need-loop-holds Inv-loop μ-loop
 loop-holds c = (omega arith, refl, λ x l. absurd (omega arith))
-
-mul-if1 : tie.Need-mul-if1 Inv-loop μ-loop
-mul-if1 c = omega arith
-
-array-read-if1 : tie.Need-array-read-if1 Inv-loop μ-loop
-array-read-if1 c = omega arith
 
 returns : tie.Need-returns Inv-loop μ-loop
 returns c =
@@ -35,12 +21,6 @@ returns c =
     let l = t .before in
     first-here (λ (x : ℕ). isOverfull (getD (l .before .args .t1) x 0)) _ _ (l .loop .inv .2) (t .loop-test .taken)
     (lt-ltb scale (getD (l .before .args .t1) (l .loop .j) 0) (omega (arith, l .loop .inv .1, c .if1 .taken)))
-
-add-j : tie.Need-add-j Inv-loop μ-loop
-add-j c = omega arith
-
-loop-less : tie.Need-loop-less Inv-loop μ-loop
-loop-less c = omega arith
 
 loop-again : tie.Need-loop-again Inv-loop μ-loop
 loop-again c =
@@ -60,15 +40,5 @@ returns-2 c =
 pub before-overfull-spec : {M : Type 1} → statement M
 before-overfull-spec =
     tie.close
-    (tie.spec
-    Inv-loop
-    μ-loop
-    cast-most
-    loop-holds
-    mul-if1
-    array-read-if1
-    returns
-    add-j
-    loop-less
-    loop-again
-    returns-2)
+    (tie.spec Inv-loop μ-loop (λ c. omega arith) loop-holds (λ c. omega arith) (λ c. omega arith) returns (λ c. omega arith) (λ c. omega arith)
+    loop-again returns-2)

@@ -1,10 +1,5 @@
 -- `proposal::check` meets its contract. Assumes nothing.
-use Prim.Native.Nat.{ℕ, _≤_}
-use mathlib.Core.List.{List, _++_}
-use mathlib.Core.Path.{_≡_, sym, ap, _∙_}
-use native.Mathlib.Omega.{arith}
-use lib.ListN.{length, drop}
-use borrow.Author.Needs.{needs}
+use Rattle.ground.proofs.Kit.{ℕ, _≤_, List, _++_, _≡_, sym, _∙_, ap, arith, length, drop, needs}
 use Rattle.policy.specs.Under.{loadsUnder}
 use Rattle.proposal.specs.Loads.{firstOutOfRange, beforeOverfull}
 use Rattle.proposal.specs.Proposal.{placeIn}
@@ -43,15 +38,6 @@ lowest c =
     let w = loaded (c .before .before .before .before .before) in
     c .before-overfull .ensures ∙ overfull-is _ _ _ _ _ _ (c .before .loads-of .ensures) (w .are) (w .m-most)
 
-admit-requires : tie.Need-admit-requires
-admit-requires c κs = search needs
-
-enum-told : tie.Need-enum-told
-enum-told c = search needs
-
-enum-told-2 : tie.Need-enum-told-2
-enum-told-2 c = search needs
-
 returns : tie.Need-returns
 returns c =
     let d = c .before .before in
@@ -73,14 +59,8 @@ loads-of-requires c κs =
     let t = e .before .before in
     may-load _ _ _ _ _ _ (loaded t) (ready t .passed .entries) (each e)
 
-cast-processors : tie.Need-cast-processors
-cast-processors c = search needs
-
 before-overfull-requires : tie.Need-before-overfull-requires
 before-overfull-requires c κs = loaded (c .before .before .before .before) .m-most
-
-add-lowest : tie.Need-add-lowest
-add-lowest c = search needs
 
 returns-3 : tie.Need-returns-3
 returns-3 c =
@@ -94,9 +74,6 @@ write-front-requires : tie.Need-write-front-requires
 write-front-requires c κs =
     let t = c .before .before .before .before .before .before .before in
     (loaded t .m-most, ready t .passed .roomy)
-
-same-length : tie.Need-same-length
-same-length c = search needs
 
 returns-4 : tie.Need-returns-4
 returns-4 c =
@@ -115,18 +92,5 @@ returns-4 c =
 pub check-spec : {M : Type 1} → statement M
 check-spec =
     tie.close
-    (tie.spec
-    admit-requires
-    enum-told
-    enum-told-2
-    returns
-    first-out-of-range-requires
-    returns-2
-    loads-of-requires
-    cast-processors
-    before-overfull-requires
-    add-lowest
-    returns-3
-    write-front-requires
-    same-length
-    returns-4)
+    (tie.spec (λ c κs. search needs) (λ c. search needs) (λ c. search needs) returns first-out-of-range-requires returns-2 loads-of-requires
+    (λ c. search needs) before-overfull-requires (λ c. search needs) returns-3 write-front-requires (λ c. search needs) returns-4)

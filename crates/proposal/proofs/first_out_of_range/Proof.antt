@@ -1,8 +1,5 @@
 -- `proposal::first_out_of_range` meets its contract. Assumes nothing.
-use Prim.Native.Nat.{ℕ, _-_, _≤_, _<_}
-use mathlib.Core.Bool.{false}
-use mathlib.Core.Path.{_≡_, sym, _∙_}
-use native.Mathlib.Omega.{arith}
+use Rattle.ground.proofs.Kit.{ℕ, _-_, _≤_, _<_, false, _≡_, sym, _∙_, arith}
 use Rattle.ground.proofs.First.{first-here, first-more, first-none}
 use Rattle.proposal.specs.Loads.{isOutOfRange, firstOutOfRange}
 use Rattle.proposal.specs.Proposal.{placeIn}
@@ -18,15 +15,6 @@ abbrev μ-loop : tie.MeasureT-loop
 loop-holds : tie.Need-loop-holds Inv-loop μ-loop
 loop-holds c = (omega arith, λ j l. absurd (omega arith))
 
-mul-processor : tie.Need-mul-processor Inv-loop μ-loop
-mul-processor c = omega arith
-
-shared-slice-read-processor : tie.Need-shared-slice-read-processor Inv-loop μ-loop
-shared-slice-read-processor c = omega arith
-
-out-of-range-requires : tie.Need-out-of-range-requires Inv-loop μ-loop
-out-of-range-requires c κs = tt
-
 returns : tie.Need-returns Inv-loop μ-loop
 unfolding firstOutOfRange
 returns c =
@@ -34,12 +22,6 @@ returns c =
     let a = t .before .before .before .args in
     first-here (λ x. isOutOfRange (a .m) (placeIn (a .proposal .now) x)) (a .n) _ (t .before .loop .inv .1) (t .loop-test .taken)
     (sym (c .before .out-of-range .ensures) ∙ c .if1 .taken)
-
-add-i : tie.Need-add-i Inv-loop μ-loop
-add-i c = omega arith
-
-loop-less : tie.Need-loop-less Inv-loop μ-loop
-loop-less c = omega arith
 
 loop-again : tie.Need-loop-again Inv-loop μ-loop
 loop-again c =
@@ -61,15 +43,5 @@ returns-2 c =
 pub first-out-of-range-spec : {M : Type 1} → statement M
 first-out-of-range-spec =
     tie.close
-    (tie.spec
-    Inv-loop
-    μ-loop
-    loop-holds
-    mul-processor
-    shared-slice-read-processor
-    out-of-range-requires
-    returns
-    add-i
-    loop-less
-    loop-again
+    (tie.spec Inv-loop μ-loop loop-holds (λ c. omega arith) (λ c. omega arith) (λ _ _. tt) returns (λ c. omega arith) (λ c. omega arith) loop-again
     returns-2)

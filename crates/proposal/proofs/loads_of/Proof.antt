@@ -1,7 +1,5 @@
 -- `proposal::loads_of` meets its contract. Assumes nothing.
-use Prim.Native.Nat.{_-_}
-use mathlib.Core.Path.{_≡_, refl}
-use native.Mathlib.Omega.{arith}
+use Rattle.ground.proofs.Kit.{_-_, _≡_, refl, arith}
 use Rattle.kinds.specs.Limits.{mostProcessors}
 use Rattle.fit.specs.Fit.{loadIn}
 use Rattle.proposal.specs.Loads.{InRange}
@@ -24,14 +22,8 @@ range c = let t = c .before .before in t .before .before .pre .each _ (t .loop-t
 loop-holds : tie.Need-loop-holds Inv-loop μ-loop
 loop-holds c = loading-none _ _ _
 
-mul-load : tie.Need-mul-load Inv-loop μ-loop
-mul-load c = omega arith
-
 element-copy-out-load : tie.Need-element-copy-out-load Inv-loop μ-loop
 element-copy-out-load c = omega (arith, c .before .before .pre .light .few)
-
-mul-j : tie.Need-mul-j Inv-loop μ-loop
-mul-j c = omega arith
 
 shared-slice-read-j : tie.Need-shared-slice-read-j Inv-loop μ-loop
 shared-slice-read-j c = omega (arith, c .before .before .before .before .pre .long)
@@ -61,12 +53,6 @@ mul-held-2 c = omega (arith, range c)
 array-write-held : tie.Need-array-write-held Inv-loop μ-loop
 array-write-held c = omega (arith, range c)
 
-add-i : tie.Need-add-i Inv-loop μ-loop
-add-i c = omega arith
-
-loop-less : tie.Need-loop-less Inv-loop μ-loop
-loop-less c = omega arith
-
 loop-again : tie.Need-loop-again Inv-loop μ-loop
 loop-again c =
     let t = c .before .before in
@@ -82,22 +68,5 @@ returns c = let e : c .before .loop .i ≡ c .before .before .args .n = omega ar
 pub loads-of-spec : {M : Type 1} → statement M
 loads-of-spec =
     tie.close
-    (tie.spec
-    Inv-loop
-    μ-loop
-    loop-holds
-    mul-load
-    element-copy-out-load
-    mul-j
-    shared-slice-read-j
-    cast-j
-    sub-j
-    mul-held
-    array-read-held
-    add-held
-    mul-held-2
-    array-write-held
-    add-i
-    loop-less
-    loop-again
-    returns)
+    (tie.spec Inv-loop μ-loop loop-holds (λ c. omega arith) element-copy-out-load (λ c. omega arith) shared-slice-read-j cast-j sub-j mul-held
+    array-read-held add-held mul-held-2 array-write-held (λ c. omega arith) (λ c. omega arith) loop-again returns)

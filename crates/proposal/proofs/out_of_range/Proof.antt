@@ -1,6 +1,5 @@
 -- `proposal::out_of_range` meets its contract. Assumes nothing.
-use native.Mathlib.Omega.{arith}
-use borrow.Author.Tests.{lt-ltb, le-ltb}
+use Rattle.ground.proofs.Kit.{arith, lt-ltb, le-ltb}
 use Rattle.proposal.proofs.out_of_range.Statement.{statement}
 use Rattle.proposal.proofs.out_of_range.Tie as tie
 

@@ -1,6 +1,5 @@
 -- `quick::decide_in` meets its contract. Assumes nothing.
-use mathlib.Core.Bool.{true, false}
-use mathlib.Core.Path.{_≡_, _∙_}
+use Rattle.ground.proofs.Kit.{true, false, _≡_, _∙_, needs}
 use Rattle.kinds.specs.Policy.{isWeighed, meant}
 use Rattle.admission.proofs.Chain.{passed-weighed}
 use Rattle.admission.proofs.Opened.{Opened, opened}
@@ -8,7 +7,6 @@ use Rattle.plan.proofs.Found.{refused-found, admitted-found, answered-at, refus
 use Rattle.springs.specs.Columns.{Columns, columns}
 use Rattle.springs.proofs.Columns.{sprung-saturates, shares-of, held-columns}
 use Rattle.quick.proofs.Served.{least-found, no-looks, some-looks}
-use borrow.Author.Needs.{needs}
 use Rattle.quick.proofs.decide_in.Statement.{statement}
 use Rattle.quick.proofs.decide_in.Tie as tie
 
@@ -31,18 +29,6 @@ begun c = let d = c .before .before in opened false _ _ _ _ _ (springs d) (d .ad
 -- the policy is weighed
 weighed : (c : tie.After-enum-told) → isWeighed (meant (start (c .before .before) .args .settings .policy)) ≡ true
 weighed c = passed-weighed _ _ _ _ (begun c .ready .passed)
-
-admit-requires : tie.Need-admit-requires
-admit-requires c κs = search needs
-
-enum-told : tie.Need-enum-told
-enum-told c = search needs
-
-enum-told-2 : tie.Need-enum-told-2
-enum-told-2 c = search needs
-
-decide-requires : tie.Need-decide-requires
-decide-requires c κs = search needs
 
 returns : tie.Need-returns
 returns c =
@@ -81,9 +67,6 @@ let-down-to-requires c κs =
     let b = begun (told (c .before .before .before)) in
     (b .ready .passed .few, b .sprung .roomy .largest, b .within)
 
-decide-requires-2 : tie.Need-decide-requires-2
-decide-requires-2 c κs = search needs
-
 returns-2 : tie.Need-returns-2
 returns-2 c =
     let h = c .before in
@@ -107,13 +90,5 @@ returns-2 c =
 pub decide-in-spec : {M : Type 1} → statement M
 decide-in-spec =
     tie.close
-    (tie.spec
-    admit-requires
-    enum-told
-    enum-told-2
-    decide-requires
-    returns
-    search-under-requires
-    let-down-to-requires
-    decide-requires-2
-    returns-2)
+    (tie.spec (λ c κs. search needs) (λ c. search needs) (λ c. search needs) (λ c κs. search needs) returns search-under-requires
+    let-down-to-requires (λ c κs. search needs) returns-2)

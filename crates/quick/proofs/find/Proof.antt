@@ -1,11 +1,8 @@
 -- `quick::find` meets its contract. Assumes nothing.
-use Prim.Native.Nat.{min}
-use mathlib.Core.Bool.{false}
-use lib.ListN.{length}
+use Rattle.ground.proofs.Kit.{min, false, length, needs}
 use Rattle.plan.proofs.Found.{may-grant, meets}
 use Rattle.quick.specs.Handover.{FoundLookedHeld}
 use Rattle.quick.proofs.Served.{looks-few}
-use borrow.Author.Needs.{needs}
 use Rattle.quick.proofs.find.Statement.{statement}
 use Rattle.quick.proofs.find.Tie as tie
 
@@ -28,22 +25,10 @@ answered c = rw (lent c .shorter .ensures) at (c .decide-in .ensures)
 abbrev decided : tie.After-grant-arg2 → tie.After-decide-in
 decided c = let columns-lent = c .before .before in columns-lent .before .before .before
 
-shorter-requires : tie.Need-shorter-requires
-shorter-requires c κs = search needs
-
-decide-in-requires : tie.Need-decide-in-requires
-decide-in-requires c κs = search needs
-
 grant-requires : tie.Need-grant-requires
 grant-requires c κs =
     let a = start (decided c) .args in
     may-grant false _ _ (a .table .rows) _ _ _ _ _ _ (answered (decided c) .held)
-
-same-length : tie.Need-same-length
-same-length c = search needs
-
-same-length-2 : tie.Need-same-length-2
-same-length-2 c = search needs
 
 returns : tie.Need-returns
 returns c =
@@ -59,6 +44,4 @@ returns c =
     }
 
 pub find-spec : {M : Type 1} → statement M
-find-spec =
-    tie.close
-    (tie.spec shorter-requires decide-in-requires grant-requires same-length same-length-2 returns)
+find-spec = tie.close (tie.spec (λ c κs. search needs) (λ c κs. search needs) grant-requires (λ c. search needs) (λ c. search needs) returns)

@@ -1,18 +1,8 @@
 -- `quick::look` meets its contract. Assumes nothing.
-use mathlib.Core.Path.{refl, _∙_}
+use Rattle.ground.proofs.Kit.{refl, _∙_, needs}
 use Rattle.division.proofs.Weighing.{weighed-worked-out}
-use borrow.Author.Needs.{needs}
 use Rattle.quick.proofs.look.Statement.{statement}
 use Rattle.quick.proofs.look.Tie as tie
-
-total-at-requires : tie.Need-total-at-requires
-total-at-requires c κs = search needs
-
-weighs-requires : tie.Need-weighs-requires
-weighs-requires c κs = search needs
-
-add-t10 : tie.Need-add-t10
-add-t10 c = search needs
 
 returns : tie.Need-returns
 returns c =
@@ -29,4 +19,4 @@ returns c =
     )
 
 pub look-spec : {M : Type 1} → statement M
-look-spec = tie.close (tie.spec total-at-requires weighs-requires add-t10 returns)
+look-spec = tie.close (tie.spec (λ c κs. search needs) (λ c κs. search needs) (λ c. search needs) returns)

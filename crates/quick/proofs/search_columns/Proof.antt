@@ -1,7 +1,5 @@
 -- `quick::search_columns` meets its contract. Assumes nothing.
-use Prim.Native.Nat.{_+_, _-_, _<_}
-use mathlib.Core.Path.{refl, sym}
-use native.Mathlib.Omega.{arith}
+use Rattle.ground.proofs.Kit.{_+_, _-_, _<_, refl, sym, arith}
 use Rattle.springs.specs.Handover.{SumIs}
 use Rattle.springs.specs.Columns.{springIn}
 use Rattle.quick.proofs.Loop.{Standing, due-first, next-in, first-passes, first-fails, none-due, look-due, divides, next-passes, next-fails}
@@ -105,17 +103,5 @@ returns-3 c =
 pub search-columns-spec : {M : Type 1} → statement M
 search-columns-spec =
     tie.close
-    (tie.spec
-    Inv-loop
-    μ-loop
-    look-requires
-    returns
-    next-due-requires
-    loop-holds
-    look-requires-2
-    divide-requires
-    returns-2
-    next-due-requires-2
-    loop-less
-    loop-again
-    returns-3)
+    (tie.spec Inv-loop μ-loop look-requires returns next-due-requires loop-holds look-requires-2 divide-requires returns-2 next-due-requires-2
+    loop-less loop-again returns-3)

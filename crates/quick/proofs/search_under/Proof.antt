@@ -1,18 +1,11 @@
 -- `quick::search_under` meets its contract. Assumes nothing.
-use mathlib.Core.Path.{sym, _∙_}
+use Rattle.ground.proofs.Kit.{sym, _∙_, needs}
 use Rattle.ground.proofs.Cases.{true-false}
-use borrow.Author.Needs.{needs}
 use Rattle.quick.proofs.search_under.Statement.{statement}
 use Rattle.quick.proofs.search_under.Tie as tie
 
-meant-requires : tie.Need-meant-requires
-meant-requires c κs = search needs
-
 weights-of-requires : tie.Need-weights-of-requires
 weights-of-requires c κs = let p = c .before .pre in (p .2, p .3, p .0 .few)
-
-tests-charge-requires : tie.Need-tests-charge-requires
-tests-charge-requires c κs = search needs
 
 least-step-requires : tie.Need-least-step-requires
 least-step-requires c κs =
@@ -51,11 +44,4 @@ returns-2 c =
 pub search-under-spec : {M : Type 1} → statement M
 search-under-spec =
     tie.close
-    (tie.spec
-    meant-requires
-    weights-of-requires
-    tests-charge-requires
-    least-step-requires
-    returns
-    search-columns-requires
-    returns-2)
+    (tie.spec (λ c κs. search needs) weights-of-requires (λ c κs. search needs) least-step-requires returns search-columns-requires returns-2)

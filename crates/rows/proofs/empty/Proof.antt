@@ -3,11 +3,8 @@ use borrow.Author.Needs.{needs}
 use Rattle.rows.proofs.empty.Statement.{statement}
 use Rattle.rows.proofs.empty.Tie as tie
 
-new-requires : tie.Need-new-requires
-new-requires c κs = search needs
-
 returns : tie.Need-returns
 returns c = rw (c .new .ensures)
 
 pub empty-spec : {M : Type 1} → statement M
-empty-spec = tie.close (tie.spec new-requires returns)
+empty-spec = tie.close (tie.spec (λ c κs. search needs) returns)

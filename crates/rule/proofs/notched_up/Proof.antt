@@ -1,16 +1,11 @@
 -- `rule::notched_up` meets its contract. Assumes nothing.
-use mathlib.Core.Path.{sym}
-use native.Mathlib.Omega.{arith}
+use Rattle.ground.proofs.Kit.{sym, arith, needs}
 use Rattle.rule.proofs.Periods.{notched-near, notched-one}
-use borrow.Author.Needs.{needs}
 use Rattle.rule.proofs.notched_up.Statement.{statement}
 use Rattle.rule.proofs.notched_up.Tie as tie
 
 returns : tie.Need-returns
 returns c = rw (c .if1 .taken) (sym (notched-one (c .before .args .t)))
-
-ceil-div-requires : tie.Need-ceil-div-requires
-ceil-div-requires c κs = search needs
 
 mul-result : tie.Need-mul-result
 mul-result c =
@@ -21,4 +16,4 @@ returns-2 : tie.Need-returns-2
 returns-2 c = rw (c .ceil-div .ensures)
 
 pub notched-up-spec : {M : Type 1} → statement M
-notched-up-spec = tie.close (tie.spec returns ceil-div-requires mul-result returns-2)
+notched-up-spec = tie.close (tie.spec returns (λ c κs. search needs) mul-result returns-2)

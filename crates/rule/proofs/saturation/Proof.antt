@@ -1,8 +1,5 @@
 -- `rule::saturation` meets its contract. Assumes nothing.
-use Prim.Native.Nat.{ℕ}
-use mathlib.Core.Path.{_∙_, ap}
-use borrow.Author.Needs.{needs}
-use borrow.Author.Tests.{eq-eqb, ne-eqb}
+use Rattle.ground.proofs.Kit.{ℕ, _∙_, ap, needs, eq-eqb, ne-eqb}
 use Rattle.ground.specs.Rounding.{ceilDiv}
 use Rattle.rule.proofs.saturation.Statement.{statement}
 use Rattle.rule.proofs.saturation.Tie as tie
@@ -10,16 +7,10 @@ use Rattle.rule.proofs.saturation.Tie as tie
 returns : tie.Need-returns
 returns c = rw (eq-eqb _ _ (c .if1 .taken))
 
-less-or-zero-requires : tie.Need-less-or-zero-requires
-less-or-zero-requires c κs = search needs
-
-ceil-div-requires : tie.Need-ceil-div-requires
-ceil-div-requires c κs = search needs
-
 returns-2 : tie.Need-returns-2
 returns-2 c =
     rw (ne-eqb _ _ (c .before .before .if1 .left))
     (c .ceil-div .ensures ∙ ap (λ (x : ℕ). ceilDiv x (c .before .before .before .args .e)) (c .before .less-or-zero .ensures))
 
 pub saturation-spec : {M : Type 1} → statement M
-saturation-spec = tie.close (tie.spec returns less-or-zero-requires ceil-div-requires returns-2)
+saturation-spec = tie.close (tie.spec returns (λ c κs. search needs) (λ c κs. search needs) returns-2)

@@ -1,34 +1,14 @@
 -- `sheet::read_granted` meets its contract. Assumes nothing.
-use mathlib.Core.Path.{sym}
-use native.Mathlib.Omega.{arith}
-use borrow.Author.Needs.{needs}
+use Rattle.ground.proofs.Kit.{sym, arith, needs}
 use Rattle.field.proofs.Fields.{got16, got32, missed16, missed32}
 use Rattle.sheet.proofs.RowFields.{granted-missing, granted-read}
 use Rattle.sheet.proofs.read_granted.Statement.{statement}
 use Rattle.sheet.proofs.read_granted.Tie as tie
 
-read-u32-requires : tie.Need-read-u32-requires
-read-u32-requires c κs = search needs
-
-enum-known-period : tie.Need-enum-known-period
-enum-known-period c = search needs
-
-enum-told : tie.Need-enum-told
-enum-told c = search needs
-
 returns : tie.Need-returns
 returns c =
     let m = missed32 _ _ _ (c .before .before .read-u32 .ensures) (c .enum-told .given .1) in
     sym (granted-missing _ _ (omega arith))
-
-read-u16-requires : tie.Need-read-u16-requires
-read-u16-requires c κs = search needs
-
-enum-known-processor : tie.Need-enum-known-processor
-enum-known-processor c = search needs
-
-enum-told-2 : tie.Need-enum-told-2
-enum-told-2 c = search needs
 
 returns-2 : tie.Need-returns-2
 returns-2 c =
@@ -48,13 +28,5 @@ returns-3 c =
 pub read-granted-spec : {M : Type 1} → statement M
 read-granted-spec =
     tie.close
-    (tie.spec
-    read-u32-requires
-    enum-known-period
-    enum-told
-    returns
-    read-u16-requires
-    enum-known-processor
-    enum-told-2
-    returns-2
-    returns-3)
+    (tie.spec (λ c κs. search needs) (λ c. search needs) (λ c. search needs) returns (λ c κs. search needs) (λ c. search needs) (λ c. search needs)
+    returns-2 returns-3)

@@ -1,29 +1,12 @@
 -- `sheet::read_head` meets its contract. Assumes nothing.
-use mathlib.Core.Path.{sym, _∙_}
-use borrow.Author.Tests.{not-true, not-false}
-use borrow.Author.Needs.{needs}
+use Rattle.ground.proofs.Kit.{sym, _∙_, needs, not-true, not-false}
 use Rattle.sheet.proofs.HeadSteps.{no-settings, settings-counted, settings-wrong, settings-due, settings-end, settings-read}
 use Rattle.sheet.proofs.HeadSteps.{count-end, head-read, many, begun}
 use Rattle.sheet.proofs.read_head.Statement.{statement}
 use Rattle.sheet.proofs.read_head.Tie as tie
 
-read-u16-requires : tie.Need-read-u16-requires
-read-u16-requires c κs = search needs
-
-enum-known-number : tie.Need-enum-known-number
-enum-known-number c = search needs
-
-enum-told : tie.Need-enum-told
-enum-told c = search needs
-
 returns : tie.Need-returns
 returns c = no-settings _ (c .before .before .before .before .pre) (c .before .before .read-u16 .ensures) (c .enum-told .given .1)
-
-cast-count : tie.Need-cast-count
-cast-count c = search needs
-
-settings-fit-requires : tie.Need-settings-fit-requires
-settings-fit-requires c κs = search needs
 
 returns-2 : tie.Need-returns-2
 returns-2 c =
@@ -52,15 +35,6 @@ returns-3 c =
     let fit = sym (judged .settings-fit .ensures) ∙ not-false _ (fits .if1 .left) in
     settings-end counted fit (read .read-settings .ensures) (not-true _ (c .if2 .taken))
 
-read-u16-requires-2 : tie.Need-read-u16-requires-2
-read-u16-requires-2 c κs = search needs
-
-enum-known-tasks : tie.Need-enum-known-tasks
-enum-known-tasks c = search needs
-
-enum-told-2 : tie.Need-enum-told-2
-enum-told-2 c = search needs
-
 returns-4 : tie.Need-returns-4
 returns-4 c =
     let there = c .before .before .before in
@@ -73,9 +47,6 @@ returns-4 c =
     let fit = sym (judged .settings-fit .ensures) ∙ not-false _ (fits .if1 .left) in
     let settings = settings-read counted fit (read .read-settings .ensures) (not-false _ (there .if2 .left)) in
     count-end settings (c .before .before .read-u162 .ensures) (c .enum-told2 .given .1)
-
-cast-n : tie.Need-cast-n
-cast-n c = search needs
 
 returns-5 : tie.Need-returns-5
 returns-5 c =
@@ -91,9 +62,6 @@ returns-5 c =
     let settings = settings-read counted fit (read .read-settings .ensures) (not-false _ (there .if2 .left)) in
     let head = head-read settings (has-tasks .before .before .read-u162 .ensures) (has-tasks .tasks .given .1) in
     many head (c .if3 .taken)
-
-of-requires : tie.Need-of-requires
-of-requires c κs = search needs
 
 returns-6 : tie.Need-returns-6
 returns-6 c =
@@ -114,21 +82,6 @@ returns-6 c =
 pub read-head-spec : {M : Type 1} → statement M
 read-head-spec =
     tie.close
-    (tie.spec
-    read-u16-requires
-    enum-known-number
-    enum-told
-    returns
-    cast-count
-    settings-fit-requires
-    returns-2
-    read-settings-requires
-    returns-3
-    read-u16-requires-2
-    enum-known-tasks
-    enum-told-2
-    returns-4
-    cast-n
-    returns-5
-    of-requires
-    returns-6)
+    (tie.spec (λ c κs. search needs) (λ c. search needs) (λ c. search needs) returns (λ c. search needs) (λ c κs. search needs) returns-2
+    read-settings-requires returns-3 (λ c κs. search needs) (λ c. search needs) (λ c. search needs) returns-4 (λ c. search needs) returns-5
+    (λ c κs. search needs) returns-6)

@@ -1,33 +1,13 @@
 -- `sheet::read_rows` meets its contract. Assumes nothing.
-use mathlib.Core.Path.{sym, _∙_}
-use borrow.Author.Tests.{not-true, not-false}
-use borrow.Author.Needs.{needs}
+use Rattle.ground.proofs.Kit.{sym, _∙_, needs, not-true, not-false}
 use Rattle.sheet.proofs.RowSteps.{tasks-end, tasks-read, count-end, count-read, count-wrong, results-due, results-end, results-read, bytes-after, all-read}
 use Rattle.sheet.proofs.read_rows.Statement.{statement}
 use Rattle.sheet.proofs.read_rows.Tie as tie
-
-read-tasks-requires : tie.Need-read-tasks-requires
-read-tasks-requires c κs = search needs
-
-refusing-requires : tie.Need-refusing-requires
-refusing-requires c κs = search needs
 
 returns : tie.Need-returns
 returns c =
     let read = c .before .before in
     c .refusing .ensures ∙ tasks-end (read .before .before .pre) (read .read-tasks .ensures) (not-true _ (c .before .if1 .taken))
-
-read-u16-requires : tie.Need-read-u16-requires
-read-u16-requires c κs = search needs
-
-enum-known-number : tie.Need-enum-known-number
-enum-known-number c = search needs
-
-enum-told : tie.Need-enum-told
-enum-told c = search needs
-
-refusing-requires-2 : tie.Need-refusing-requires-2
-refusing-requires-2 c κs = search needs
 
 returns-2 : tie.Need-returns-2
 returns-2 c =
@@ -35,15 +15,6 @@ returns-2 c =
     let read = there .before in
     let tasks = tasks-read (read .before .before .pre) (read .read-tasks .ensures) (not-false _ (there .if1 .left)) in
     c .refusing2 .ensures ∙ count-end tasks (c .before .before .before .read-u16 .ensures) (c .before .enum-told .given .1)
-
-cast-r : tie.Need-cast-r
-cast-r c = search needs
-
-results-fit-requires : tie.Need-results-fit-requires
-results-fit-requires c κs = search needs
-
-refusing-requires-3 : tie.Need-refusing-requires-3
-refusing-requires-3 c κs = search needs
 
 returns-3 : tie.Need-returns-3
 returns-3 c =
@@ -66,9 +37,6 @@ read-results-requires c κs =
     let fit = sym (judged .results-fit .ensures) ∙ not-false _ (c .if2 .left) in
     results-due count fit
 
-refusing-requires-4 : tie.Need-refusing-requires-4
-refusing-requires-4 c κs = search needs
-
 returns-4 : tie.Need-returns-4
 returns-4 c =
     let granted = c .before .before in
@@ -81,9 +49,6 @@ returns-4 c =
     let count = count-read tasks (counted .before .before .read-u16 .ensures) (counted .number .given .1) in
     let fit = sym (judged .results-fit .ensures) ∙ not-false _ (fits .if2 .left) in
     c .refusing4 .ensures ∙ results-end count fit (granted .read-results .ensures) (not-true _ (c .before .if3 .taken))
-
-refusing-requires-5 : tie.Need-refusing-requires-5
-refusing-requires-5 c κs = search needs
 
 returns-5 : tie.Need-returns-5
 returns-5 c =
@@ -99,9 +64,6 @@ returns-5 c =
     let fit = sym (judged .results-fit .ensures) ∙ not-false _ (fits .if2 .left) in
     let results = results-read count fit (granted .read-results .ensures) (not-false _ (whole .if3 .left)) in
     c .refusing5 .ensures ∙ bytes-after results (c .before .if4 .taken)
-
-new-requires : tie.Need-new-requires
-new-requires c κs = search needs
 
 returns-6 : tie.Need-returns-6
 returns-6 c =
@@ -122,23 +84,6 @@ returns-6 c =
 pub read-rows-spec : {M : Type 1} → statement M
 read-rows-spec =
     tie.close
-    (tie.spec
-    read-tasks-requires
-    refusing-requires
-    returns
-    read-u16-requires
-    enum-known-number
-    enum-told
-    refusing-requires-2
-    returns-2
-    cast-r
-    results-fit-requires
-    refusing-requires-3
-    returns-3
-    read-results-requires
-    refusing-requires-4
-    returns-4
-    refusing-requires-5
-    returns-5
-    new-requires
-    returns-6)
+    (tie.spec (λ c κs. search needs) (λ c κs. search needs) returns (λ c κs. search needs) (λ c. search needs) (λ c. search needs)
+    (λ c κs. search needs) returns-2 (λ c. search needs) (λ c κs. search needs) (λ c κs. search needs) returns-3 read-results-requires
+    (λ c κs. search needs) returns-4 (λ c κs. search needs) returns-5 (λ c κs. search needs) returns-6)

@@ -1,5 +1,5 @@
 -- `sheet::results_fit` meets its contract. Assumes nothing.
-use borrow.Author.Tests.{eq-eqb, ne-eqb}
+use Rattle.ground.proofs.Kit.{eq-eqb, ne-eqb}
 use Rattle.sheet.specs.Sections.{resultsFit}
 use Rattle.sheet.proofs.results_fit.Statement.{statement}
 use Rattle.sheet.proofs.results_fit.Tie as tie

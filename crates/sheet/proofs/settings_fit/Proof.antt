@@ -1,5 +1,5 @@
 -- `sheet::settings_fit` meets its contract. Assumes nothing.
-use borrow.Author.Tests.{le-leb, lt-leb}
+use Rattle.ground.proofs.Kit.{le-leb, lt-leb}
 use Rattle.sheet.specs.Sections.{settingsFit}
 use Rattle.sheet.proofs.settings_fit.Statement.{statement}
 use Rattle.sheet.proofs.settings_fit.Tie as tie

@@ -1,13 +1,9 @@
 -- `springs::charge_at` meets its contract. Assumes nothing.
-use Prim.Native.Nat.{_≤_}
-use mathlib.Core.Path.{_≡_, sym, ap, _∙_}
-use native.Mathlib.Omega.{arith}
-use Rattle.rule.specs.Rule.{shareOf}
+use Rattle.ground.proofs.Kit.{_≤_, sym, _∙_, ap, arith}
 use Rattle.rule.proofs.Shares.{share-least, share-high}
 use Rattle.rule.proofs.Periods.{charge-high}
 use Rattle.springs.specs.Columns.{chargeOn}
 use Rattle.springs.proofs.Charged.{still-allowed}
-use borrow.Author.Needs.{needs}
 use Rattle.springs.proofs.charge_at.Statement.{statement}
 use Rattle.springs.proofs.charge_at.Tie as tie
 

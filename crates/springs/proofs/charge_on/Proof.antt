@@ -1,22 +1,13 @@
 -- `springs::charge_on` meets its contract. Assumes nothing.
-use mathlib.Core.Path.{_≡_, sym, ap₂, _∙_}
-use native.Mathlib.Nat.{le-trans, le-max-left}
-use native.Mathlib.Omega.{arith}
-use Rattle.rule.specs.Rule.{partOf, periodOf, notchedUp}
+use Rattle.ground.proofs.Kit.{_≡_, _∙_, ap₂, arith, needs}
+use Rattle.rule.specs.Rule.{partOf, periodOf}
 use Rattle.rule.proofs.Periods.{notched-from, charge-high}
 use Rattle.springs.specs.Columns.{chargeOn}
-use borrow.Author.Needs.{needs}
 use Rattle.springs.proofs.charge_on.Statement.{statement}
 use Rattle.springs.proofs.charge_on.Tie as tie
 
 given : (c : tie.After-part) → let a = c .before .before .before .args in c .part .result ≡ chargeOn (a .notch) (a .cost) (a .tmin) (a .share)
 given c = c .part .ensures ∙ ap₂ partOf (c .before .widened .ensures) (c .before .before .period-on .ensures)
-
-period-on-requires : tie.Need-period-on-requires
-period-on-requires c κs = search needs
-
-widened-requires : tie.Need-widened-requires
-widened-requires c κs = search needs
 
 part-requires : tie.Need-part-requires
 part-requires c κs =
@@ -35,4 +26,4 @@ returns : tie.Need-returns
 returns c = given c
 
 pub charge-on-spec : {M : Type 1} → statement M
-charge-on-spec = tie.close (tie.spec period-on-requires widened-requires part-requires cast-result returns)
+charge-on-spec = tie.close (tie.spec (λ c κs. search needs) (λ c κs. search needs) part-requires cast-result returns)

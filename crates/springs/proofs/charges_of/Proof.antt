@@ -1,7 +1,5 @@
 -- `springs::charges_of` meets its contract. Assumes nothing.
-use Prim.Native.Nat.{_-_, _≤_}
-use mathlib.Core.Path.{_≡_}
-use native.Mathlib.Omega.{arith}
+use Rattle.ground.proofs.Kit.{_-_, _≤_, arith}
 use Rattle.ground.proofs.Buffer.{Front, front-none}
 use Rattle.springs.specs.Columns.{chargeIn}
 use Rattle.springs.proofs.Charged.{not-yet, charges-more, front-at}
@@ -17,24 +15,6 @@ abbrev μ-loop : tie.MeasureT-loop
 loop-holds : tie.Need-loop-holds Inv-loop μ-loop
 loop-holds c = (omega arith, front-none _ _)
 
-mul-charge-on : tie.Need-mul-charge-on Inv-loop μ-loop
-mul-charge-on c = omega arith
-
-element-copy-out-charge-on : tie.Need-element-copy-out-charge-on Inv-loop μ-loop
-element-copy-out-charge-on c = omega arith
-
-mul-charge-on-2 : tie.Need-mul-charge-on-2 Inv-loop μ-loop
-mul-charge-on-2 c = omega arith
-
-element-copy-out-charge-on-2 : tie.Need-element-copy-out-charge-on-2 Inv-loop μ-loop
-element-copy-out-charge-on-2 c = omega arith
-
-mul-charge-on-3 : tie.Need-mul-charge-on-3 Inv-loop μ-loop
-mul-charge-on-3 c = omega arith
-
-element-copy-out-charge-on-3 : tie.Need-element-copy-out-charge-on-3 Inv-loop μ-loop
-element-copy-out-charge-on-3 c = omega arith
-
 charge-on-requires : tie.Need-charge-on-requires Inv-loop μ-loop
 charge-on-requires c κs =
     let t = c .before .before .before in
@@ -44,18 +24,6 @@ charge-on-requires c κs =
     let l = t .loop-test .taken in
     let e = not-yet (a .notch) (a .cost .now) (a .tmin .now) (a .shares .now) _ _ (t .before .loop .inv .1) in
     (allowed .notch, allowed .ticks _ l, rw e (allowed .some _ l), rw e (allowed .most _ l))
-
-mul-shares : tie.Need-mul-shares Inv-loop μ-loop
-mul-shares c = omega arith
-
-element-write-shares : tie.Need-element-write-shares Inv-loop μ-loop
-element-write-shares c = omega arith
-
-add-i : tie.Need-add-i Inv-loop μ-loop
-add-i c = omega arith
-
-loop-less : tie.Need-loop-less Inv-loop μ-loop
-loop-less c = omega arith
 
 loop-again : tie.Need-loop-again Inv-loop μ-loop
 loop-again c =
@@ -71,20 +39,5 @@ returns c =
 pub charges-of-spec : {M : Type 1} → statement M
 charges-of-spec =
     tie.close
-    (tie.spec
-    Inv-loop
-    μ-loop
-    loop-holds
-    mul-charge-on
-    element-copy-out-charge-on
-    mul-charge-on-2
-    element-copy-out-charge-on-2
-    mul-charge-on-3
-    element-copy-out-charge-on-3
-    charge-on-requires
-    mul-shares
-    element-write-shares
-    add-i
-    loop-less
-    loop-again
-    returns)
+    (tie.spec Inv-loop μ-loop loop-holds (λ c. omega arith) (λ c. omega arith) (λ c. omega arith) (λ c. omega arith) (λ c. omega arith)
+    (λ c. omega arith) charge-on-requires (λ c. omega arith) (λ c. omega arith) (λ c. omega arith) (λ c. omega arith) loop-again returns)

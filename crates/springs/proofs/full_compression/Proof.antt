@@ -1,8 +1,5 @@
 -- `springs::full_compression` meets its contract. Assumes nothing.
-use Prim.Native.Nat.{ℕ, _-_, _≤_}
-use mathlib.Core.Path.{_≡_, refl, sym}
-use native.Mathlib.Omega.{arith}
-use lib.ListN.{getD}
+use Rattle.ground.proofs.Kit.{ℕ, _-_, _≤_, _≡_, refl, sym, arith, getD}
 use Rattle.ground.specs.Folds.{maxTo}
 use Rattle.ground.proofs.Folds.{max-none, max-step}
 use Rattle.springs.proofs.full_compression.Statement.{statement}
@@ -17,21 +14,6 @@ abbrev μ-loop : tie.MeasureT-loop
 loop-holds : tie.Need-loop-holds Inv-loop μ-loop
 loop-holds c = (omega arith, sym (max-none _))
 
-mul-later : tie.Need-mul-later Inv-loop μ-loop
-mul-later c = omega arith
-
-element-copy-out-later : tie.Need-element-copy-out-later Inv-loop μ-loop
-element-copy-out-later c = omega arith
-
-later-requires : tie.Need-later-requires Inv-loop μ-loop
-later-requires c κs = tt
-
-add-i : tie.Need-add-i Inv-loop μ-loop
-add-i c = omega arith
-
-loop-less : tie.Need-loop-less Inv-loop μ-loop
-loop-less c = omega arith
-
 loop-again : tie.Need-loop-again Inv-loop μ-loop
 loop-again c =
     let l = c .before .before .before in
@@ -43,14 +25,4 @@ returns c = let e : c .before .loop .i ≡ c .before .before .args .n = omega ar
 pub full-compression-spec : {M : Type 1} → statement M
 full-compression-spec =
     tie.close
-    (tie.spec
-    Inv-loop
-    μ-loop
-    loop-holds
-    mul-later
-    element-copy-out-later
-    later-requires
-    add-i
-    loop-less
-    loop-again
-    returns)
+    (tie.spec Inv-loop μ-loop loop-holds (λ c. omega arith) (λ c. omega arith) (λ _ _. tt) (λ c. omega arith) (λ c. omega arith) loop-again returns)

@@ -1,15 +1,8 @@
 -- `springs::loads_of` meets its contract. Assumes nothing.
-use mathlib.Core.Path.{sym, _∙_}
+use Rattle.ground.proofs.Kit.{sym, _∙_, needs}
 use Rattle.springs.proofs.Charged.{as-shares, as-charges}
-use borrow.Author.Needs.{needs}
 use Rattle.springs.proofs.loads_of.Statement.{statement}
 use Rattle.springs.proofs.loads_of.Tie as tie
-
-tests-charge-requires : tie.Need-tests-charge-requires
-tests-charge-requires c κs = search needs
-
-charges-of-requires : tie.Need-charges-of-requires
-charges-of-requires c κs = search needs
 
 returns : tie.Need-returns
 returns c =
@@ -26,4 +19,4 @@ returns-2 c =
     as-shares (a .settings) (a .cost .now) (a .tmin .now) (a .shares .now) _ (sym (t .tests-charge .ensures) ∙ c .if1 .left)
 
 pub loads-of-spec : {M : Type 1} → statement M
-loads-of-spec = tie.close (tie.spec tests-charge-requires charges-of-requires returns returns-2)
+loads-of-spec = tie.close (tie.spec (λ c κs. search needs) (λ c κs. search needs) returns returns-2)

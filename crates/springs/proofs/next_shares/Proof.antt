@@ -1,7 +1,5 @@
 -- `springs::next_shares` meets its contract. Assumes nothing.
-use Prim.Native.Nat.{ℕ, _-_, _≤_}
-use mathlib.Core.Path.{_≡_, _∙_}
-use native.Mathlib.Omega.{arith}
+use Rattle.ground.proofs.Kit.{ℕ, _-_, _≤_, _≡_, _∙_, arith}
 use Rattle.ground.proofs.Buffer.{Front, front-none}
 use Rattle.springs.specs.Spring.{shareOn}
 use Rattle.springs.specs.Handover.{SumIs}
@@ -20,35 +18,11 @@ abbrev μ-loop : tie.MeasureT-loop
 loop-holds : tie.Need-loop-holds Inv-loop μ-loop
 loop-holds c = (omega arith, front-none _ _, sum-start _ 1)
 
-mul-let-down : tie.Need-mul-let-down Inv-loop μ-loop
-mul-let-down c = omega arith
-
-element-copy-out-let-down : tie.Need-element-copy-out-let-down Inv-loop μ-loop
-element-copy-out-let-down c = omega arith
-
-mul-let-down-2 : tie.Need-mul-let-down-2 Inv-loop μ-loop
-mul-let-down-2 c = omega arith
-
-element-copy-out-let-down-2 : tie.Need-element-copy-out-let-down-2 Inv-loop μ-loop
-element-copy-out-let-down-2 c = omega arith
-
-mul-let-down-3 : tie.Need-mul-let-down-3 Inv-loop μ-loop
-mul-let-down-3 c = omega arith
-
-element-copy-out-let-down-3 : tie.Need-element-copy-out-let-down-3 Inv-loop μ-loop
-element-copy-out-let-down-3 c = omega arith
-
 let-down-requires : tie.Need-let-down-requires Inv-loop μ-loop
 let-down-requires c κs =
     let t = c .before .before .before in
     let w = t .before .before .pre .2 _ (t .loop-test .taken) in
     (omega (arith, w .least-largest, w .largest-most, w .elasticity-most), omega (arith, w .least-largest, w .largest-most, w .elasticity-most))
-
-mul-shares : tie.Need-mul-shares Inv-loop μ-loop
-mul-shares c = omega arith
-
-element-write-shares : tie.Need-element-write-shares Inv-loop μ-loop
-element-write-shares c = omega arith
 
 -- the share let down, as the column and as the springs have it
 shared : (c : tie.After-let-down Inv-loop μ-loop) → let l = c .before .before .before .before .before in let a = l .before .args in
@@ -71,12 +45,6 @@ add-sum c =
     let most = share-most (springIn (a .shares .now) (a .least .now) (a .elasticity .now) (l .loop .i)) 1 (s .pre .2 _ (t .loop-test .taken)) in
     omega (arith, sprung c, most, l .loop .inv .2 .most)
 
-add-i : tie.Need-add-i Inv-loop μ-loop
-add-i c = omega arith
-
-loop-less : tie.Need-loop-less Inv-loop μ-loop
-loop-less c = omega arith
-
 loop-again : tie.Need-loop-again Inv-loop μ-loop
 loop-again c =
     let t = c .before .before .before .before in
@@ -88,9 +56,6 @@ loop-again c =
       shares-more (a .shares .now) (a .least .now) (a .elasticity .now) _ 1 _ w _ (omega arith) (shared c),
       sum-on _ 1 _ _ _ (l .loop .inv .2) (sprung c) (s .pre .2 _ (t .loop-test .taken)),
     )
-
-widened-requires : tie.Need-widened-requires Inv-loop μ-loop
-widened-requires c κs = tt
 
 returns : tie.Need-returns Inv-loop μ-loop
 returns c =
@@ -104,22 +69,6 @@ returns c =
 pub next-shares-spec : {M : Type 1} → statement M
 next-shares-spec =
     tie.close
-    (tie.spec
-    Inv-loop
-    μ-loop
-    loop-holds
-    mul-let-down
-    element-copy-out-let-down
-    mul-let-down-2
-    element-copy-out-let-down-2
-    mul-let-down-3
-    element-copy-out-let-down-3
-    let-down-requires
-    mul-shares
-    element-write-shares
-    add-sum
-    add-i
-    loop-less
-    loop-again
-    widened-requires
+    (tie.spec Inv-loop μ-loop loop-holds (λ c. omega arith) (λ c. omega arith) (λ c. omega arith) (λ c. omega arith) (λ c. omega arith)
+    (λ c. omega arith) let-down-requires (λ c. omega arith) (λ c. omega arith) add-sum (λ c. omega arith) (λ c. omega arith) loop-again (λ _ _. tt)
     returns)

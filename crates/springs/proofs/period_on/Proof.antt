@@ -1,9 +1,7 @@
 -- `springs::period_on` meets its contract. Assumes nothing.
-use mathlib.Core.Path.{_≡_, ap, _∙_}
-use native.Mathlib.Omega.{arith}
+use Rattle.ground.proofs.Kit.{_≡_, _∙_, ap, arith, needs}
 use Rattle.rule.specs.Rule.{periodOf, notchedUp}
 use Rattle.rule.proofs.Periods.{notched-from}
-use borrow.Author.Needs.{needs}
 use Rattle.springs.proofs.period_on.Statement.{statement}
 use Rattle.springs.proofs.period_on.Tie as tie
 
@@ -15,12 +13,6 @@ whole c = rw (← c .before .before .widened .ensures, ← c .before .widened2 .
 given : (c : tie.After-notched-up) → let a = c .before .before .before .before .args in
     c .notched-up .result ≡ notchedUp (a .notch) (periodOf (a .cost) (a .tmin) (a .share))
 given c = c .notched-up .ensures ∙ ap (notchedUp (c .before .before .before .before .args .notch)) (whole (c .before))
-
-widened-requires : tie.Need-widened-requires
-widened-requires c κs = search needs
-
-widened-requires-2 : tie.Need-widened-requires-2
-widened-requires-2 c κs = search needs
 
 period-requires : tie.Need-period-requires
 period-requires c κs = (omega (arith, c .before .widened .ensures), omega (arith, c .widened2 .ensures), omega (arith, c .widened2 .ensures))
@@ -38,5 +30,4 @@ returns : tie.Need-returns
 returns c = given c
 
 pub period-on-spec : {M : Type 1} → statement M
-period-on-spec =
-    tie.close (tie.spec widened-requires widened-requires-2 period-requires notched-up-requires cast-result returns)
+period-on-spec = tie.close (tie.spec (λ c κs. search needs) (λ c κs. search needs) period-requires notched-up-requires cast-result returns)

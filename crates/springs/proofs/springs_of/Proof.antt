@@ -1,8 +1,5 @@
 -- `springs::springs_of` meets its contract. Assumes nothing.
-use Prim.Native.Nat.{ℕ, _-_, _≤_, _<_}
-use mathlib.Core.Bool.{false, not}
-use mathlib.Core.Path.{_≡_, sym, ap, _∙_}
-use native.Mathlib.Omega.{arith}
+use Rattle.ground.proofs.Kit.{ℕ, _-_, _≤_, _<_, false, not, _≡_, sym, _∙_, ap, arith}
 use Rattle.ground.proofs.First.{bad-here, bad-more, bad-none}
 use Rattle.kinds.specs.declared.Task.{Task}
 use Rattle.kinds.specs.Task.{at, priced, Good, isGood}
@@ -25,12 +22,6 @@ abbrev μ-loop : tie.MeasureT-loop
 
 loop-holds : tie.Need-loop-holds Inv-loop μ-loop
 loop-holds c = (omega arith, λ j l. absurd (omega arith), sprung-none _ _ (c .pre .2))
-
-mul-task : tie.Need-mul-task Inv-loop μ-loop
-mul-task c = omega arith
-
-element-copy-out-task : tie.Need-element-copy-out-task Inv-loop μ-loop
-element-copy-out-task c = omega arith
 
 good-requires : tie.Need-good-requires Inv-loop μ-loop
 good-requires c κs = c .before .before .before .pre .1
@@ -58,52 +49,10 @@ priced-requires c κs = let g = good-priced c in omega (arith, g .c-tmin, g .tmi
 spring-of-requires : tie.Need-spring-of-requires Inv-loop μ-loop
 spring-of-requires c κs = rw (c .priced .ensures) (good-priced (c .before))
 
-mul-largest : tie.Need-mul-largest Inv-loop μ-loop
-mul-largest c = omega arith
-
-element-write-largest : tie.Need-element-write-largest Inv-loop μ-loop
-element-write-largest c = omega arith
-
-mul-least : tie.Need-mul-least Inv-loop μ-loop
-mul-least c = omega arith
-
-element-write-least : tie.Need-element-write-least Inv-loop μ-loop
-element-write-least c = omega arith
-
-mul-elasticity : tie.Need-mul-elasticity Inv-loop μ-loop
-mul-elasticity c = omega arith
-
-element-write-elasticity : tie.Need-element-write-elasticity Inv-loop μ-loop
-element-write-elasticity c = omega arith
-
 saturation-on-requires : tie.Need-saturation-on-requires Inv-loop μ-loop
 saturation-on-requires c κs =
     let p = c .before in
     rw (c .spring-of .ensures, p .priced .ensures) (good-within _ (good-priced (p .before)))
-
-mul-saturation : tie.Need-mul-saturation Inv-loop μ-loop
-mul-saturation c = omega arith
-
-element-write-saturation : tie.Need-element-write-saturation Inv-loop μ-loop
-element-write-saturation c = omega arith
-
-mul-cost : tie.Need-mul-cost Inv-loop μ-loop
-mul-cost c = omega arith
-
-element-write-cost : tie.Need-element-write-cost Inv-loop μ-loop
-element-write-cost c = omega arith
-
-mul-tmin : tie.Need-mul-tmin Inv-loop μ-loop
-mul-tmin c = omega arith
-
-element-write-tmin : tie.Need-element-write-tmin Inv-loop μ-loop
-element-write-tmin c = omega arith
-
-add-i : tie.Need-add-i Inv-loop μ-loop
-add-i c = omega arith
-
-loop-less : tie.Need-loop-less Inv-loop μ-loop
-loop-less c = omega arith
 
 loop-again : tie.Need-loop-again Inv-loop μ-loop
 loop-again c =
@@ -133,30 +82,7 @@ returns-2 c =
 pub springs-of-spec : {M : Type 1} → statement M
 springs-of-spec =
     tie.close
-    (tie.spec
-    Inv-loop
-    μ-loop
-    loop-holds
-    mul-task
-    element-copy-out-task
-    good-requires
-    returns
-    priced-requires
-    spring-of-requires
-    mul-largest
-    element-write-largest
-    mul-least
-    element-write-least
-    mul-elasticity
-    element-write-elasticity
-    saturation-on-requires
-    mul-saturation
-    element-write-saturation
-    mul-cost
-    element-write-cost
-    mul-tmin
-    element-write-tmin
-    add-i
-    loop-less
-    loop-again
-    returns-2)
+    (tie.spec Inv-loop μ-loop loop-holds (λ c. omega arith) (λ c. omega arith) good-requires returns priced-requires spring-of-requires
+    (λ c. omega arith) (λ c. omega arith) (λ c. omega arith) (λ c. omega arith) (λ c. omega arith) (λ c. omega arith) saturation-on-requires
+    (λ c. omega arith) (λ c. omega arith) (λ c. omega arith) (λ c. omega arith) (λ c. omega arith) (λ c. omega arith) (λ c. omega arith)
+    (λ c. omega arith) loop-again returns-2)

@@ -4,18 +4,6 @@ use borrow.Author.Needs.{needs}
 use Rattle.told.proofs.check_proposal_told.Statement.{statement}
 use Rattle.told.proofs.check_proposal_told.Tie as tie
 
-settings-of-requires : tie.Need-settings-of-requires
-settings-of-requires c κs = search needs
-
-check-requires : tie.Need-check-requires
-check-requires c κs = search needs
-
-tell-verdict-requires : tie.Need-tell-verdict-requires
-tell-verdict-requires c κs = search needs
-
-same-length : tie.Need-same-length
-same-length c = search needs
-
 returns : tie.Need-returns
 returns c =
     let f = c .before .before .before in
@@ -23,5 +11,4 @@ returns c =
     record { answers = c .tell-verdict .ensures ∙ e .answers; leaves = e .leaves }
 
 pub check-proposal-told-spec : {M : Type 1} → statement M
-check-proposal-told-spec =
-    tie.close (tie.spec settings-of-requires check-requires tell-verdict-requires same-length returns)
+check-proposal-told-spec = tie.close (tie.spec (λ c κs. search needs) (λ c κs. search needs) (λ c κs. search needs) (λ c. search needs) returns)

@@ -14,27 +14,6 @@ handed-back : (c : tie.After-margin-at) → let a = c .before .before .args in
     handedMargin (c .margin-at .result) ≡ marginHanded (settingsOf (a .station)) (a .table .rows) (a .table .n) (a .step)
 handed-back c = rw (c .before .settings-of .ensures) at (c .margin-at .ensures)
 
-settings-of-requires : tie.Need-settings-of-requires
-settings-of-requires c κs = search needs
-
-margin-at-requires : tie.Need-margin-at-requires
-margin-at-requires c κs = search needs
-
-enum-known-margin : tie.Need-enum-known-margin
-enum-known-margin c = search needs
-
-enum-known-refusal : tie.Need-enum-known-refusal
-enum-known-refusal c = search needs
-
-number-requires : tie.Need-number-requires
-number-requires c κs = search needs
-
-cast-t10 : tie.Need-cast-t10
-cast-t10 c = search needs
-
-place-requires : tie.Need-place-requires
-place-requires c κs = search needs
-
 returns : tie.Need-returns
 returns c =
     let x = c .before .margin .given .0 .0 in
@@ -49,13 +28,5 @@ returns-2 c =
 pub margin-told-spec : {M : Type 1} → statement M
 margin-told-spec =
     tie.close
-    (tie.spec
-    settings-of-requires
-    margin-at-requires
-    enum-known-margin
-    enum-known-refusal
-    number-requires
-    cast-t10
-    place-requires
-    returns
-    returns-2)
+    (tie.spec (λ c κs. search needs) (λ c κs. search needs) (λ c. search needs) (λ c. search needs) (λ c κs. search needs) (λ c. search needs)
+    (λ c κs. search needs) returns returns-2)

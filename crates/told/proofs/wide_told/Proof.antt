@@ -4,22 +4,10 @@ use borrow.Author.Needs.{needs}
 use Rattle.told.proofs.wide_told.Statement.{statement}
 use Rattle.told.proofs.wide_told.Tie as tie
 
-find-requires : tie.Need-find-requires
-find-requires c κs = search needs
-
-tell-requires : tie.Need-tell-requires
-tell-requires c κs = search needs
-
-same-length : tie.Need-same-length
-same-length c = search needs
-
-same-length-2 : tie.Need-same-length-2
-same-length-2 c = search needs
-
 returns : tie.Need-returns
 returns c =
     let e = c .before .before .before .before .before .find .ensures in
     record { answers = c .tell .ensures .0 ∙ e .answers; grants = e .grants; places = e .places; no-looks = c .tell .ensures .1 }
 
 pub wide-told-spec : {M : Type 1} → statement M
-wide-told-spec = tie.close (tie.spec find-requires tell-requires same-length same-length-2 returns)
+wide-told-spec = tie.close (tie.spec (λ c κs. search needs) (λ c κs. search needs) (λ c. search needs) (λ c. search needs) returns)

@@ -4,27 +4,6 @@ use Rattle.told_clock.proofs.ClockTold.{told-one, told-none, told-refus
 use Rattle.told_clock.proofs.clock_call_told.Statement.{statement}
 use Rattle.told_clock.proofs.clock_call_told.Tie as tie
 
-call-requires : tie.Need-call-requires
-call-requires c κs = search needs
-
-enum-known-answer : tie.Need-enum-known-answer
-enum-known-answer c = search needs
-
-enum-told : tie.Need-enum-told
-enum-told c = search needs
-
-enum-known-answer-2 : tie.Need-enum-known-answer-2
-enum-known-answer-2 c = search needs
-
-number-requires : tie.Need-number-requires
-number-requires c κs = search needs
-
-cast-t10 : tie.Need-cast-t10
-cast-t10 c = search needs
-
-place-requires : tie.Need-place-requires
-place-requires c κs = search needs
-
 returns : tie.Need-returns
 returns c =
     let b = c .before in
@@ -45,14 +24,5 @@ returns-3 c =
 pub clock-call-told-spec : {M : Type 1} → statement M
 clock-call-told-spec =
     tie.close
-    (tie.spec
-    call-requires
-    enum-known-answer
-    enum-told
-    enum-known-answer-2
-    number-requires
-    cast-t10
-    place-requires
-    returns
-    returns-2
-    returns-3)
+    (tie.spec (λ c κs. search needs) (λ c. search needs) (λ c. search needs) (λ c. search needs) (λ c κs. search needs) (λ c. search needs)
+    (λ c κs. search needs) returns returns-2 returns-3)

@@ -4,24 +4,6 @@ use Rattle.told_clock.proofs.ClockTold.{told-begun, told-not-begun}
 use Rattle.told_clock.proofs.clock_start_told.Statement.{statement}
 use Rattle.told_clock.proofs.clock_start_told.Tie as tie
 
-start-requires : tie.Need-start-requires
-start-requires c κs = search needs
-
-enum-told : tie.Need-enum-told
-enum-told c = search needs
-
-enum-known-answer : tie.Need-enum-known-answer
-enum-known-answer c = search needs
-
-number-requires : tie.Need-number-requires
-number-requires c κs = search needs
-
-cast-t9 : tie.Need-cast-t9
-cast-t9 c = search needs
-
-place-requires : tie.Need-place-requires
-place-requires c κs = search needs
-
 returns : tie.Need-returns
 returns c = told-begun _ _ (c .before .before .before .start .result) (c .before .before .before .start .ensures) (c .enum-told .given .1)
 
@@ -34,12 +16,5 @@ returns-2 c =
 pub clock-start-told-spec : {M : Type 1} → statement M
 clock-start-told-spec =
     tie.close
-    (tie.spec
-    start-requires
-    enum-told
-    enum-known-answer
-    number-requires
-    cast-t9
-    place-requires
-    returns
-    returns-2)
+    (tie.spec (λ c κs. search needs) (λ c. search needs) (λ c. search needs) (λ c κs. search needs) (λ c. search needs) (λ c κs. search needs)
+    returns returns-2)

@@ -4,14 +4,8 @@ use borrow.Author.Needs.{needs}
 use Rattle.told_kept.proofs.join_told.Statement.{statement}
 use Rattle.told_kept.proofs.join_told.Tie as tie
 
-join-requires : tie.Need-join-requires
-join-requires c κs = search needs
-
-tell-change-requires : tie.Need-tell-change-requires
-tell-change-requires c κs = search needs
-
 returns : tie.Need-returns
 returns c = c .tell-change .ensures ∙ c .before .join .ensures
 
 pub join-told-spec : {M : Type 1} → statement M
-join-told-spec = tie.close (tie.spec join-requires tell-change-requires returns)
+join-told-spec = tie.close (tie.spec (λ c κs. search needs) (λ c κs. search needs) returns)

@@ -3,21 +3,6 @@ use borrow.Author.Needs.{needs}
 use Rattle.told_kept.proofs.tell_change.Statement.{statement}
 use Rattle.told_kept.proofs.tell_change.Tie as tie
 
-enum-told : tie.Need-enum-told
-enum-told c = search needs
-
-enum-known-answer : tie.Need-enum-known-answer
-enum-known-answer c = search needs
-
-number-requires : tie.Need-number-requires
-number-requires c κs = search needs
-
-cast-t7 : tie.Need-cast-t7
-cast-t7 c = search needs
-
-place-requires : tie.Need-place-requires
-place-requires c κs = search needs
-
 returns : tie.Need-returns
 returns c = rw (c .enum-told .given .1)
 
@@ -27,4 +12,4 @@ returns-2 c = rw (c .place .ensures, c .before .number .ensures, c .before .befo
 pub tell-change-spec : {M : Type 1} → statement M
 tell-change-spec =
     tie.close
-    (tie.spec enum-told enum-known-answer number-requires cast-t7 place-requires returns returns-2)
+    (tie.spec (λ c. search needs) (λ c. search needs) (λ c κs. search needs) (λ c. search needs) (λ c κs. search needs) returns returns-2)

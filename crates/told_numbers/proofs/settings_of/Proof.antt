@@ -3,14 +3,8 @@ use borrow.Author.Needs.{needs}
 use Rattle.told_numbers.proofs.settings_of.Statement.{statement}
 use Rattle.told_numbers.proofs.settings_of.Tie as tie
 
-of-requires : tie.Need-of-requires
-of-requires c κs = search needs
-
-new-requires : tie.Need-new-requires
-new-requires c κs = search needs
-
 returns : tie.Need-returns
 returns c = rw (c .new .ensures, c .before .of .ensures)
 
 pub settings-of-spec : {M : Type 1} → statement M
-settings-of-spec = tie.close (tie.spec of-requires new-requires returns)
+settings-of-spec = tie.close (tie.spec (λ c κs. search needs) (λ c κs. search needs) returns)

@@ -3,11 +3,8 @@ use borrow.Author.Needs.{needs}
 use Rattle.told_sheets.proofs.numbers_of.Statement.{statement}
 use Rattle.told_sheets.proofs.numbers_of.Tie as tie
 
-number-requires : tie.Need-number-requires
-number-requires c κs = search needs
-
 returns : tie.Need-returns
 returns c = rw (c .number .ensures)
 
 pub numbers-of-spec : {M : Type 1} → statement M
-numbers-of-spec = tie.close (tie.spec number-requires returns)
+numbers-of-spec = tie.close (tie.spec (λ c κs. search needs) returns)

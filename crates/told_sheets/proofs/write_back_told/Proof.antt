@@ -6,23 +6,11 @@ use Rattle.told_sheets.proofs.Back.{unread-back, written-back}
 use Rattle.told_sheets.proofs.write_back_told.Statement.{statement}
 use Rattle.told_sheets.proofs.write_back_told.Tie as tie
 
-all-bytes-requires : tie.Need-all-bytes-requires
-all-bytes-requires c κs = search needs
-
-read-told-requires : tie.Need-read-told-requires
-read-told-requires c κs = search needs
-
 returns : tie.Need-returns
 returns c =
     let read = c .before .before in
     let start = read .before .before .before .before in
     unread-back (start .args .bytes .now) (read .read-told .result) (read .read-told .ensures) (start .args .out .now) (c .if1 .taken)
-
-write-told-requires : tie.Need-write-told-requires
-write-told-requires c κs = search needs
-
-same-length : tie.Need-same-length
-same-length c = search needs
 
 returns-2 : tie.Need-returns-2
 returns-2 c =
@@ -37,10 +25,4 @@ returns-2 c =
 pub write-back-told-spec : {M : Type 1} → statement M
 write-back-told-spec =
     tie.close
-    (tie.spec
-    all-bytes-requires
-    read-told-requires
-    returns
-    write-told-requires
-    same-length
-    returns-2)
+    (tie.spec (λ c κs. search needs) (λ c κs. search needs) returns (λ c κs. search needs) (λ c. search needs) returns-2)

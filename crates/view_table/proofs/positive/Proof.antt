@@ -1,6 +1,5 @@
 -- `view_table::positive` casts no negative number. Assumes nothing.
-use mathlib.Core.Bool.{Bool, true}
-use mathlib.Core.Path.{_≡_, sym, subst}
+use Rattle.ground.proofs.Kit.{Bool, true, _≡_, sym, subst, needs}
 use native.Mathlib.Nat.{lt-of-le-of-lt}
 use lib.IntN.{ℤ, pos, negsuc, natAbs}
 use lib.Dec.{T, lit<}
@@ -8,7 +7,6 @@ use lib.Signed.{ltZ, nonNeg, natAbs-le}
 use mir.Syntax.{w64}
 use mir.Val.{Fits, toZ, ofZ}
 use mir.ValLaws.{toZ-ofZ}
-use borrow.Author.Needs.{needs}
 use Rattle.view_table.proofs.positive.Statement.{statement}
 use Rattle.view_table.proofs.positive.Tie as tie
 
@@ -24,11 +22,5 @@ cast-result c =
     let few : Fits w64 (natAbs x) = record { fits = lt-of-le-of-lt (natAbs-le x (f .sfits)) (lit< tt) } in
     (not-negative (toZ w64 (ofZ w64 x)) (c .if1 .taken), subst (λ (z : ℤ). Fits w64 (natAbs z)) (sym (toZ-ofZ w64 x f)) few)
 
-returns : tie.Need-returns
-returns c = search needs
-
-returns-2 : tie.Need-returns-2
-returns-2 c = search needs
-
 pub positive-spec : {M : Type 1} → statement M
-positive-spec = tie.close (tie.spec cast-result returns returns-2)
+positive-spec = tie.close (tie.spec cast-result (λ c. search needs) (λ c. search needs))

@@ -1,9 +1,5 @@
 -- `view_table::put_records` ends and stays within what is lent. Assumes nothing.
-use Prim.Native.Nat.{_-_, _≤_}
-use mathlib.Core.Path.{_≡_, refl}
-use lib.ListN.{length}
-use native.Mathlib.Omega.{arith}
-use borrow.Author.Needs.{needs}
+use Rattle.ground.proofs.Kit.{_-_, _≤_, _≡_, refl, length, needs}
 use Rattle.view_table.proofs.put_records.Statement.{statement}
 use Rattle.view_table.proofs.put_records.Tie as tie
 
@@ -13,57 +9,11 @@ Inv-loop out₀ at table n next₀ i₀ out next i = (i ≤ n) × ((n ≤ 32) ×
 abbrev μ-loop : tie.MeasureT-loop
 μ-loop out₀ at table n next₀ i₀ out next i = n - i
 
-shorter-requires : tie.Need-shorter-requires Inv-loop μ-loop
-shorter-requires c κs = tt
-
-put-head-requires : tie.Need-put-head-requires Inv-loop μ-loop
-put-head-requires c κs = tt
-
 loop-holds : tie.Need-loop-holds Inv-loop μ-loop
 loop-holds c = (search needs, (search needs, refl))
-
-mul-task : tie.Need-mul-task Inv-loop μ-loop
-mul-task c = search needs
-
-element-copy-out-task : tie.Need-element-copy-out-task Inv-loop μ-loop
-element-copy-out-task c = search needs
-
-put-record-requires : tie.Need-put-record-requires Inv-loop μ-loop
-put-record-requires c κs = tt
-
-byte-requires : tie.Need-byte-requires Inv-loop μ-loop
-byte-requires c κs = tt
-
-add-i : tie.Need-add-i Inv-loop μ-loop
-add-i c = search needs
-
-loop-less : tie.Need-loop-less Inv-loop μ-loop
-loop-less c = search needs
-
-loop-again : tie.Need-loop-again Inv-loop μ-loop
-loop-again c = search needs
-
-same-length : tie.Need-same-length Inv-loop μ-loop
-same-length c = search needs
-
-returns : tie.Need-returns Inv-loop μ-loop
-returns c = tt
 
 pub put-records-spec : {M : Type 1} → statement M
 put-records-spec =
     tie.close
-    (tie.spec
-    Inv-loop
-    μ-loop
-    shorter-requires
-    put-head-requires
-    loop-holds
-    mul-task
-    element-copy-out-task
-    put-record-requires
-    byte-requires
-    add-i
-    loop-less
-    loop-again
-    same-length
-    returns)
+    (tie.spec Inv-loop μ-loop (λ _ _. tt) (λ _ _. tt) loop-holds (λ c. search needs) (λ c. search needs) (λ _ _. tt) (λ _ _. tt) (λ c. search needs)
+    (λ c. search needs) (λ c. search needs) (λ c. search needs) (λ c. tt))

@@ -1,7 +1,5 @@
 -- `wide::admit` meets its contract. Assumes nothing.
-use mathlib.Core.Path.{_≡_, sym, _∙_}
-use borrow.Author.Needs.{needs}
-use borrow.Author.Tests.{lt-ltb, le-ltb}
+use Rattle.ground.proofs.Kit.{_≡_, sym, _∙_, needs, lt-ltb, le-ltb}
 use Rattle.admission.specs.Admission.{andThen, misset, gate, roomy}
 use Rattle.admission.proofs.Chain.{gate-passed, then-admitted}
 use Rattle.wide.specs.Wide.{admission}
@@ -14,24 +12,6 @@ gate-is : (c : tie.After-and-then) → let a = c .before .before .before .before
 gate-is c =
     let g = c .before .before in
     rw (c .before .roomy .ensures, g .gate .ensures, g .before .misset .ensures) at (c .and-then .ensures)
-
-misset-requires : tie.Need-misset-requires
-misset-requires c κs = search needs
-
-gate-requires : tie.Need-gate-requires
-gate-requires c κs = search needs
-
-roomy-requires : tie.Need-roomy-requires
-roomy-requires c κs = search needs
-
-and-then-requires : tie.Need-and-then-requires
-and-then-requires c κs = search needs
-
-enum-told : tie.Need-enum-told
-enum-told c = search needs
-
-enum-told-2 : tie.Need-enum-told-2
-enum-told-2 c = search needs
 
 returns : tie.Need-returns
 unfolding admission
@@ -59,14 +39,5 @@ returns-3 c =
 pub admit-spec : {M : Type 1} → statement M
 admit-spec =
     tie.close
-    (tie.spec
-    misset-requires
-    gate-requires
-    roomy-requires
-    and-then-requires
-    enum-told
-    enum-told-2
-    returns
-    first-bad-requires
-    returns-2
-    returns-3)
+    (tie.spec (λ c κs. search needs) (λ c κs. search needs) (λ c κs. search needs) (λ c κs. search needs) (λ c. search needs) (λ c. search needs)
+    returns first-bad-requires returns-2 returns-3)

@@ -1,22 +1,9 @@
 -- `wide::decide` meets its contract. Assumes nothing.
-use mathlib.Core.Path.{_∙_, sym}
+use Rattle.ground.proofs.Kit.{sym, _∙_, needs}
 use Rattle.wide.proofs.Tables.{good-table}
 use Rattle.wide.proofs.Found.{admitted, refused-found, admitted-found}
-use borrow.Author.Needs.{needs}
 use Rattle.wide.proofs.decide.Statement.{statement}
 use Rattle.wide.proofs.decide.Tie as tie
-
-admit-requires : tie.Need-admit-requires
-admit-requires c κs = search needs
-
-enum-told : tie.Need-enum-told
-enum-told c = search needs
-
-enum-told-2 : tie.Need-enum-told-2
-enum-told-2 c = search needs
-
-decide-requires : tie.Need-decide-requires
-decide-requires c κs = search needs
 
 returns : tie.Need-returns
 returns c =
@@ -28,9 +15,6 @@ least-step-requires c κs =
     let r = admitted _ _ _ _ (sym (c .before .before .admit .ensures) ∙ c .enum-told .given .1) in
     good-table _ (r .passed .few) (r .none-bad)
 
-decide-requires-2 : tie.Need-decide-requires-2
-decide-requires-2 c κs = search needs
-
 returns-2 : tie.Need-returns-2
 returns-2 c =
     let l = c .before in
@@ -40,12 +24,5 @@ returns-2 c =
 pub decide-spec : {M : Type 1} → statement M
 decide-spec =
     tie.close
-    (tie.spec
-    admit-requires
-    enum-told
-    enum-told-2
-    decide-requires
-    returns
-    least-step-requires
-    decide-requires-2
-    returns-2)
+    (tie.spec (λ c κs. search needs) (λ c. search needs) (λ c. search needs) (λ c κs. search needs) returns least-step-requires
+    (λ c κs. search needs) returns-2)

@@ -1,11 +1,8 @@
 -- `wide::find` meets its contract. Assumes nothing.
-use Prim.Native.Nat.{min}
-use mathlib.Core.Path.{_≡_}
-use lib.ListN.{length}
+use Rattle.ground.proofs.Kit.{min, _≡_, length, needs}
 use Rattle.kinds.specs.Answer.{handed}
 use Rattle.wide.specs.Wide.{found}
 use Rattle.wide.proofs.Found.{may-grant, meets}
-use borrow.Author.Needs.{needs}
 use Rattle.wide.proofs.find.Statement.{statement}
 use Rattle.wide.proofs.find.Tie as tie
 
@@ -14,20 +11,8 @@ answered : (c : tie.After-decide) → let a = c .before .before .before .before 
     handed (c .decide .result) ≡ found (a .m) (a .table .rows) (a .table .n) (min (length (a .periods .now)) (length (a .cores .now)))
 answered c = rw (c .before .shorter .ensures) at (c .decide .ensures)
 
-shorter-requires : tie.Need-shorter-requires
-shorter-requires c κs = search needs
-
-decide-requires : tie.Need-decide-requires
-decide-requires c κs = search needs
-
 grant-requires : tie.Need-grant-requires
 grant-requires c κs = may-grant _ (c .before .before .decide .result) _ _ _ (answered (c .before .before))
-
-same-length : tie.Need-same-length
-same-length c = search needs
-
-same-length-2 : tie.Need-same-length-2
-same-length-2 c = search needs
 
 returns : tie.Need-returns
 returns c =
@@ -35,6 +20,4 @@ returns c =
     meets _ _ _ _ _ _ _ _ (answered (g .before .before .before)) (g .grant .ensures)
 
 pub find-spec : {M : Type 1} → statement M
-find-spec =
-    tie.close
-    (tie.spec shorter-requires decide-requires grant-requires same-length same-length-2 returns)
+find-spec = tie.close (tie.spec (λ c κs. search needs) (λ c κs. search needs) grant-requires (λ c. search needs) (λ c. search needs) returns)

@@ -1,8 +1,5 @@
 -- `wide::first_bad` meets its contract. Assumes nothing.
-use Prim.Native.Nat.{ℕ, _-_, _≤_, _<_}
-use mathlib.Core.Bool.{false, not}
-use mathlib.Core.Path.{_≡_}
-use native.Mathlib.Omega.{arith}
+use Rattle.ground.proofs.Kit.{ℕ, _-_, _≤_, _<_, false, not, _≡_, arith}
 use Rattle.ground.proofs.First.{bad-here, bad-more, bad-none}
 use Rattle.wide_task.specs.WideTask.{at, isGood}
 use Rattle.wide.specs.Table.{firstBad}
@@ -18,27 +15,12 @@ abbrev μ-loop : tie.MeasureT-loop
 loop-holds : tie.Need-loop-holds Inv-loop μ-loop
 loop-holds c = (omega arith, λ j l. absurd (omega arith))
 
-mul-good : tie.Need-mul-good Inv-loop μ-loop
-mul-good c = omega arith
-
-element-copy-out-good : tie.Need-element-copy-out-good Inv-loop μ-loop
-element-copy-out-good c = omega arith
-
-good-requires : tie.Need-good-requires Inv-loop μ-loop
-good-requires c κs = tt
-
 returns : tie.Need-returns Inv-loop μ-loop
 unfolding firstBad
 returns c =
     let l = c .before .before .before .before in
     let rows = l .before .args .t1 .rows in
     bad-here (λ j. isGood (at rows j)) _ _ (l .loop .inv .1) (c .before .before .before .loop-test .taken) _ (c .before .good2 .ensures) (c .if1 .taken)
-
-add-i : tie.Need-add-i Inv-loop μ-loop
-add-i c = omega arith
-
-loop-less : tie.Need-loop-less Inv-loop μ-loop
-loop-less c = omega arith
 
 loop-again : tie.Need-loop-again Inv-loop μ-loop
 loop-again c =
@@ -55,15 +37,5 @@ returns-2 c =
 pub first-bad-spec : {M : Type 1} → statement M
 first-bad-spec =
     tie.close
-    (tie.spec
-    Inv-loop
-    μ-loop
-    loop-holds
-    mul-good
-    element-copy-out-good
-    good-requires
-    returns
-    add-i
-    loop-less
-    loop-again
+    (tie.spec Inv-loop μ-loop loop-holds (λ c. omega arith) (λ c. omega arith) (λ _ _. tt) returns (λ c. omega arith) (λ c. omega arith) loop-again
     returns-2)

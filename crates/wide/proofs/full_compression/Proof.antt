@@ -1,7 +1,5 @@
 -- `wide::full_compression` meets its contract. Assumes nothing.
-use Prim.Native.Nat.{ℕ, _-_, _≤_}
-use mathlib.Core.Path.{_≡_, sym}
-use native.Mathlib.Omega.{arith}
+use Rattle.ground.proofs.Kit.{ℕ, _-_, _≤_, _≡_, sym, arith}
 use Rattle.ground.specs.Folds.{maxTo}
 use Rattle.ground.proofs.Folds.{max-none, max-step}
 use Rattle.wide_task.specs.WideTask.{at}
@@ -19,23 +17,8 @@ abbrev μ-loop : tie.MeasureT-loop
 loop-holds : tie.Need-loop-holds Inv-loop μ-loop
 loop-holds c = (omega arith, sym (max-none _))
 
-mul-saturation : tie.Need-mul-saturation Inv-loop μ-loop
-mul-saturation c = omega arith
-
-element-copy-out-saturation : tie.Need-element-copy-out-saturation Inv-loop μ-loop
-element-copy-out-saturation c = omega arith
-
 saturation-requires : tie.Need-saturation-requires Inv-loop μ-loop
 saturation-requires c κs = c .before .before .before .pre .good _ (c .before .loop-test .taken)
-
-later-requires : tie.Need-later-requires Inv-loop μ-loop
-later-requires c κs = tt
-
-add-i : tie.Need-add-i Inv-loop μ-loop
-add-i c = omega arith
-
-loop-less : tie.Need-loop-less Inv-loop μ-loop
-loop-less c = omega arith
 
 loop-again : tie.Need-loop-again Inv-loop μ-loop
 loop-again c =
@@ -52,15 +35,5 @@ returns c =
 pub full-compression-spec : {M : Type 1} → statement M
 full-compression-spec =
     tie.close
-    (tie.spec
-    Inv-loop
-    μ-loop
-    loop-holds
-    mul-saturation
-    element-copy-out-saturation
-    saturation-requires
-    later-requires
-    add-i
-    loop-less
-    loop-again
-    returns)
+    (tie.spec Inv-loop μ-loop loop-holds (λ c. omega arith) (λ c. omega arith) saturation-requires (λ _ _. tt) (λ c. omega arith) (λ c. omega arith)
+    loop-again returns)

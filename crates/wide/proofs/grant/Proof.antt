@@ -1,15 +1,8 @@
 -- `wide::grant` meets its contract. Assumes nothing.
-use mathlib.Core.Path.{_∙_, sym}
+use Rattle.ground.proofs.Kit.{sym, _∙_, needs}
 use Rattle.wide.proofs.Writing.{leaves-refused, leaves-accepted}
-use borrow.Author.Needs.{needs}
 use Rattle.wide.proofs.grant.Statement.{statement}
 use Rattle.wide.proofs.grant.Tie as tie
-
-accepted-requires : tie.Need-accepted-requires
-accepted-requires c κs = search needs
-
-step-requires : tie.Need-step-requires
-step-requires c κs = search needs
 
 write-periods-requires : tie.Need-write-periods-requires
 write-periods-requires c κs =
@@ -26,12 +19,6 @@ write-cores-requires c κs =
     let g = a .before .before .before .pre (sym (a .accepted .ensures) ∙ i .if1 .taken) in
     (g .table, g .roomy-cores, rw (k .step .ensures) (g .fits))
 
-same-length : tie.Need-same-length
-same-length c = search needs
-
-same-length-2 : tie.Need-same-length-2
-same-length-2 c = search needs
-
 returns : tie.Need-returns
 returns c =
     let w = c .before .before in
@@ -47,12 +34,5 @@ returns-2 c = leaves-refused (c .before .before .before .before .args .answer) _
 pub grant-spec : {M : Type 1} → statement M
 grant-spec =
     tie.close
-    (tie.spec
-    accepted-requires
-    step-requires
-    write-periods-requires
-    write-cores-requires
-    same-length
-    same-length-2
-    returns
-    returns-2)
+    (tie.spec (λ c κs. search needs) (λ c κs. search needs) write-periods-requires write-cores-requires (λ c. search needs) (λ c. search needs)
+    returns returns-2)

@@ -1,7 +1,5 @@
 -- `wide::least_step` meets its contract: the loop halves the range, by the law of halving. Assumes nothing.
-use Prim.Native.Nat.{_-_, _≤_}
-use mathlib.Core.Path.{sym, _∙_}
-use native.Mathlib.Omega.{arith}
+use Rattle.ground.proofs.Kit.{_-_, _≤_, sym, _∙_, arith}
 use Rattle.ground.proofs.Halving.{Halved, halved-all, halved-pass, halved-fail, halved-found, halved-none}
 use Rattle.wide_task.specs.Limits.{mostSteps}
 use Rattle.wide.specs.Table.{passesAt, leastStep}
@@ -30,9 +28,6 @@ add-middle c = let i = c .before .loop .inv in omega (arith, i .0, i .1 .last, i
 passes-at-requires : tie.Need-passes-at-requires Inv-loop μ-loop
 passes-at-requires c κs = c .before .before .before .pre
 
-loop-less : tie.Need-loop-less Inv-loop μ-loop
-loop-less c = omega arith
-
 loop-again : tie.Need-loop-again Inv-loop μ-loop
 loop-again c =
     let l = c .before .before in
@@ -41,9 +36,6 @@ loop-again c =
 
 add-from : tie.Need-add-from Inv-loop μ-loop
 add-from c = let i = c .before .before .before .loop .inv in omega (arith, i .0, i .1 .last)
-
-loop-less-2 : tie.Need-loop-less-2 Inv-loop μ-loop
-loop-less-2 c = omega arith
 
 loop-again-2 : tie.Need-loop-again-2 Inv-loop μ-loop
 loop-again-2 c =
@@ -67,18 +59,5 @@ returns-2 c =
 pub least-step-spec : {M : Type 1} → statement M
 least-step-spec =
     tie.close
-    (tie.spec
-    Inv-loop
-    μ-loop
-    full-compression-requires
-    add-to
-    loop-holds
-    add-middle
-    passes-at-requires
-    loop-less
-    loop-again
-    add-from
-    loop-less-2
-    loop-again-2
-    returns
-    returns-2)
+    (tie.spec Inv-loop μ-loop full-compression-requires add-to loop-holds add-middle passes-at-requires (λ c. omega arith) loop-again add-from
+    (λ c. omega arith) loop-again-2 returns returns-2)

@@ -1,7 +1,5 @@
 -- `wide::write_cores` meets its contract. Assumes nothing.
-use Prim.Native.Nat.{_-_, _≤_, ℕ}
-use mathlib.Core.Path.{_≡_}
-use native.Mathlib.Omega.{arith}
+use Rattle.ground.proofs.Kit.{ℕ, _-_, _≤_, _≡_, arith}
 use Rattle.ground.proofs.Buffer.{Front, front-none, front-more}
 use Rattle.wide_task.specs.WideTask.{at}
 use Rattle.wide_task.specs.Cores.{coresAt}
@@ -19,12 +17,6 @@ abbrev μ-loop : tie.MeasureT-loop
 loop-holds : tie.Need-loop-holds Inv-loop μ-loop
 loop-holds c = (omega arith, front-none _ _)
 
-mul-cores-at : tie.Need-mul-cores-at Inv-loop μ-loop
-mul-cores-at c = omega arith
-
-element-copy-out-cores-at : tie.Need-element-copy-out-cores-at Inv-loop μ-loop
-element-copy-out-cores-at c = omega arith
-
 cores-at-requires : tie.Need-cores-at-requires Inv-loop μ-loop
 cores-at-requires c κs = c .before .before .before .before .pre .0 .good _ (c .before .loop-test .taken)
 
@@ -32,18 +24,6 @@ cast-out : tie.Need-cast-out Inv-loop μ-loop
 cast-out c =
     let b = c .before .before .before .before .before in
     omega (arith, cores-within (b .args .t1 .rows) (b .args .t1 .n) (b .args .k) _ (c .before .before .loop-test .taken), b .pre .2, c .cores-at .ensures .is)
-
-mul-out : tie.Need-mul-out Inv-loop μ-loop
-mul-out c = omega arith
-
-slice-write-out : tie.Need-slice-write-out Inv-loop μ-loop
-slice-write-out c = omega arith
-
-add-i : tie.Need-add-i Inv-loop μ-loop
-add-i c = omega arith
-
-loop-less : tie.Need-loop-less Inv-loop μ-loop
-loop-less c = omega arith
 
 loop-again : tie.Need-loop-again Inv-loop μ-loop
 loop-again c =
@@ -61,18 +41,5 @@ returns c = let e : c .before .loop .i ≡ c .before .before .before .args .t1 .
 pub write-cores-spec : {M : Type 1} → statement M
 write-cores-spec =
     tie.close
-    (tie.spec
-    Inv-loop
-    μ-loop
-    loop-holds
-    mul-cores-at
-    element-copy-out-cores-at
-    cores-at-requires
-    cast-out
-    mul-out
-    slice-write-out
-    add-i
-    loop-less
-    loop-again
-    same-length
-    returns)
+    (tie.spec Inv-loop μ-loop loop-holds (λ c. omega arith) (λ c. omega arith) cores-at-requires cast-out (λ c. omega arith) (λ c. omega arith)
+    (λ c. omega arith) (λ c. omega arith) loop-again same-length returns)

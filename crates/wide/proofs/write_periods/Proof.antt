@@ -1,7 +1,5 @@
 -- `wide::write_periods` meets its contract. Assumes nothing.
-use Prim.Native.Nat.{_-_, _≤_, ℕ}
-use mathlib.Core.Path.{_≡_}
-use native.Mathlib.Omega.{arith}
+use Rattle.ground.proofs.Kit.{ℕ, _-_, _≤_, _≡_, arith}
 use Rattle.ground.proofs.Buffer.{Front, front-none, front-more}
 use Rattle.wide_task.specs.WideTask.{at}
 use Rattle.wide_task.specs.Cores.{periodAt}
@@ -18,26 +16,8 @@ abbrev μ-loop : tie.MeasureT-loop
 loop-holds : tie.Need-loop-holds Inv-loop μ-loop
 loop-holds c = (omega arith, front-none _ _)
 
-mul-period-at : tie.Need-mul-period-at Inv-loop μ-loop
-mul-period-at c = omega arith
-
-element-copy-out-period-at : tie.Need-element-copy-out-period-at Inv-loop μ-loop
-element-copy-out-period-at c = omega arith
-
 period-at-requires : tie.Need-period-at-requires Inv-loop μ-loop
 period-at-requires c κs = c .before .before .before .before .pre .0 .good _ (c .before .loop-test .taken)
-
-mul-out : tie.Need-mul-out Inv-loop μ-loop
-mul-out c = omega arith
-
-slice-write-out : tie.Need-slice-write-out Inv-loop μ-loop
-slice-write-out c = omega arith
-
-add-i : tie.Need-add-i Inv-loop μ-loop
-add-i c = omega arith
-
-loop-less : tie.Need-loop-less Inv-loop μ-loop
-loop-less c = omega arith
 
 loop-again : tie.Need-loop-again Inv-loop μ-loop
 loop-again c =
@@ -55,17 +35,5 @@ returns c = let e : c .before .loop .i ≡ c .before .before .before .args .t1 .
 pub write-periods-spec : {M : Type 1} → statement M
 write-periods-spec =
     tie.close
-    (tie.spec
-    Inv-loop
-    μ-loop
-    loop-holds
-    mul-period-at
-    element-copy-out-period-at
-    period-at-requires
-    mul-out
-    slice-write-out
-    add-i
-    loop-less
-    loop-again
-    same-length
-    returns)
+    (tie.spec Inv-loop μ-loop loop-holds (λ c. omega arith) (λ c. omega arith) period-at-requires (λ c. omega arith) (λ c. omega arith)
+    (λ c. omega arith) (λ c. omega arith) loop-again same-length returns)

@@ -1,5 +1,5 @@
 -- `wide_rows::empty` meets its contract. Assumes nothing.
-use mathlib.Core.Path.{refl}
+use Rattle.ground.proofs.Kit.{refl}
 use Rattle.wide_rows.proofs.empty.Statement.{statement}
 use Rattle.wide_rows.proofs.empty.Tie as tie
 

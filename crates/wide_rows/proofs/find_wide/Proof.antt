@@ -1,6 +1,6 @@
 -- `wide_rows::find_wide` meets its contract: the law of shape vmm, at the core `wide::find`, m, and two outputs.
 -- Assumes nothing.
-use mathlib.Core.Path.{subst}
+use Rattle.ground.proofs.Kit.{subst}
 use Rattle.walk.proofs.Thin.{id⊢, w16, w32, of-uint, fact-to}
 use Rattle.walk.proofs.ThinVmm.{thin}
 use Rattle.plan.specs.Plan.{Outcome, Meets}

@@ -1,12 +1,9 @@
 -- `writer::held` meets its contract. Assumes nothing.
 use lib.ListN.{length-map}
-use borrow.Author.Needs.{needs}
+use Rattle.ground.proofs.Kit.{needs}
 use Rattle.writer.proofs.Elements.{numbers-held, tasks-held, results-held}
 use Rattle.writer.proofs.held.Statement.{statement}
 use Rattle.writer.proofs.held.Tie as tie
-
-numbers-requires : tie.Need-numbers-requires
-numbers-requires c κs = search needs
 
 returns : tie.Need-returns
 returns c =
@@ -24,4 +21,4 @@ returns c =
     }
 
 pub held-spec : {M : Type 1} → statement M
-held-spec = tie.close (tie.spec numbers-requires returns)
+held-spec = tie.close (tie.spec (λ c κs. search needs) returns)

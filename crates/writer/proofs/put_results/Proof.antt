@@ -1,9 +1,5 @@
 -- `writer::put_results` meets its contract: the rows so far are stored, and nothing else. Assumes nothing.
-use Prim.Native.Nat.{_*_, _-_, _≤_}
-use mathlib.Core.Path.{_≡_, refl, _∙_}
-use native.Mathlib.Omega.{arith}
-use lib.ListN.{length}
-use borrow.Author.Needs.{needs}
+use Rattle.ground.proofs.Kit.{_-_, _*_, _≤_, _≡_, refl, _∙_, arith, length, needs}
 use Rattle.field.specs.Handover.{Put}
 use Rattle.field.proofs.Stores.{put-long}
 use Rattle.sheet.specs.Sections.{grantedSize}
@@ -23,29 +19,11 @@ abbrev μ-loop : tie.MeasureT-loop
 loop-holds : tie.Need-loop-holds Inv-loop μ-loop
 loop-holds c = (search needs, (refl, put-no-row grantedBytes noGranted grantedSize _ _ _))
 
-mul-put-granted : tie.Need-mul-put-granted Inv-loop μ-loop
-mul-put-granted c = search needs
-
-array-copy-out-put-granted : tie.Need-array-copy-out-put-granted Inv-loop μ-loop
-array-copy-out-put-granted c = search needs
-
-put-granted-requires : tie.Need-put-granted-requires Inv-loop μ-loop
-put-granted-requires c κs = search needs
-
-add-i : tie.Need-add-i Inv-loop μ-loop
-add-i c = search needs
-
-loop-less : tie.Need-loop-less Inv-loop μ-loop
-loop-less c = search needs
-
 loop-again : tie.Need-loop-again Inv-loop μ-loop
 loop-again c =
     let inv = c .before .before .before .before .before .before .loop .inv in
     let p = c .before .before .put-granted .ensures in
     (search needs, (put-long p ∙ inv .1 .0, put-row grantedBytes noGranted grantedSize _ _ (inv .1 .1) p))
-
-same-length : tie.Need-same-length Inv-loop μ-loop
-same-length c = search needs
 
 returns : tie.Need-returns Inv-loop μ-loop
 returns c =
@@ -56,15 +34,5 @@ returns c =
 pub put-results-spec : {M : Type 1} → statement M
 put-results-spec =
     tie.close
-    (tie.spec
-    Inv-loop
-    μ-loop
-    loop-holds
-    mul-put-granted
-    array-copy-out-put-granted
-    put-granted-requires
-    add-i
-    loop-less
-    loop-again
-    same-length
-    returns)
+    (tie.spec Inv-loop μ-loop loop-holds (λ c. search needs) (λ c. search needs) (λ c κs. search needs) (λ c. search needs) (λ c. search needs)
+    loop-again (λ c. search needs) returns)

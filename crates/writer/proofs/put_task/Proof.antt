@@ -1,24 +1,9 @@
 -- `writer::put_task` meets its contract. Assumes nothing.
-use borrow.Author.Needs.{needs}
+use Rattle.ground.proofs.Kit.{needs}
 use Rattle.field.proofs.Stores.{put-then}
 use Rattle.writer.specs.Encode.{taskBytes}
 use Rattle.writer.proofs.put_task.Statement.{statement}
 use Rattle.writer.proofs.put_task.Tie as tie
-
-put-u32-requires : tie.Need-put-u32-requires
-put-u32-requires c κs = search needs
-
-put-u32-requires-2 : tie.Need-put-u32-requires-2
-put-u32-requires-2 c κs = search needs
-
-put-u32-requires-3 : tie.Need-put-u32-requires-3
-put-u32-requires-3 c κs = search needs
-
-put-u32-requires-4 : tie.Need-put-u32-requires-4
-put-u32-requires-4 c κs = search needs
-
-same-length : tie.Need-same-length
-same-length c = search needs
 
 returns : tie.Need-returns
 unfolding taskBytes
@@ -32,10 +17,4 @@ returns c =
 pub put-task-spec : {M : Type 1} → statement M
 put-task-spec =
     tie.close
-    (tie.spec
-    put-u32-requires
-    put-u32-requires-2
-    put-u32-requires-3
-    put-u32-requires-4
-    same-length
-    returns)
+    (tie.spec (λ c κs. search needs) (λ c κs. search needs) (λ c κs. search needs) (λ c κs. search needs) (λ c. search needs) returns)

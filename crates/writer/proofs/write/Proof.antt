@@ -1,15 +1,9 @@
 -- `writer::write` meets its contract. Assumes nothing.
-use mathlib.Core.Path.{sym, _∙_}
-use native.Mathlib.Omega.{arith}
-use borrow.Author.Tests.{not-true, not-false}
-use borrow.Author.Needs.{needs}
+use Rattle.ground.proofs.Kit.{sym, _∙_, arith, needs, not-true, not-false}
 use Rattle.sheet.proofs.Stages.{settings-few, fits-few}
 use Rattle.writer.proofs.Answers.{wrong-settings, too-many, wrong-count, too-short, wrote}
 use Rattle.writer.proofs.write.Statement.{statement}
 use Rattle.writer.proofs.write.Tie as tie
-
-settings-fit-requires : tie.Need-settings-fit-requires
-settings-fit-requires c κs = search needs
 
 returns : tie.Need-returns
 returns c = wrong-settings _ _ (sym (c .before .settings-fit .ensures) ∙ not-true _ (c .if1 .taken))
@@ -18,9 +12,6 @@ returns-2 : tie.Need-returns-2
 returns-2 c =
     let taken = sym (c .before .before .settings-fit .ensures) ∙ not-false _ (c .before .if1 .left) in
     too-many _ _ taken (c .if2 .taken)
-
-results-fit-requires : tie.Need-results-fit-requires
-results-fit-requires c κs = search needs
 
 returns-3 : tie.Need-returns-3
 returns-3 c =
@@ -58,9 +49,6 @@ put-sheet-requires c κs =
     let tasks = few .if2 .left in
     (settings-few _ taken, (tasks, (omega arith, rw (c .before .before .end-place .ensures) at (c .before .if4 .left))))
 
-same-length : tie.Need-same-length
-same-length c = search needs
-
 returns-5 : tie.Need-returns-5
 returns-5 c =
     let put = c .before .before in
@@ -75,14 +63,5 @@ returns-5 c =
 pub write-spec : {M : Type 1} → statement M
 write-spec =
     tie.close
-    (tie.spec
-    settings-fit-requires
-    returns
-    returns-2
-    results-fit-requires
-    returns-3
-    end-place-requires
-    returns-4
-    put-sheet-requires
-    same-length
-    returns-5)
+    (tie.spec (λ c κs. search needs) returns returns-2 (λ c κs. search needs) returns-3 end-place-requires returns-4 put-sheet-requires
+    (λ c. search needs) returns-5)

@@ -1,5 +1,5 @@
 -- `kinds::Policy::of` meets its contract. Assumes nothing.
-use borrow.Author.Tests.{ne-eqb}
+use Rattle.ground.proofs.Kit.{ne-eqb}
 use Rattle.kinds.proofs.Policy.of.Statement.{statement}
 use Rattle.kinds.proofs.Policy.of.Tie as tie
 

@@ -1,13 +1,9 @@
 -- `kinds::Task::within` meets its contract: each `&&` joins the tests so far with the next. Assumes nothing.
-use mathlib.Core.Path.{_≡_, refl, _∙_, sym}
-use mathlib.Core.Logic.{⊎-elim}
-use lib.Dec.{leb}
-use borrow.Author.Tests.{le-leb, lt-leb}
+use Rattle.ground.proofs.Kit.{_≡_, refl, sym, _∙_, ⊎-elim, leb, needs, le-leb, lt-leb}
 use Rattle.ground.specs.Choice.{both}
 use Rattle.ground.proofs.Cases.{both-taken, both-left}
 use Rattle.kinds.specs.Limits.{longestPeriod}
 use Rattle.kinds.specs.Task.{isWithin}
-use borrow.Author.Needs.{needs}
 use Rattle.kinds.proofs.Task.within.Statement.{statement}
 use Rattle.kinds.proofs.Task.within.Tie as tie
 
@@ -31,12 +27,6 @@ four c =
     rw (← three (c .before))
     (⊎-elim (λ w. both-taken _ _ _ (w .0 .taken) (w .2)) (λ w. both-left _ _ _ (w .0 .left) (w .1)) (c .if3 .came))
 
-cost-requires : tie.Need-cost-requires
-cost-requires c κs = tt
-
-cast-if2 : tie.Need-cast-if2
-cast-if2 c = search needs
-
 returns : tie.Need-returns
 unfolding isWithin
 returns c =
@@ -50,4 +40,4 @@ returns-2 c =
     rw (← j .before .before .before .before .cost .ensures) (both-left _ _ _ (sym (four j) ∙ c .if4 .left) (four j))
 
 pub within-spec : {M : Type 1} → statement M
-within-spec = tie.close (tie.spec cost-requires cast-if2 returns returns-2)
+within-spec = tie.close (tie.spec (λ _ _. tt) (λ c. search needs) returns returns-2)

@@ -1,11 +1,5 @@
 -- `wide_task::WideTask::good` meets its contract: each `&&` joins the tests so far with the next. Assumes nothing.
-use Prim.Native.Nat.{_*_}
-use mathlib.Core.Bool.{Bool}
-use mathlib.Core.Path.{_≡_, refl, _∙_, sym}
-use mathlib.Core.Logic.{⊎-elim}
-use lib.Dec.{leb, ltb}
-use borrow.Author.Needs.{needs}
-use borrow.Author.Tests.{le-leb, lt-leb}
+use Rattle.ground.proofs.Kit.{_*_, Bool, _≡_, refl, sym, _∙_, ⊎-elim, leb, ltb, needs, le-leb, lt-leb}
 use Rattle.ground.specs.Choice.{both}
 use Rattle.ground.proofs.Cases.{both-taken, both-left}
 use Rattle.kinds.specs.Limits.{longestPeriod}
@@ -33,18 +27,6 @@ first-six t = both (first-five t) (leb (t .tmin) (t .tmax))
 
 abbrev first-seven : WideTask → Bool
 first-seven t = both (first-six t) (leb (t .tmax) longestPeriod)
-
-widened-requires : tie.Need-widened-requires
-widened-requires c κs = search needs
-
-mul-costliest : tie.Need-mul-costliest
-mul-costliest c = search needs
-
-cast-if3 : tie.Need-cast-if3
-cast-if3 c = search needs
-
-cast-if4 : tie.Need-cast-if4
-cast-if4 c = search needs
 
 two : (c : tie.Joined1) → c .if1 .if2 ≡ first-two (c .before .before .before .args .self)
 two c =
@@ -87,4 +69,4 @@ unfolding isGood
 returns-2 c = both-left _ _ _ (sym (seven (c .before)) ∙ c .if7 .left) (seven (c .before))
 
 pub good-spec : {M : Type 1} → statement M
-good-spec = tie.close (tie.spec widened-requires mul-costliest cast-if3 cast-if4 returns returns-2)
+good-spec = tie.close (tie.spec (λ c κs. search needs) (λ c. search needs) (λ c. search needs) (λ c. search needs) returns returns-2)
