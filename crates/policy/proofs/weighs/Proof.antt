@@ -1,7 +1,7 @@
--- `division::weighs` meets its contract. Assumes nothing.
+-- `policy::weighs` meets its contract. Assumes nothing.
 use Rattle.ground.proofs.Kit.{needs}
-use Rattle.division.proofs.weighs.Statement.{statement}
-use Rattle.division.proofs.weighs.Tie as tie
+use Rattle.policy.proofs.weighs.Statement.{statement}
+use Rattle.policy.proofs.weighs.Tie as tie
 
 returns : tie.Need-returns
 returns c = rw (c .before .left-of .ensures .is)

@@ -1,0 +1,26 @@
+-- The test as the code works it out, and on charges that a block holds.
+-- Assumes nothing.
+use Rattle.ground.proofs.Kit.{ℕ, List, _≡_, _∙_, leb}
+use Rattle.ground.proofs.Folds.{sum-cong, max-cong}
+use Rattle.springs.specs.Spring.{chargesOn}
+use Rattle.springs.specs.Columns.{springIn}
+use Rattle.springs.specs.Handover.{Chargeable, Loaded}
+use Rattle.springs.proofs.Springs.{charge-most}
+use Rattle.fit.specs.Fit.{loadIn}
+use Rattle.fit.specs.Handover.{Loads}
+use Rattle.policy.specs.declared.Weights.{Weights}
+use Rattle.policy.specs.Sides.{left}
+use Rattle.policy.specs.Handover.{TotalIs}
+use Rattle.policy.specs.Weighed.{weighed, chargedAt}
+
+pub weighed-worked-out : (w : Weights) (load : ℕ → ℕ) (n sum max : ℕ) → TotalIs load n sum max → leb (left w sum max) (w .r) ≡ weighed w load n
+unfolding weighed
+weighed-worked-out w load n sum max t = rw (t .sum-is, t .max-is)
+
+module _ (q : ℕ) (old new : List ℕ) (n k : ℕ) (c : Chargeable q old n) (l : Loaded (chargesOn q (springIn old) k) n old new) where
+  pub charges-loads : Loads new n
+  charges-loads = record { few = c .few; most = λ i b. rw (l .are i b) (charge-most q (springIn old i) (c .allowed i b) k) }
+
+  pub charged-weighed : (w : Weights) → weighed w (loadIn new) n ≡ chargedAt w q (springIn old) n k
+  unfolding weighed
+  charged-weighed w = rw (sum-cong (loadIn new) _ n (l .are), max-cong (loadIn new) _ n (l .are))
