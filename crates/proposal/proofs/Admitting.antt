@@ -69,4 +69,5 @@ module _ (s : Settings) (rows : List Task) (n proposed room : ℕ) (ready : Read
       let are : (i : ℕ) → i < n → loadIn new i ≡ loadsUnder s rows n k i = λ i l. w .are i l ∙ loads-are (rowsUnder s rows n) n block sprung s k i l in
       let most : (i : ℕ) → i < n → loadIn new i ≤ scale =
       λ i l. omega (arith, are i l, load-most s (at (rowsUnder s rows n) i) (good i l) (on i l) k) in
-      record { m-most = ready .passed .few .m-most; light = record { few = ready .passed .few .few; most = most }; are = are }
+      let few = ready .passed .few in
+      record { m-most = few .m-most; long = w .long ∙ sprung .long; light = record { few = few .few; most = most }; are = are }
