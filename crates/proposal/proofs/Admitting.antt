@@ -1,20 +1,17 @@
 -- What the admission of a proposal has checked, and the loads that it leaves.
 -- Assumes nothing.
-use Rattle.ground.proofs.Kit.{ℕ, _≤_, _<_, List, _≡_, _∙_, arith, ltb-false}
+use Rattle.ground.proofs.Kit.{ℕ, _≤_, List, _≡_, _∙_, ltb-false}
 use Rattle.kinds.specs.declared.Task.{Task}
 use Rattle.kinds.specs.declared.Settings.{Settings}
 use Rattle.kinds.specs.declared.Verdict.the-variants.{Accepted}
-use Rattle.kinds.specs.Limits.{scale}
-use Rattle.kinds.specs.Task.{at, Good, OnNotch}
 use Rattle.share.specs.Table.{firstBad}
-use Rattle.share.proofs.Charges.{load-most}
 use Rattle.share.proofs.Tables.{all-good, all-on}
 use Rattle.springs.specs.Spring.{loadsOn}
 use Rattle.springs.specs.Columns.{springIn}
 use Rattle.springs.specs.Handover.{Chargeable, Loaded, Sprung}
-use Rattle.springs.proofs.Blocks.{loads-are, sprung-chargeable}
-use Rattle.fit.specs.Fit.{loadIn}
-use Rattle.policy.specs.Under.{rowsUnder, loadsUnder}
+use Rattle.springs.proofs.Blocks.{loads-are, loads-most, sprung-chargeable}
+use Rattle.policy.specs.Under.{rowsUnder}
+use Rattle.policy.proofs.Weighing.{loaded-loads}
 use Rattle.admission.specs.Admission.{andThen, missetNumbers, gate, roomy, recordsGood}
 use Rattle.admission.proofs.Chain.{Few, unchecked, then-admitted, gate-opens, numbers-set, set-few, roomy-passed}
 use Rattle.proposal.specs.Proposal.{gateOf, admission}
@@ -55,19 +52,17 @@ admitted s rows n proposed room e =
 -- the springs of good records may be charged, and the loads of step k that are worked out from them are the tasks'
 module _ (s : Settings) (rows : List Task) (n proposed room : ℕ) (ready : Ready s rows n proposed room)
     (block : List ℕ) (sprung : Sprung (rowsUnder s rows n) n block) where
-  good : (i : ℕ) → i < n → Good (at (rowsUnder s rows n) i)
-  good = all-good (s .swap) (s .notch) rows n (ready .none-bad)
-
-  on : (i : ℕ) → i < n → OnNotch (s .notch) (at (rowsUnder s rows n) i)
-  on = all-on (s .swap) (s .notch) rows n (ready .none-bad) (ready .passed .notched)
-
   pub springs-chargeable : Chargeable (s .notch) block n
-  springs-chargeable = sprung-chargeable (rowsUnder s rows n) n block sprung (ready .passed .few .few) good (s .notch) on
+  springs-chargeable =
+      let good = all-good (s .swap) (s .notch) rows n (ready .none-bad) in
+      let on = all-on (s .swap) (s .notch) rows n (ready .none-bad) (ready .passed .notched) in
+      sprung-chargeable (rowsUnder s rows n) n block sprung (ready .passed .few .few) good (s .notch) on
 
   pub loads-held : (k : ℕ) (new : List ℕ) → Loaded (loadsOn s (springIn block) k) n block new → LoadsHeld s rows n k new
   loads-held k new w =
-      let are : (i : ℕ) → i < n → loadIn new i ≡ loadsUnder s rows n k i = λ i l. w .are i l ∙ loads-are (rowsUnder s rows n) n block sprung s k i l in
-      let most : (i : ℕ) → i < n → loadIn new i ≤ scale =
-      λ i l. omega (arith, are i l, load-most s (at (rowsUnder s rows n) i) (good i l) (on i l) k) in
-      let few = ready .passed .few in
-      record { m-most = few .m-most; long = w .long ∙ sprung .long; light = record { few = few .few; most = most }; are = are }
+      record {
+        m-most = ready .passed .few .m-most;
+        long = w .long ∙ sprung .long;
+        light = loaded-loads _ n block new (ready .passed .few .few) (loads-most s block n springs-chargeable k) w;
+        are = λ i l. w .are i l ∙ loads-are (rowsUnder s rows n) n block sprung s k i l;
+      }
