@@ -1,7 +1,8 @@
 -- The test as the code works it out, and on charges that a block holds.
 -- Assumes nothing.
-use Rattle.ground.proofs.Kit.{ℕ, List, _≡_, _∙_, leb}
+use Rattle.ground.proofs.Kit.{ℕ, _≤_, _<_, List, _≡_, leb}
 use Rattle.ground.proofs.Folds.{sum-cong, max-cong}
+use Rattle.kinds.specs.Limits.{scale, mostTasks}
 use Rattle.springs.specs.Spring.{chargesOn}
 use Rattle.springs.specs.Columns.{springIn}
 use Rattle.springs.specs.Handover.{Chargeable, Loaded}
@@ -17,9 +18,13 @@ pub weighed-worked-out : (w : Weights) (load : ℕ → ℕ) (n sum max : ℕ) �
 unfolding weighed
 weighed-worked-out w load n sum max t = rw (t .sum-is, t .max-is)
 
+-- loads that are written to a block, none above S
+pub loaded-loads : (load : ℕ → ℕ) (n : ℕ) (old new : List ℕ) → n ≤ mostTasks → ((i : ℕ) → i < n → load i ≤ scale) → Loaded load n old new → Loads new n
+loaded-loads load n old new few most l = record { few = few; most = λ i b. rw (l .are i b) (most i b) }
+
 module _ (q : ℕ) (old new : List ℕ) (n k : ℕ) (c : Chargeable q old n) (l : Loaded (chargesOn q (springIn old) k) n old new) where
   pub charges-loads : Loads new n
-  charges-loads = record { few = c .few; most = λ i b. rw (l .are i b) (charge-most q (springIn old i) (c .allowed i b) k) }
+  charges-loads = loaded-loads _ n old new (c .few) (λ i b. charge-most q (springIn old i) (c .allowed i b) k) l
 
   pub charged-weighed : (w : Weights) → weighed w (loadIn new) n ≡ chargedAt w q (springIn old) n k
   unfolding weighed

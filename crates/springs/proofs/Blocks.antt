@@ -5,7 +5,7 @@ use Rattle.ground.proofs.Kit.{getD-set-same, getD-set-other}
 use mathlib.Core.Path.{fun-ext}
 use Rattle.ground.specs.Folds.{listTo, sumTo}
 use Rattle.ground.proofs.Buffer.{list-cong}
-use Rattle.ground.proofs.Cases.{by-eq}
+use Rattle.ground.proofs.Cases.{by-eq, by-bool}
 use Rattle.ground.proofs.Folds.{sum-none, sum-more, sum-cong, max-to-le}
 use Rattle.kinds.specs.declared.Task.{Task}
 use Rattle.kinds.specs.declared.Settings.{Settings}
@@ -212,6 +212,14 @@ module _ (rows : List Task) (n : ℕ) (block : List ℕ) (w : Sprung rows n bloc
     pub sprung-chargeable : (q : ℕ) → ((i : ℕ) → i < n → OnNotch q (at rows i)) → Chargeable q block n
     sprung-chargeable q on =
         record { few = few; long = w .long; allowed = λ i l. rw (w .springs i l) (good-allowed (at rows i) (good i l) q (on i l)) }
+
+-- no load is above S
+pub loads-most : (s : Settings) (block : List ℕ) (n : ℕ) → Chargeable (s .notch) block n → (k i : ℕ) → i < n → loadsOn s (springIn block) k i ≤ scale
+loads-most s block n w k i l =
+    let a = w .allowed i l in
+    by-bool (testsCharge s)
+    (λ e. rw e (charge-most (s .notch) (springIn block i) a k))
+    (λ e. rw e (share-most (springIn block i) (a .within) k))
 
 -- document 01: "K is never above 999,999"
 pub full-low : (q : ℕ) (block : List ℕ) (n : ℕ) → Chargeable q block n → fullIn block n ≤ 999999
