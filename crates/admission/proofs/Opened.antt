@@ -1,11 +1,10 @@
 -- What every call on a table has in hand once it is admitted.
 -- Assumes nothing.
-use Rattle.ground.proofs.Kit.{ℕ, _<_, Bool, List, _≡_, sym, _∙_}
+use Rattle.ground.proofs.Kit.{ℕ, Bool, List, _≡_, sym, _∙_}
 use Rattle.kinds.specs.declared.Task.{Task}
 use Rattle.kinds.specs.declared.Settings.{Settings}
 use Rattle.kinds.specs.declared.Verdict.{Verdict}
 use Rattle.kinds.specs.declared.Verdict.the-variants.{Accepted}
-use Rattle.kinds.specs.Task.{at, Good, OnNotch}
 use Rattle.share.specs.Table.{pricedRows}
 use Rattle.share.proofs.Tables.{all-good, all-on}
 use Rattle.springs.specs.Handover.{Sprung, Chargeable}
@@ -13,11 +12,9 @@ use Rattle.springs.proofs.Blocks.{sprung-chargeable}
 use Rattle.admission.specs.Handover.{AdmittedSprung}
 use Rattle.admission.proofs.Chain.{Ready, admitted}
 
--- every check has passed, the records are good once their swaps are paid for, and the block holds the springs of those, which may be charged
+-- every check has passed, and the block holds the springs of the records with their swaps paid for, which may be charged
 pub record Opened (serves : Bool) (s : Settings) (rows : List Task) (n room : ℕ) (block : List ℕ) : Type 0 where
   pub ready : Ready serves s rows n room
-  pub good : (i : ℕ) → i < n → Good (at (pricedRows (s .swap) rows n) i)
-  pub on : (i : ℕ) → i < n → OnNotch (s .notch) (at (pricedRows (s .swap) rows n) i)
   pub sprung : Sprung (pricedRows (s .swap) rows n) n block
   pub chargeable : Chargeable (s .notch) block n
 
@@ -30,8 +27,6 @@ opened serves s rows n room a block x e =
     let paid = pricedRows (s .swap) rows n in
     record {
       ready = ready;
-      good = good;
-      on = on;
       sprung = x .sprung e;
       chargeable = sprung-chargeable paid n block (x .sprung e) (ready .passed .few) good (s .notch) on;
     }

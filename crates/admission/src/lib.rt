@@ -12,7 +12,8 @@ ghost use Rattle.ground.specs.Choice.{both};
 ghost use Rattle.kinds.specs.Policy.{isFirstFit};
 ghost use Rattle.admission.specs.Admission.{andThen, knows, misset, noEdition, missetNumbers, unsuited, missetUnder};
 ghost use Rattle.admission.specs.Admission.{gate, served, roomy, gateOf};
-ghost use Rattle.admission.specs.Handover.{Roomy, AdmittedSprung};
+ghost use Rattle.admission.specs.Handover.{AdmittedSprung};
+ghost use Rattle.springs.specs.Handover.{Roomy};
 
 // The policy's own refusal: 1 where it is none of those numbered, 15 where it is withdrawn.
 pub fn knows(policy: Policy) -> Verdict

@@ -8,12 +8,11 @@ use kinds::Verdict;
 use springs::Columns;
 ghost use mathlib.Core.Path.{_≡_};
 ghost use Prim.Native.Nat.{_+_, _-_, _≤_, _<_};
-ghost use lib.ListN.{length};
 ghost use Rattle.ground.specs.Folds.{listTo};
 ghost use Rattle.kinds.specs.Limits.{mostTasks};
 ghost use Rattle.kinds.specs.Task.{table, tableWith};
 ghost use Rattle.kinds.specs.Answer.{accepted, refused};
-ghost use Rattle.springs.specs.Columns.{room};
+ghost use Rattle.springs.specs.Handover.{Roomy};
 ghost use Rattle.keep.specs.Keep.{kept, leftFrom, leftRow, joinedRows, joined, left, handedChange};
 ghost use Rattle.keep.specs.Handover.{ClosedUp};
 
@@ -86,7 +85,7 @@ fn with(old: Table, task: Task) -> Table
 
 // Moves the springs that stand after a place of a block down by one.
 fn close_up(block: &mut [u32; Columns::ROOM], place: usize, n: usize)
-    requires { ⌜ (n ≤ mostTasks) × (place < n) × (length (now block) ≡ room) ⌝ }
+    requires { ⌜ (n ≤ mostTasks) × (place < n) × Roomy (now block) ⌝ }
     ensures { λ _. ⌜ ClosedUp place (n - 1) (now (block .entry)) (now (block .exit)) ⌝ }
 {
     let last = n - 1;

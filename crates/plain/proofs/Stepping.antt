@@ -116,7 +116,7 @@ module _ (s : Settings) (p : Policy) (m n : ℕ) (r : Step) (old new : List ℕ)
         beside = h .beside;
       }
 
--- on the springs of a table it is the step that demand 2 asks for, and they still stand there
+-- on the springs of a table it is the step that demand 2 asks for
 module _ (s : Settings) (rows : List Task) (n : ℕ) (old new : List ℕ) (w : Sprung (rowsUnder s rows n) n old) (r : Step)
     (h : Searched (meant (s .policy)) (s .m) (loadsOn s (springIn old)) n r old new) where
   pub step-found : r ≡ leastUnder s rows n
@@ -128,6 +128,3 @@ module _ (s : Settings) (rows : List Task) (n : ℕ) (old new : List ℕ) (w : S
       ∙ (step-same (meant (s .policy)) (s .m) (loadsOn s (springIn old)) (loadsUnder s rows n) n _ (loads-are paid n old w s)
       ∙ ap (leastStep (meant (s .policy)) (s .m) (loadsUnder s rows n) n)
       (max-cong (λ i. springIn old i .saturation) (λ i. saturationAt (at paid i)) n saturates))
-
-  pub still-sprung : Sprung (rowsUnder s rows n) n new
-  still-sprung = record { long = h .beside .long ∙ w .long; springs = λ i l. rw (springs-beside old new (h .beside)) (w .springs i l) }

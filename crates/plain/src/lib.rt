@@ -16,8 +16,7 @@ ghost use Rattle.kinds.specs.Limits.{mostProcessors};
 ghost use Rattle.kinds.specs.Policy.{meant, Served};
 ghost use Rattle.springs.specs.Spring.{sharesOn, chargesOn, loadsOn};
 ghost use Rattle.springs.specs.Columns.{springIn};
-ghost use Rattle.springs.specs.Handover.{Springy, Chargeable};
-ghost use Rattle.admission.specs.Handover.{Roomy};
+ghost use Rattle.springs.specs.Handover.{Roomy, Springy, Chargeable};
 ghost use Rattle.plan.specs.Plan.{found, outcome, Meets};
 ghost use Rattle.plan.specs.Handover.{FoundSprung};
 ghost use Rattle.plain.specs.Handover.{Searched};
@@ -107,10 +106,11 @@ fn least_shared(policy: Policy, m: u16, block: &mut [u32; Columns::ROOM], n: usi
     ensures { λ r. ⌜ Searched policy m (sharesOn (springIn (now (block .entry)))) n r (now (block .entry)) (now (block .exit)) ⌝ }
 {
     let full = springs::full_compression(block, n);
+    let most = policy::most_sum(policy, m, n);
     let mut sum = springs::shares_at(block, n, 0);
     let mut k: u32 = 0;
     loop {
-        if policy::passes_summed(policy, m, block, n, sum) {
+        if policy::passes_summed(policy, m, block, n, sum, most) {
             return Step::At(k);
         }
         if full <= k {

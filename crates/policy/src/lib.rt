@@ -101,7 +101,7 @@ pub fn passes(policy: Policy, m: u16, block: &[u32; Columns::ROOM], n: usize) ->
 }
 
 // What the loads of n tasks that pass add up to at most.
-fn most_sum(policy: Policy, m: u16, n: usize) -> u64
+pub fn most_sum(policy: Policy, m: u16, n: usize) -> u64
     requires { ⌜ (1 ≤ m) × (m ≤ mostProcessors) × (n ≤ mostTasks) ⌝ }
     ensures { λ r. ⌜ r ≡ mostSum policy m n ⌝ }
 {
@@ -112,18 +112,20 @@ fn most_sum(policy: Policy, m: u16, n: usize) -> u64
     w.r
 }
 
-// The same with the sum of the loads at hand: where they add up to more than can pass, the policy is not tried.
+// The same with the sum of the loads at hand, and what it may be at most: where it is more, the policy is not tried.
 pub fn passes_summed(
     policy: Policy,
     m: u16,
     block: &[u32; Columns::ROOM],
     n: usize,
     sum: u64,
+    most: u64,
 ) -> bool
-    requires { ⌜ Loads (now block) n × (1 ≤ m) × (m ≤ mostProcessors) × Served policy × (sum ≡ sumTo (loadIn (now block)) n) ⌝ }
+    requires { ⌜ Loads (now block) n × (1 ≤ m) × (m ≤ mostProcessors) × Served policy
+        × (sum ≡ sumTo (loadIn (now block)) n) × (most ≡ mostSum policy m n) ⌝ }
     ensures { λ r. ⌜ r ≡ passes policy m (loadIn (now (block .entry))) n ⌝ }
 {
-    if most_sum(policy, m, n) < sum {
+    if most < sum {
         return false;
     }
     passes(policy, m, block, n)

@@ -9,7 +9,7 @@ use Rattle.kinds.specs.declared.Settings.{Settings}
 use Rattle.kinds.specs.declared.Verdict.{Verdict}
 use Rattle.kinds.specs.declared.Verdict.the-variants.{Accepted}
 use Rattle.kinds.specs.Limits.{mostProcessors}
-use Rattle.springs.specs.Columns.{room}
+use Rattle.springs.specs.Handover.{Roomy}
 use Rattle.fit.specs.Fit.{loadIn}
 use Rattle.fit.specs.Handover.{Loads}
 use Rattle.policy.specs.Under.{loadsUnder}
@@ -19,7 +19,7 @@ use Rattle.proposal.specs.Proposal.{placeIn, admission}
 -- what the admission has checked of the counts, and a block that has the loads of the tasks at step k first
 pub record LoadsHeld (s : Settings) (rows : List Task) (n k : ℕ) (block : List ℕ) : Type 0 where
   pub m-most : s .m ≤ mostProcessors
-  pub long : length block ≡ room
+  pub long : Roomy block
   pub light : Loads block n
   pub are : (i : ℕ) → i < n → loadIn block i ≡ loadsUnder s rows n k i
 

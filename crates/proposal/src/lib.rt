@@ -14,7 +14,7 @@ ghost use Rattle.ground.specs.First.{firstBelow};
 ghost use Rattle.ground.specs.Folds.{listTo};
 ghost use Rattle.kinds.specs.Limits.{mostProcessors};
 ghost use Rattle.fit.specs.Fit.{loadIn};
-ghost use Rattle.admission.specs.Handover.{Roomy};
+ghost use Rattle.springs.specs.Handover.{Roomy};
 ghost use Rattle.proposal.specs.Loads.{isOutOfRange, firstOutOfRange, isOverfull};
 ghost use Rattle.proposal.specs.Proposal.{placeIn, gateOf, outcome, Meets};
 ghost use Rattle.proposal.specs.Handover.{AdmittedLoaded, Loadable, LoadsAre};

@@ -23,8 +23,8 @@ use Rattle.share.proofs.Tables.{all-good, all-on}
 use Rattle.springs.specs.declared.Spring.{Spring}
 use Rattle.springs.specs.Spring.{sharesOn, saturations, chargesOn}
 use Rattle.springs.specs.Columns.{springIn, fullIn}
-use Rattle.springs.specs.Handover.{Beside, Sprung}
-use Rattle.springs.proofs.Blocks.{springs-beside, shares-are, saturations-are, loads-are}
+use Rattle.springs.specs.Handover.{Sprung}
+use Rattle.springs.proofs.Blocks.{shares-are, saturations-are, loads-are}
 use Rattle.policy.specs.Sides.{weightsOf}
 use Rattle.policy.specs.Looks.{looksFor, looksOf}
 use Rattle.policy.specs.Under.{rowsUnder, fullUnder, loadsUnder, leastUnder, looksUnder, mostLooks}
@@ -104,10 +104,6 @@ module _ (s : Settings) (rows : List Task) (n : ℕ) (block : List ℕ) (w : Spr
 
   pub least-found : (r : Ended) → SearchUnder s block n r → LeastFound s rows n r
   least-found r h = by-bool (testsCharge s) (λ e. second-found r e (h .second e)) (λ e. first-found r e (h .first e))
-
--- a search leaves the springs in the block
-pub still-sprung : (rows : List Task) (n : ℕ) (old new : List ℕ) → Sprung rows n old → Beside old new → Sprung rows n new
-still-sprung rows n old new w b = record { long = b .long ∙ w .long; springs = λ i l. rw (springs-beside old new b) (w .springs i l) }
 
 -- the looks of a call, as the code has them
 module _ (s : Settings) (rows : List Task) (n room : ℕ) (a : verdict.Verdict) (is : a ≡ admission false s rows n room) where

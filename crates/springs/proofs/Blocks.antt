@@ -94,6 +94,10 @@ module _ (old new : List ℕ) (b : Beside old new) (n : ℕ) where
   pub chargeable-beside : (q : ℕ) → Chargeable q old n → Chargeable q new n
   chargeable-beside q w = record { few = w .few; long = b .long ∙ w .long; allowed = rw (springs-beside old new b) (w .allowed) }
 
+-- and a block of a table's springs still holds them
+pub sprung-beside : (rows : List Task) (n : ℕ) (old new : List ℕ) → Beside old new → Sprung rows n old → Sprung rows n new
+sprung-beside rows n old new b w = record { long = b .long ∙ w .long; springs = λ i l. rw (springs-beside old new b) (w .springs i l) }
+
 -- what may be charged is within its limits
 pub charged-springy : (q : ℕ) (block : List ℕ) (n : ℕ) → Chargeable q block n → Springy block n
 charged-springy q block n w = record { few = w .few; long = w .long; within = λ i l. w .allowed i l .within }

@@ -38,15 +38,19 @@ pub record Allowed (q : ℕ) (s : Spring) : Type 0 where
   pub most : periodFor q s (s .least) ≤ longestPeriod
   pub whole : chargeFor q s (s .largest) ≡ s .largest
 
+-- a block has room for the springs of the most tasks
+abbrev pub Roomy : List ℕ → Type 0
+Roomy block = length block ≡ room
+
 -- a block holds n springs that are within their limits, or even allowed periods
 pub record Springy (block : List ℕ) (n : ℕ) : Type 0 where
   pub few : n ≤ mostTasks
-  pub long : length block ≡ room
+  pub long : Roomy block
   pub within : AllWithin (springIn block) n
 
 pub record Chargeable (q : ℕ) (block : List ℕ) (n : ℕ) : Type 0 where
   pub few : n ≤ mostTasks
-  pub long : length block ≡ room
+  pub long : Roomy block
   pub allowed : (i : ℕ) → i < n → Allowed q (springIn block i)
 
 -- the first n loads of a block are written, and nothing else has moved
@@ -73,7 +77,7 @@ pub record Put (i : ℕ) (s : Spring) (old new : List ℕ) : Type 0 where
 
 -- a block holds the springs of the first n of some records
 pub record Sprung (rows : List Task) (n : ℕ) (block : List ℕ) : Type 0 where
-  pub long : length block ≡ room
+  pub long : Roomy block
   pub springs : (i : ℕ) → i < n → springIn block i ≡ springOf (at rows i)
 
 -- those before the first record that is not good, which is number r; it is n where all are

@@ -5,12 +5,12 @@ use kinds::Table;
 use kinds::Task;
 ghost use mathlib.Core.Path.{_≡_};
 ghost use Prim.Native.Nat.{ℕ, _-_, _≤_, _<_, max};
-ghost use lib.ListN.{length, getD};
+ghost use lib.ListN.{getD};
 ghost use Rattle.kinds.specs.Limits.{scale, greatestElasticity, longestPeriod, mostTasks};
 ghost use Rattle.kinds.specs.Task.{Good};
 ghost use Rattle.springs.specs.Spring.{springOf, shareOn, letDown, sharesOn, periodFor, chargeFor, chargesOn, loadsOn};
-ghost use Rattle.springs.specs.Columns.{room, springIn, fullIn};
-ghost use Rattle.springs.specs.Handover.{Within, Allowed, Springy, Chargeable, Loaded, Summed, Put, SprungUntil};
+ghost use Rattle.springs.specs.Columns.{springIn, fullIn};
+ghost use Rattle.springs.specs.Handover.{Within, Allowed, Roomy, Springy, Chargeable, Loaded, Summed, Put, SprungUntil};
 
 // All that a task's shares, periods and charges depend on.
 pub struct Spring {
@@ -76,7 +76,7 @@ pub fn spring_in(block: &[u32; Columns::ROOM], i: usize) -> Spring
 
 // Puts a spring into a block as number i.
 pub fn put_spring(block: &mut [u32; Columns::ROOM], i: usize, spring: Spring)
-    requires { ⌜ (i < mostTasks) × (length (now block) ≡ room) ⌝ }
+    requires { ⌜ (i < mostTasks) × Roomy (now block) ⌝ }
     ensures { λ _. ⌜ Put i spring (now (block .entry)) (now (block .exit)) ⌝ }
 {
     block[Columns::LARGEST + i] = spring.largest;
@@ -90,7 +90,7 @@ pub fn put_spring(block: &mut [u32; Columns::ROOM], i: usize, spring: Spring)
 // The springs of a table, worked out once for a call into a lent block, up to the first record that is not good where a swap costs so much and
 // a notch is so wide. Returns the number of that record, or how many there are.
 pub fn springs_of(table: Table, swap: u16, notch: u16, block: &mut [u32; Columns::ROOM]) -> usize
-    requires { ⌜ (table .n ≤ mostTasks) × (1 ≤ notch) × (length (now block) ≡ room) ⌝ }
+    requires { ⌜ (table .n ≤ mostTasks) × (1 ≤ notch) × Roomy (now block) ⌝ }
     ensures { λ r. ⌜ SprungUntil swap notch (table .rows) (table .n) r (now (block .exit)) ⌝ }
 {
     let n = table.n;

@@ -1,9 +1,10 @@
 -- `plain::decide_in` meets its contract. Assumes nothing.
 use Rattle.ground.proofs.Kit.{true, _∙_, needs}
+use Rattle.springs.proofs.Blocks.{sprung-beside}
 use Rattle.admission.proofs.Chain.{passed-served}
 use Rattle.admission.proofs.Opened.{Opened, opened}
 use Rattle.plan.proofs.Found.{refused-found, admitted-found, refused-sprung}
-use Rattle.plain.proofs.Stepping.{step-found, still-sprung}
+use Rattle.plain.proofs.Stepping.{step-found}
 use Rattle.plain.proofs.decide_in.Statement.{statement}
 use Rattle.plain.proofs.decide_in.Tie as tie
 
@@ -37,7 +38,7 @@ returns-2 c =
     let step = step-found (args .settings) (args .table .rows) (args .table .n) _ _ sprung _ (searched .least-step .ensures) in
     record {
       answers = c .decide2 .ensures ∙ admitted-found true _ _ _ _ _ (admitted .admit .ensures .is) _ step;
-      sprung = λ _. still-sprung (args .settings) (args .table .rows) (args .table .n) _ _ sprung _ (searched .least-step .ensures);
+      sprung = λ _. sprung-beside _ _ _ _ (searched .least-step .ensures .beside) sprung;
     }
 
 pub decide-in-spec : {M : Type 1} → statement M

@@ -10,13 +10,13 @@ use Rattle.plain.proofs.least_shared.Statement.{statement}
 use Rattle.plain.proofs.least_shared.Tie as tie
 
 abbrev Inv-loop : tie.InvT-loop
-Inv-loop policy m block₀ n full sum₀ k₀ block sum k = (k ≤ full) × Stepped policy m n k sum block₀ block
+Inv-loop policy m block₀ n full most sum₀ k₀ block sum k = (k ≤ full) × Stepped policy m n k sum block₀ block
 
 abbrev μ-loop : tie.MeasureT-loop
-μ-loop policy m block₀ n full sum₀ k₀ block sum k = full - k
+μ-loop policy m block₀ n full most sum₀ k₀ block sum k = full - k
 
 abbrev start : tie.After-shares-at Inv-loop μ-loop → tie.Start Inv-loop μ-loop
-start c = c .before .before .before .before
+start c = let bounded = c .before .before in bounded .before .before .before
 
 -- the shares of step 0 are written, beside the springs
 begun : (c : tie.After-shares-at Inv-loop μ-loop) → Beside (start c .args .block .now) (c .shares-at .last .0)
@@ -25,8 +25,8 @@ begun c = loaded-beside _ _ _ _ (start c .pre .0 .few) (c .shares-at .ensures .l
 springy : (c : tie.After-shares-at Inv-loop μ-loop) → Springy (c .shares-at .last .0) (start c .args .n)
 springy c = springy-beside _ _ (begun c) _ (start c .pre .0)
 
-full : (c : tie.After-shares-at Inv-loop μ-loop) → c .before .before .full-compression .result ≡ fullIn (c .shares-at .last .0) (start c .args .n)
-full c = full-beside _ _ (begun c) _ (c .before .before .full-compression .ensures)
+full : (c : tie.After-shares-at Inv-loop μ-loop) → c .before .before .before .full-compression .result ≡ fullIn (c .shares-at .last .0) (start c .args .n)
+full c = full-beside _ _ (begun c) _ (c .before .before .before .full-compression .ensures)
 
 loop-holds : tie.Need-loop-holds Inv-loop μ-loop
 loop-holds c = (omega arith, stepped-none _ _ _ _ _ _ (start c .pre .0 .few) (c .shares-at .ensures))
@@ -36,7 +36,7 @@ passes-summed-requires c κs =
     let at-loop = c .before in
     let pre = start (at-loop .before) .pre in
     let stepped = at-loop .loop .inv .1 in
-    (stepped-loads _ _ _ _ (springy (at-loop .before)) _ _ _ stepped, pre .1, pre .2, pre .3, stepped .added)
+    (stepped-loads _ _ _ _ (springy (at-loop .before)) _ _ _ stepped, pre .1, pre .2, pre .3, stepped .added, at-loop .before .before .before .most-sum .ensures)
 
 returns : tie.Need-returns Inv-loop μ-loop
 returns c =
@@ -76,5 +76,5 @@ loop-again c =
 pub least-shared-spec : {M : Type 1} → statement M
 least-shared-spec =
     tie.close
-    (tie.spec Inv-loop μ-loop (λ c κs. c .before .pre .0 .few) (λ c κs. c .before .before .before .pre .0) loop-holds passes-summed-requires returns
+    (tie.spec Inv-loop μ-loop (λ c κs. c .before .pre .0 .few) (λ c κs. let pre = c .before .before .pre in (pre .1, pre .2, pre .0 .few)) (λ c κs. c .before .before .before .before .pre .0) loop-holds passes-summed-requires returns
     returns-2 next-shares-requires (λ c. omega arith) (λ c. omega arith) loop-again)

@@ -7,10 +7,10 @@ use Rattle.policy.proofs.passes_summed.Tie as tie
 
 returns : tie.Need-returns
 returns c =
-    let at-start = c .before .before in
+    let at-start = c .before in
     let args = at-start .args in
     let pre = at-start .pre in
-    sym (too-much (args .policy) (args .m) (loadIn (args .block .now)) (args .n) (pre .2) (pre .3) (omega (arith, pre .4, c .before .most-sum .ensures)))
+    sym (too-much (args .policy) (args .m) (loadIn (args .block .now)) (args .n) (pre .2) (pre .3) (omega (arith, pre .4, pre .5)))
 
 pub passes-summed-spec : {M : Type 1} → statement M
-passes-summed-spec = tie.close (tie.spec (λ c κs. search needs) returns (λ c κs. search needs) (λ c. search needs))
+passes-summed-spec = tie.close (tie.spec returns (λ c κs. search needs) (λ c. search needs))

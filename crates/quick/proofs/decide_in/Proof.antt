@@ -1,9 +1,10 @@
 -- `quick::decide_in` meets its contract. Assumes nothing.
 use Rattle.ground.proofs.Kit.{false, _∙_, needs}
+use Rattle.springs.proofs.Blocks.{sprung-beside}
 use Rattle.admission.proofs.Chain.{passed-weighed}
 use Rattle.admission.proofs.Opened.{Opened, opened}
 use Rattle.plan.proofs.Found.{refused-found, admitted-found, refused-sprung}
-use Rattle.quick.proofs.Served.{least-found, still-sprung, no-looks, some-looks}
+use Rattle.quick.proofs.Served.{least-found, no-looks, some-looks}
 use Rattle.quick.proofs.decide_in.Statement.{statement}
 use Rattle.quick.proofs.decide_in.Tie as tie
 
@@ -47,7 +48,7 @@ returns-2 c =
       found =
           record {
             answers = c .decide2 .ensures ∙ admitted-found false _ _ _ _ _ is _ (least .least);
-            sprung = λ _. still-sprung _ _ _ _ (opened .sprung) (ended .1);
+            sprung = λ _. sprung-beside _ _ _ _ (ended .1) (opened .sprung);
           };
       count = some-looks _ _ _ _ _ is _ (told .enum-told .given .1) (least .count);
     }
