@@ -9,7 +9,6 @@ use Rattle.kinds.specs.declared.Settings.{Settings}
 use Rattle.kinds.specs.Limits.{mostTasks}
 use Rattle.kinds.specs.Policy.{meant, isFirstFit}
 use Rattle.kinds.specs.Task.{at}
-use Rattle.kinds.proofs.Answers.{handed-one}
 use Rattle.policy.specs.Under.{looksUnder}
 use Rattle.policy.proofs.Under.{looks-under-same}
 use Rattle.kinds.specs.declared.Verdict as verdict
@@ -18,16 +17,10 @@ use Rattle.admission.proofs.Chain.{admitted, admission-same, admission-many}
 use Rattle.plan.specs.Plan.{outcome, Meets}
 use Rattle.plan.proofs.Outcomes.{no-second-answer, outcome-same, outcome-serves}
 use Rattle.quick.specs.declared.Looked.{Looked}
-use Rattle.quick.specs.Looked.{looksAfter, looks, FoundLooked, MeetsLooked}
+use Rattle.quick.specs.Looked.{looksAfter, looks, MeetsLooked}
 
 looked : Answer → ℕ → Looked
 looked answer looks = record { answer = answer; looks = looks }
-
--- of a call that lends no outputs
-pub no-second-found : (s : Settings) (rows : List Task) (n room : ℕ) (r q : Looked) → FoundLooked s rows n room r → FoundLooked s rows n room q → r ≡ q
-unfolding looked
-no-second-found s rows n room r q x y =
-    ap₂ looked (handed-one (r .answer) (q .answer) (x .answers ∙ sym (y .answers))) (x .count ∙ sym (y .count))
 
 module _ (s : Settings) (rows : List Task) (n : ℕ) (periods processors : List ℕ) where
   pub no-second-look : (r q : Looked) (ps qs ps′ qs′ : List ℕ)

@@ -1,34 +1,25 @@
--- What the functions of the quick finder rely on and hand each other.
+-- What the functions of the quick finder hand each other.
 -- Assumes nothing.
-use Prim.Native.Nat.{ℕ, _≤_}
+use Prim.Native.Nat.{ℕ}
 use mathlib.Core.Bool.{Bool, true, false}
 use mathlib.Core.List.{List}
 use mathlib.Core.Path.{_≡_}
-use lib.ListN.{getD}
+use Rattle.ground.specs.declared.Ended.{Ended}
 use Rattle.ground.specs.Folds.{maxTo}
 use Rattle.ground.specs.Least.{leastUpTo}
 use Rattle.kinds.specs.declared.Task.{Task}
 use Rattle.kinds.specs.declared.Settings.{Settings}
-use Rattle.kinds.specs.Limits.{mostTasks}
 use Rattle.kinds.specs.Policy.{meant}
 use Rattle.kinds.specs.Settings.{testsCharge}
-use Rattle.springs.specs.declared.Spring.{Spring}
 use Rattle.springs.specs.Spring.{saturations}
-use Rattle.springs.specs.Handover.{AllWithin, Saturates}
+use Rattle.springs.specs.Columns.{springIn, fullIn}
 use Rattle.policy.specs.Sides.{weightsOf}
 use Rattle.policy.specs.Looks.{looksFor}
-use Rattle.plan.specs.Handover.{FoundHeld}
-use Rattle.division.specs.Weighed.{weighedAt}
-use Rattle.halve.specs.Halves.{chargedAt, HalvingEnds}
-use Rattle.ground.specs.declared.Ended.{Ended}
+use Rattle.policy.specs.Weighed.{weighedAt, chargedAt}
+use Rattle.plan.specs.Handover.{FoundSprung}
+use Rattle.halve.specs.Halves.{HalvingEnds}
 use Rattle.quick.specs.declared.Looked.{Looked}
 use Rattle.quick.specs.Looked.{looks}
-
--- what a search relies on
-pub record Searchable (springs : ℕ → Spring) (saturation : List ℕ) (n : ℕ) : Type 0 where
-  pub few : n ≤ mostTasks
-  pub within : AllWithin springs n
-  pub saturates : Saturates springs saturation n
 
 -- a search ends at the least step up to full compression, with the looks that it calls for
 pub record SearchEnds (test : ℕ → Bool) (saturation : ℕ → ℕ) (n : ℕ) (r : Ended) : Type 0 where
@@ -36,12 +27,13 @@ pub record SearchEnds (test : ℕ → Bool) (saturation : ℕ → ℕ) (n : ℕ)
   pub count : r .looks ≡ looksFor saturation n (r .step)
 
 -- by the settings' edition: under edition 1 it divides, under edition 2 it halves
-pub record SearchUnder (s : Settings) (springs : ℕ → Spring) (saturation cost tmin : List ℕ) (n : ℕ) (r : Ended) : Type 0 where
-  pub first : testsCharge s ≡ false → SearchEnds (weighedAt (weightsOf (meant (s .policy)) (s .m) n) springs n) (saturations springs) n r
+pub record SearchUnder (s : Settings) (block : List ℕ) (n : ℕ) (r : Ended) : Type 0 where
+  pub first : testsCharge s ≡ false
+      → SearchEnds (weighedAt (weightsOf (meant (s .policy)) (s .m) n) (springIn block) n) (saturations (springIn block)) n r
   pub second : testsCharge s ≡ true
-      → HalvingEnds (chargedAt (weightsOf (meant (s .policy)) (s .m) n) (s .notch) cost tmin springs n) (maxTo (λ i. getD saturation i 0) n) r
+      → HalvingEnds (chargedAt (weightsOf (meant (s .policy)) (s .m) n) (s .notch) (springIn block) n) (fullIn block n) r
 
--- the answer and the looks, and of an acceptance the columns that its periods come from
-pub record FoundLookedHeld (s : Settings) (rows : List Task) (n room : ℕ) (r : Looked) (cost tmin shares : List ℕ) : Type 0 where
-  pub held : FoundHeld false s rows n room (r .answer) cost tmin shares
+-- the answer and the looks, and of an acceptance the springs that its periods come from
+pub record LookedSprung (s : Settings) (rows : List Task) (n room : ℕ) (r : Looked) (block : List ℕ) : Type 0 where
+  pub found : FoundSprung false s rows n room (r .answer) block
   pub count : r .looks ≡ looks s rows n room
