@@ -20,7 +20,7 @@ use Rattle.share.specs.Table.{fullCompression}
 use Rattle.springs.specs.declared.Spring.{Spring}
 use Rattle.springs.specs.Spring.{shareOn, letDown, sharesOn, chargesOn, loadsOn}
 use Rattle.springs.specs.Columns.{springIn, fullIn}
-use Rattle.springs.specs.Handover.{Springy, Loaded, Summed, Beside, Sprung}
+use Rattle.springs.specs.Handover.{Springy, Summed, Beside, Sprung}
 use Rattle.springs.proofs.Springs.{carried, share-most}
 use Rattle.springs.proofs.Blocks.{loaded-beside, loaded-springs, beside-same, beside-more, springs-beside, springy-beside, sum-loaded, loads-are}
 use Rattle.fit.specs.Fit.{loadIn}

@@ -24,7 +24,7 @@ use Rattle.policy.proofs.Tests.{passes-same}
 use Rattle.kinds.specs.declared.Verdict as verdict
 use Rattle.admission.specs.Admission.{admission}
 use Rattle.admission.proofs.Chain.{Ready, admitted, not-admitted, Unlike, admission-unlike}
-use Rattle.plan.specs.Plan.{processorOn, processorsAt, periodsUnder, processorsUnder, decided, periodsAfter, processorsAfter, found, outcome, Meets}
+use Rattle.plan.specs.Plan.{processorOn, processorsAt, decided, periodsAfter, processorsAfter, found, outcome, Meets}
 use Rattle.plan.specs.Handover.{FoundSprung, Leaves, MayGrant}
 use Rattle.plan.proofs.Processors.{processors-same}
 use Rattle.plan.proofs.Writing.{written-same}

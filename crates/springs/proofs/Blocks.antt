@@ -15,10 +15,10 @@ use Rattle.kinds.specs.Task.{at, Good, OnNotch}
 use Rattle.share.specs.Share.{shareAt, saturationAt, periodAt, chargeAt, loadAt}
 use Rattle.share.specs.Table.{periodsAt}
 use Rattle.springs.specs.declared.Spring.{Spring}
-use Rattle.springs.specs.Spring.{springOf, shareOn, letDown, saturationOn, sharesOn, periodsOn, chargeFor, chargesOn, loadsOn}
+use Rattle.springs.specs.Spring.{springOf, shareOn, saturationOn, sharesOn, periodsOn, chargesOn, loadsOn}
 use Rattle.springs.specs.Columns.{room, springIn, fullIn}
-use Rattle.springs.specs.Handover.{SumIs, AllWithin, Springy, Chargeable, Loaded, Beside, Put, Sprung}
-use Rattle.springs.proofs.Springs.{share-on, saturation-on, carried, share-most, saturation-low, charge-most, good-within, good-allowed}
+use Rattle.springs.specs.Handover.{SumIs, Springy, Chargeable, Loaded, Beside, Put, Sprung}
+use Rattle.springs.proofs.Springs.{share-on, saturation-on, share-most, saturation-low, charge-most, good-within, good-allowed}
 
 -- a walk that writes loads
 pub loaded-none : (load : ℕ → ℕ) (old : List ℕ) → Loaded load 0 old old

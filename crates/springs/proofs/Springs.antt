@@ -1,6 +1,6 @@
 -- Springs: their shares, periods and charges, and that those of a good record are the record's.
 -- Assumes nothing.
-use Rattle.ground.proofs.Kit.{ℕ, _+_, _≤_, _<_, Bool, false, not, _≡_, refl, sym, _∙_, ap, arith}
+use Rattle.ground.proofs.Kit.{ℕ, _+_, _≤_, Bool, false, not, _≡_, refl, sym, arith}
 use Rattle.ground.proofs.Cases.{by-bool, true-false}
 use Rattle.kinds.specs.declared.Task.{Task}
 use Rattle.kinds.specs.Limits.{scale, longestPeriod}

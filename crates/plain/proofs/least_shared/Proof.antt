@@ -1,9 +1,9 @@
 -- `plain::least_shared` meets its contract. The loop: no step before k passes, and the block holds the shares of step k, with their sum beside
 -- it; what is left to full compression falls. Assumes nothing.
-use Rattle.ground.proofs.Kit.{List, ℕ, _-_, _≤_, _≡_, _∙_, ap, arith}
+use Rattle.ground.proofs.Kit.{_-_, _≤_, _≡_, arith}
 use Rattle.springs.specs.Columns.{fullIn}
 use Rattle.springs.specs.Handover.{Springy, Beside}
-use Rattle.springs.proofs.Blocks.{loaded-beside, springs-beside, springy-beside}
+use Rattle.springs.proofs.Blocks.{loaded-beside, springy-beside}
 use Rattle.plain.proofs.Stepping.{Stepped, stepped-none, stepped-most, stepped-loads, stepped-springy, stepped-here, stepped-end, stepped-more}
 use Rattle.plain.proofs.Stepping.{searched-from, full-beside}
 use Rattle.plain.proofs.least_shared.Statement.{statement}

@@ -4,7 +4,6 @@ use Rattle.kinds.specs.Policy.{meant}
 use Rattle.springs.specs.Spring.{loadsOn}
 use Rattle.springs.specs.Columns.{springIn}
 use Rattle.springs.proofs.Blocks.{loads-most}
-use Rattle.fit.specs.Fit.{loadIn}
 use Rattle.policy.proofs.Tests.{passes-same}
 use Rattle.policy.proofs.Weighing.{loaded-loads}
 use Rattle.plan.proofs.Processors.{trial-processors, any-processors, processors-same}

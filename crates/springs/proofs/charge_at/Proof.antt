@@ -1,5 +1,5 @@
 -- `springs::charge_at` meets its contract. Assumes nothing.
-use Rattle.ground.proofs.Kit.{_≤_, _≡_, sym, _∙_, ap, ap₂, arith, needs}
+use Rattle.ground.proofs.Kit.{_≡_, sym, _∙_, ap, ap₂, arith, needs}
 use Rattle.rule.specs.Rule.{partOf, periodOf}
 use Rattle.rule.proofs.Periods.{notched-from}
 use Rattle.springs.specs.Spring.{shareOn, chargeFor, periodFor}

@@ -1,5 +1,5 @@
 -- `springs::period_at` meets its contract. Assumes nothing.
-use Rattle.ground.proofs.Kit.{_∙_, ap, arith, needs}
+use Rattle.ground.proofs.Kit.{_∙_, ap, needs}
 use Rattle.springs.specs.Spring.{periodFor}
 use Rattle.springs.proofs.Springs.{share-some, still-allowed}
 use Rattle.springs.proofs.period_at.Statement.{statement}

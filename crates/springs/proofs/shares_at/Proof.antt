@@ -1,8 +1,6 @@
 -- `springs::shares_at` meets its contract. The loop: the first i loads are the shares of step k, whose sum is at hand, and nothing else has
 -- moved; n − i falls. Assumes nothing.
-use Rattle.ground.proofs.Kit.{_-_, _*_, _≤_, _≡_, _∙_, ap, arith}
-use Rattle.ground.specs.Folds.{sumTo}
-use Rattle.kinds.specs.Limits.{scale}
+use Rattle.ground.proofs.Kit.{_-_, _≤_, _≡_, _∙_, ap, arith}
 use Rattle.springs.specs.declared.Spring.{Spring}
 use Rattle.springs.specs.Spring.{shareOn, sharesOn}
 use Rattle.springs.specs.Columns.{springIn}
