@@ -52,8 +52,9 @@ unfolding leastStep
 returns c =
     let at-loop = c .before .before .before in
     let last = at-loop .before .full-compression .ensures in
+    let passed = sym (tested (c .before)) ∙ c .if1 .taken in
     record {
-      least = least-here (test (start at-loop)) _ _ (at-loop .loop .inv .2) (omega (arith, last, at-loop .loop .inv .0)) (sym (tested (c .before)) ∙ c .if1 .taken);
+      least = least-here (test (start at-loop)) _ _ (at-loop .loop .inv .2) (omega (arith, last, at-loop .loop .inv .0)) passed;
       beside = moved (c .before);
     }
 
