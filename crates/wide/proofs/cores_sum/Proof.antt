@@ -22,10 +22,7 @@ loop-again : tie.Need-loop-again Inv-loop μ-loop
 loop-again c = (omega arith, sum-next _ _ _ _ _ _ (c .before .before .before .loop .inv .1) (c .cores-at .ensures) refl)
 
 returns : tie.Need-returns Inv-loop μ-loop
-returns c =
-    let at-loop = c .before in
-    let all : at-loop .loop .i ≡ at-loop .before .args .t1 .n = omega arith in
-    rw all at (at-loop .loop .inv .1)
+returns c = let all : c .before .loop .i ≡ c .before .before .args .t1 .n = omega arith in rw all at (c .before .loop .inv .1)
 
 pub cores-sum-spec : {M : Type 1} → statement M
 cores-sum-spec =

@@ -32,10 +32,7 @@ same-length c = c .before .loop .inv .1 .long
 
 returns : tie.Need-returns Inv-loop μ-loop
 unfolding periodsAt
-returns c =
-    let at-loop = c .before in
-    let all : at-loop .loop .i ≡ at-loop .before .before .args .t1 .n = omega arith in
-    rw all at (at-loop .loop .inv .1 .is)
+returns c = let all : c .before .loop .i ≡ c .before .before .before .args .t1 .n = omega arith in rw all at (c .before .loop .inv .1 .is)
 
 pub write-periods-spec : {M : Type 1} → statement M
 write-periods-spec =
