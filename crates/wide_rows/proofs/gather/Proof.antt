@@ -1,5 +1,6 @@
 -- `wide_rows::gather` meets its contract: the law of the loop that copies each lent row into its place, at a table of tasks that need several cores.
 -- Assumes nothing.
+-- The loop: the first i rows of the table are those lent, the rest are zeros; kept − i falls.
 use Rattle.ground.proofs.Kit.{refl}
 use Rattle.walk.proofs.GatherRows.{gather-rows}
 use Rattle.walk.proofs.Thin.{id⊢, emp, factI}
