@@ -26,7 +26,7 @@ returns : (t : ℕ) → lts.Need-returns (below t, reads.Post) (at t) reads.Post
 returns t c = puts-one _ _ _ (c .if1 .taken)
 
 put-decimal-requires : (t : ℕ) → lts.Need-put-decimal-requires (below t, reads.Post) (at t) reads.Post
-put-decimal-requires t c κs = let m = more-long (c .before .before .before .args .n) (c .before .if1 .left) in search needs
+put-decimal-requires t c κs = let longer = more-long (c .before .before .before .args .n) (c .before .if1 .left) in search needs
 
 slice-write-out-2 : (t : ℕ) → lts.Need-slice-write-out-2 (below t, reads.Post) (at t) reads.Post
 slice-write-out-2 t c =

@@ -45,9 +45,9 @@ returns-5 c =
     let has-e = c .before .before in
     let has-tmax = has-e .before .before .before .before in
     let has-tmin = has-tmax .before .before .before .before in
-    let e = sym (has-e .before .before .numeral-at4 .ensures) ∙ has-e .e .given .1 in
+    let is-e = sym (has-e .before .before .numeral-at4 .ensures) ∙ has-e .e .given .1 in
     rw (c .new .ensures)
-    (sym (good-line _ _ _ _ (is-c (has-tmin .before .before .before .before)) _ _ (is-tmin has-tmin) _ _ (is-tmax has-tmax) _ _ e))
+    (sym (good-line _ _ _ _ (is-c (has-tmin .before .before .before .before)) _ _ (is-tmin has-tmin) _ _ (is-tmax has-tmax) _ _ is-e))
 
 pub line-at-spec : {M : Type 1} → statement M
 line-at-spec =
