@@ -31,6 +31,7 @@ use Rattle.office_sheet.specs.declared.Setting.the-variants.{Is, Bad}
 abbrev pub greatestSetting : ℕ
 greatestSetting = 65535
 
+-- a number that such a field holds
 abbrev pub settingBy : Numeral → Setting
 settingBy (numeral.Is v next) = pick (ltb greatestSetting v) Bad (Is v)
 settingBy numeral.Bad = Bad
