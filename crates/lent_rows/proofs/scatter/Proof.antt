@@ -6,6 +6,7 @@
 -- `t.rows[i]` is MIR's address of field 0 of a copy of t, an offset and a load: `Item.antt`'s `item` of `sub` finds element i within the copy's cell.
 -- The table is plain data: what it and its rows own is made anew from their relation wherever it is asked for.
 -- Assumes nothing.
+-- The loop: the first i rows of the output are the table's, the rest is as it was; n − i falls.
 use Rattle.ground.proofs.Kit.{ℕ, _+_, _-_, _*_, _^_, _≤_, _<_, Bool, true, false, List, [], _∷_, _≡_, refl, sym, ap, subst, arith, ltb, length, getD, set}
 use Rattle.ground.proofs.Kit.{length-set, lt-ltb, le-ltb, ltb-true, ltb-false}
 use mathlib.Core.WellFounded.{WellFounded, InvImage·wf}

@@ -1,4 +1,5 @@
--- `office::import` meets its contract: what is left of the text gives the whole reading. Assumes nothing.
+-- `office::import` meets its contract. Assumes nothing.
+-- The loop: the lines left after those read give the whole reading; the rows that a table still has room for fall.
 use Rattle.ground.proofs.Kit.{_-_, sym, _∙_, needs}
 use Rattle.kinds.specs.Limits.{mostTasks}
 use Rattle.office.proofs.Lines.{Going, going-none, going-many, going-bad, going-more}

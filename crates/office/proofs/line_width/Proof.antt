@@ -6,7 +6,7 @@ use Rattle.office.proofs.line_width.Tie as tie
 
 returns : tie.Need-returns
 returns c =
-    let l = line-long (c .before .before .before .before .args .task) in record { is = omega arith; few = omega arith }
+    let long = line-long (c .before .before .before .before .args .task) in record { is = omega arith; few = omega arith }
 
 pub line-width-spec : {M : Type 1} → statement M
 line-width-spec =

@@ -1,4 +1,5 @@
 -- `text::front` ends and stays within what is lent. Assumes nothing.
+-- The loop: no byte past those lent is read, and the buffer keeps its length; n − i falls.
 use Rattle.ground.proofs.Kit.{_-_, _≤_, _≡_, refl, length, needs}
 use Rattle.text.proofs.front.Statement.{statement}
 use Rattle.text.proofs.front.Tie as tie

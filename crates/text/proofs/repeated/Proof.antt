@@ -1,4 +1,5 @@
 -- `text::repeated` ends and stays within what is lent. Assumes nothing.
+-- The loop: the buffer keeps its length; how many bytes are still to be put falls.
 use Rattle.ground.proofs.Kit.{_-_, _≤_, _≡_, refl, length, needs}
 use Rattle.text.proofs.repeated.Statement.{statement}
 use Rattle.text.proofs.repeated.Tie as tie
