@@ -1,6 +1,6 @@
 -- Bytes copied one by one to a place of a buffer, as `put_bytes` goes.
 -- Assumes nothing.
-use Rattle.ground.proofs.Kit.{ℕ, _+_, _≤_, _<_, List, _≡_, _∙_, ap, add-one, arith, length, getD, set, take}
+use Rattle.ground.proofs.Kit.{ℕ, _+_, _<_, List, _≡_, _∙_, ap, add-one, arith, length, getD, set, take}
 use native.Mathlib.Nat.{add-zero}
 use lib.Seq.{take-suc, take-all}
 use Rattle.field.specs.Handover.{Put}

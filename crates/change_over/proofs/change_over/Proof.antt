@@ -33,7 +33,5 @@ returns-2 c =
     lent _ _ (entry .args .standing .ptr) (entry .args .proposed .ptr) _ (named .part-of .ensures) Proposed (c .before .enum-told2 .given .1) _ refl
 
 pub change-over-spec : {M : Type 1} → statement M
-change-over-spec =
-    tie.close
-    (tie.spec (λ c κs. search needs) add-end (λ c. search needs) (λ c. search needs) (λ c. search needs) part-result-end (λ c. search needs)
-    (λ c. search needs) (λ c. search needs) part-result-end-2 returns returns-2)
+change-over-spec = tie.close (tie.spec (λ c κs. search needs) add-end (λ c. search needs) (λ c. search needs) (λ c. search needs) part-result-end
+    (λ c. search needs) (λ c. search needs) (λ c. search needs) part-result-end-2 returns returns-2)

@@ -21,7 +21,5 @@ returns-3 c =
     called-one _ _ _ _ (late .before .if1 .left) (late .most-late .ensures) (due .if2 .left) _ (rw (c .wrapping-add-u32 .ensures))
 
 pub call-spec : {M : Type 1} → statement M
-call-spec =
-    tie.close
-    (tie.spec returns (λ c κs. search needs) returns-2 (λ c. search needs) (λ c. search needs) (λ c. search needs) (λ c. search needs)
+call-spec = tie.close (tie.spec returns (λ c κs. search needs) returns-2 (λ c. search needs) (λ c. search needs) (λ c. search needs) (λ c. search needs)
     (λ c κs. search needs) (λ c. search needs) (λ c. search needs) returns-3)

@@ -39,7 +39,5 @@ returns c =
     rw (column-all _ _ _ all (so-far .1), column-all _ _ _ ticks (so-far .2))
 
 pub clock-from-spec : {M : Type 1} → statement M
-clock-from-spec =
-    tie.close
-    (tie.spec Inv-loop μ-loop loop-holds (λ c. omega arith) (λ c. omega arith) (λ c. omega arith) (λ c. omega arith) (λ c. omega arith)
-    (λ c. omega arith) (λ c. omega arith) (λ c. omega arith) loop-again returns)
+clock-from-spec = tie.close (tie.spec Inv-loop μ-loop loop-holds (λ c. omega arith) (λ c. omega arith) (λ c. omega arith) (λ c. omega arith)
+    (λ c. omega arith) (λ c. omega arith) (λ c. omega arith) (λ c. omega arith) loop-again returns)

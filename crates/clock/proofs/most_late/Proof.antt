@@ -39,6 +39,5 @@ returns c =
     record { greatest = walked .is; lowest = walked-all lates _ _ _ walked; low = walked .low }
 
 pub most-late-spec : {M : Type 1} → statement M
-most-late-spec =
-    tie.close
-    (tie.spec Inv-loop μ-loop loop-holds (λ c. omega arith) (λ c. omega arith) (λ _ _. tt) (λ c. omega arith) (λ c. omega arith) loop-again returns)
+most-late-spec = tie.close (tie.spec Inv-loop μ-loop loop-holds (λ c. omega arith) (λ c. omega arith) (λ _ _. tt) (λ c. omega arith) (λ c. omega arith)
+    loop-again returns)

@@ -19,6 +19,4 @@ returns-3 c =
     rw (c .clock-from .ensures) (started-well _ _ (judged .before .if1 .left) (omega (arith, judged .first-bad .ensures)))
 
 pub start-spec : {M : Type 1} → statement M
-start-spec =
-    tie.close
-    (tie.spec (λ c κs. search needs) returns (λ c κs. search needs) (λ c κs. search needs) returns-2 (λ c κs. search needs) returns-3)
+start-spec = tie.close (tie.spec (λ c κs. search needs) returns (λ c κs. search needs) (λ c κs. search needs) returns-2 (λ c κs. search needs) returns-3)

@@ -29,7 +29,5 @@ returns-2 c =
     planned-none _ _ _ _ _ _ _ _ _ _ (found .ensures) (sym (c .before .before .accepted .ensures) ∙ c .before .if1 .left) (c .no-clock .ensures)
 
 pub start-plan-spec : {M : Type 1} → statement M
-start-plan-spec =
-    tie.close
-    (tie.spec (λ c κs. search needs) (λ c κs. search needs) slice-reshare-prefix-start slice-aggregate-start (λ c κs. search needs)
+start-plan-spec = tie.close (tie.spec (λ c κs. search needs) (λ c κs. search needs) slice-reshare-prefix-start slice-aggregate-start (λ c κs. search needs)
     (λ c. search needs) (λ c. search needs) returns (λ c κs. search needs) (λ c. search needs) (λ c. search needs) returns-2)

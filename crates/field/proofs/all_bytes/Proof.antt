@@ -26,6 +26,5 @@ returns : tie.Need-returns Inv-loop μ-loop
 returns c = let at-loop = c .before in all-bytes (at-loop .before .before .args .s .now) (λ i l. at-loop .loop .inv .1 i (omega arith))
 
 pub all-bytes-spec : {M : Type 1} → statement M
-all-bytes-spec =
-    tie.close
-    (tie.spec Inv-loop μ-loop loop-holds (λ c. omega arith) (λ c κs. search needs) (λ c. omega arith) (λ c. omega arith) loop-again returns)
+all-bytes-spec = tie.close (tie.spec Inv-loop μ-loop loop-holds (λ c. omega arith) (λ c κs. search needs) (λ c. omega arith) (λ c. omega arith) loop-again
+    returns)

@@ -10,7 +10,5 @@ unfolding stored bytesOf
 returns c = record { next-is = refl; run-long = refl; new-is = simp (add-one) }
 
 pub put-u16-spec : {M : Type 1} → statement M
-put-u16-spec =
-    tie.close
-    (tie.spec (λ c. search needs) (λ c. search needs) (λ c. search needs) (λ c. search needs) (λ c. simp length-set (omega arith))
+put-u16-spec = tie.close (tie.spec (λ c. search needs) (λ c. search needs) (λ c. search needs) (λ c. search needs) (λ c. simp length-set (omega arith))
     (λ c. search needs) (λ c. search needs) returns)

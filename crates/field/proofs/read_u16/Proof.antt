@@ -15,7 +15,5 @@ returns-2 c =
     cc (there16 (args .s .now) (args .at) (omega arith), number-two (args .s .now) (args .at))
 
 pub read-u16-spec : {M : Type 1} → statement M
-read-u16-spec =
-    tie.close
-    (tie.spec (λ c κs. search needs) returns (λ c. search needs) (λ c κs. search needs) (λ c. search needs) (λ c. search needs)
+read-u16-spec = tie.close (tie.spec (λ c κs. search needs) returns (λ c. search needs) (λ c κs. search needs) (λ c. search needs) (λ c. search needs)
     (λ c κs. search needs) (λ c. search needs) (λ c. search needs) (λ c. search needs) returns-2)

@@ -25,7 +25,5 @@ returns-2 c =
     _ (made .results-of .ensures) (entry .pre .0) _ _ (entry .pre .1 .1) _ (c .before .before .write .ensures)
 
 pub fill-sheet-spec : {M : Type 1} → statement M
-fill-sheet-spec =
-    tie.close
-    (tie.spec (λ c. search needs) (λ c. search needs) (λ c κs. search needs) (λ c. search needs) returns (λ c. search needs) (λ c κs. search needs)
-    (λ c κs. search needs) (λ c. search needs) returns-2)
+fill-sheet-spec = tie.close (tie.spec (λ c. search needs) (λ c. search needs) (λ c κs. search needs) (λ c. search needs) returns (λ c. search needs)
+    (λ c κs. search needs) (λ c κs. search needs) (λ c. search needs) returns-2)

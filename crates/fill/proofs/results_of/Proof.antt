@@ -29,7 +29,5 @@ returns : tie.Need-returns Inv-loop μ-loop
 returns c = rows-done _ _ _ _ (c .before .loop .inv .1 .1) _ (omega arith)
 
 pub results-of-spec : {M : Type 1} → statement M
-results-of-spec =
-    tie.close
-    (tie.spec Inv-loop μ-loop loop-holds (λ c. search needs) (λ c. search needs) (λ c. search needs) (λ c. search needs) (λ c. search needs)
-    (λ c. search needs) (λ c. search needs) (λ c. search needs) loop-again returns)
+results-of-spec = tie.close (tie.spec Inv-loop μ-loop loop-holds (λ c. search needs) (λ c. search needs) (λ c. search needs) (λ c. search needs)
+    (λ c. search needs) (λ c. search needs) (λ c. search needs) (λ c. search needs) loop-again returns)

@@ -41,7 +41,5 @@ returns-4 c =
     (there .if1 .left) _ (c .before .first-unlike .ensures) (c .if2 .left)
 
 pub check-sheet-spec : {M : Type 1} → statement M
-check-sheet-spec =
-    tie.close
-    (tie.spec (λ c. search needs) (λ c. search needs) (λ c κs. search needs) (λ c. search needs) returns (λ c. search needs) returns-2
-    (λ c κs. search needs) returns-3 returns-4)
+check-sheet-spec = tie.close (tie.spec (λ c. search needs) (λ c. search needs) (λ c κs. search needs) (λ c. search needs) returns (λ c. search needs)
+    returns-2 (λ c κs. search needs) returns-3 returns-4)

@@ -41,7 +41,5 @@ returns c =
     rw e at (at-loop .loop .inv .2)
 
 pub close-up-spec : {M : Type 1} → statement M
-close-up-spec =
-    tie.close
-    (tie.spec Inv-loop μ-loop (λ c. omega arith) loop-holds (λ c. omega arith) spring-in-requires put-spring-requires (λ c. omega arith)
+close-up-spec = tie.close (tie.spec Inv-loop μ-loop (λ c. omega arith) loop-holds (λ c. omega arith) spring-in-requires put-spring-requires (λ c. omega arith)
     (λ c. omega arith) loop-again returns)

@@ -56,8 +56,6 @@ returns c =
     (put-then (at-place .put-decimal2 .ensures) (end .put-bytes3 .ensures))))))
 
 pub put-refusal-spec : {M : Type 1} → statement M
-put-refusal-spec =
-    tie.close
-    (tie.spec (λ c. search needs) (λ c κs. search needs) (λ c κs. search needs) (λ c. search needs) put-decimal-requires (λ c. search needs)
-    (λ c κs. omega (arith, after-number (c .before .before .before .before))) (λ c κs. search needs) put-decimal-requires-2 (λ c. search needs)
-    (λ c κs. omega (arith, after-place (c .before .before .before .before))) (λ c. search needs) returns)
+put-refusal-spec = tie.close (tie.spec (λ c. search needs) (λ c κs. search needs) (λ c κs. search needs) (λ c. search needs) put-decimal-requires
+    (λ c. search needs) (λ c κs. omega (arith, after-number (c .before .before .before .before))) (λ c κs. search needs) put-decimal-requires-2
+    (λ c. search needs) (λ c κs. omega (arith, after-place (c .before .before .before .before))) (λ c. search needs) returns)

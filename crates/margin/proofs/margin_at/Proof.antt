@@ -51,7 +51,5 @@ unfolding marginHanded
 returns-2 c = rw (← c .before .before .before .admit .ensures .is, c .before .admission .given .1)
 
 pub margin-at-spec : {M : Type 1} → statement M
-margin-at-spec =
-    tie.close
-    (tie.spec (λ c κs. search needs) (λ c. search needs) (λ c. search needs) (λ c κs. begun (c .before) .chargeable) (λ c κs. search needs)
-    margin-of-requires returns returns-2)
+margin-at-spec = tie.close (tie.spec (λ c κs. search needs) (λ c. search needs) (λ c. search needs) (λ c κs. begun (c .before) .chargeable)
+    (λ c κs. search needs) margin-of-requires returns returns-2)

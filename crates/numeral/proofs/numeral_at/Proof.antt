@@ -1,5 +1,5 @@
 -- `numeral::numeral_at` meets its contract. Assumes nothing.
-use Rattle.ground.proofs.Kit.{_<_, true, _≡_, sym, _∙_, arith, length, getD, needs, not-true, not-false}
+use Rattle.ground.proofs.Kit.{_<_, true, _≡_, sym, _∙_, arith, getD, needs, not-true, not-false}
 use Rattle.numeral.specs.Scan.{digitsAt, plain}
 use Rattle.numeral.proofs.Scan.{within, not-plain, read-large, read-other, read-whole}
 use Rattle.numeral.proofs.numeral_at.Statement.{statement}
@@ -38,7 +38,5 @@ returns-4 c =
     read-whole _ _ _ _ (run .run-at .ensures) (is-plain (small .before)) (small .if2 .left) _ (c .before .byte-at .ensures) (c .if3 .left)
 
 pub numeral-at-spec : {M : Type 1} → statement M
-numeral-at-spec =
-    tie.close
-    (tie.spec (λ c κs. search needs) (λ c κs. search needs) returns returns-2 (λ c κs. search needs) returns-3 (λ c. search needs) add-t11
-    returns-4)
+numeral-at-spec = tie.close (tie.spec (λ c κs. search needs) (λ c κs. search needs) returns returns-2 (λ c κs. search needs) returns-3 (λ c. search needs)
+    add-t11 returns-4)

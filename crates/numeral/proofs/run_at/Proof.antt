@@ -35,7 +35,5 @@ returns c =
     going-end _ _ _ _ _ (looked .before .loop .inv) (looked .byte-at .ensures) (sym (c .before .is-digit .ensures) ∙ not-true _ (c .if1 .taken))
 
 pub run-at-spec : {M : Type 1} → statement M
-run-at-spec =
-    tie.close
-    (tie.spec Inv-loop μ-loop (λ c. going-none _ _) (λ c κs. search needs) (λ c κs. search needs) grown-requires (λ c. omega (arith, within (c .before)))
-    (λ c. omega (arith, within (c .before))) loop-again returns)
+run-at-spec = tie.close (tie.spec Inv-loop μ-loop (λ c. going-none _ _) (λ c κs. search needs) (λ c κs. search needs) grown-requires
+    (λ c. omega (arith, within (c .before))) (λ c. omega (arith, within (c .before))) loop-again returns)

@@ -47,8 +47,6 @@ returns-4 c =
     rw (c .new .ensures) (reads-done _ _ _ _ _ (all .before .before .loop .inv) (all .before .loop-test .left) (all .if2 .left))
 
 pub import-spec : {M : Type 1} → statement M
-import-spec =
-    tie.close
-    (tie.spec Inv-loop μ-loop loop-holds (λ _ _. tt) returns (λ c κs. search needs) (λ c. search needs) (λ c. search needs) (λ _ _. tt) returns-2
-    (λ c. search needs) (λ c. search needs) (λ c. search needs) (λ c. search needs) loop-again (λ _ _. tt) returns-3 (λ c κs. search needs)
+import-spec = tie.close (tie.spec Inv-loop μ-loop loop-holds (λ _ _. tt) returns (λ c κs. search needs) (λ c. search needs) (λ c. search needs) (λ _ _. tt)
+    returns-2 (λ c. search needs) (λ c. search needs) (λ c. search needs) (λ c. search needs) loop-again (λ _ _. tt) returns-3 (λ c κs. search needs)
     returns-4)

@@ -9,7 +9,5 @@ returns c =
     let long = line-long (c .before .before .before .before .args .task) in record { is = omega arith; few = omega arith }
 
 pub line-width-spec : {M : Type 1} → statement M
-line-width-spec =
-    tie.close
-    (tie.spec (λ c κs. search needs) (λ c κs. search needs) (λ c. search needs) (λ c κs. search needs) (λ c. search needs) (λ c κs. search needs)
-    (λ c. search needs) (λ c. search needs) returns)
+line-width-spec = tie.close (tie.spec (λ c κs. search needs) (λ c κs. search needs) (λ c. search needs) (λ c κs. search needs) (λ c. search needs)
+    (λ c κs. search needs) (λ c. search needs) (λ c. search needs) returns)

@@ -33,7 +33,5 @@ returns c =
     (at-e .put-number4 .ensures)
 
 pub put-line-spec : {M : Type 1} → statement M
-put-line-spec =
-    tie.close
-    (tie.spec (λ c κs. omega (arith, line-sum (c .before .before .args .task))) put-number-requires-2 put-number-requires-3 put-number-requires-4
-    (λ c. search needs) returns)
+put-line-spec = tie.close (tie.spec (λ c κs. omega (arith, line-sum (c .before .before .args .task))) put-number-requires-2 put-number-requires-3
+    put-number-requires-4 (λ c. search needs) returns)

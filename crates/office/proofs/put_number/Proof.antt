@@ -17,7 +17,5 @@ returns : tie.Need-returns
 returns c = puts-number _ _ _ _ _ _ (c .before .before .put-decimal .ensures)
 
 pub put-number-spec : {M : Type 1} → statement M
-put-number-spec =
-    tie.close
-    (tie.spec put-decimal-requires (λ c. omega (arith, room (c .before .before))) (λ c. omega (arith, room (c .before .before))) (λ c. search needs)
-    returns)
+put-number-spec = tie.close (tie.spec put-decimal-requires (λ c. omega (arith, room (c .before .before))) (λ c. omega (arith, room (c .before .before)))
+    (λ c. search needs) returns)

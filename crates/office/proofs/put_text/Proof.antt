@@ -38,7 +38,5 @@ returns c =
     rw (← all) (at-loop .loop .inv .1 .1)
 
 pub put-text-spec : {M : Type 1} → statement M
-put-text-spec =
-    tie.close
-    (tie.spec Inv-loop μ-loop loop-holds (λ c. search needs) (λ c. search needs) put-line-requires (λ c. search needs) (λ c. search needs)
-    loop-again (λ c. search needs) returns)
+put-text-spec = tie.close (tie.spec Inv-loop μ-loop loop-holds (λ c. search needs) (λ c. search needs) put-line-requires (λ c. search needs)
+    (λ c. search needs) loop-again (λ c. search needs) returns)

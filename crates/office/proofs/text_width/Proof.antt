@@ -29,7 +29,5 @@ returns c =
     record { is = at-loop .loop .inv .1 .0 ∙ ap (λ (k : ℕ). length (textTo (args .t1) k)) all; few = omega arith }
 
 pub text-width-spec : {M : Type 1} → statement M
-text-width-spec =
-    tie.close
-    (tie.spec Inv-loop μ-loop loop-holds (λ c. search needs) (λ c. search needs) (λ c κs. search needs) (λ c. search needs) (λ c. search needs)
-    (λ c. search needs) loop-again returns)
+text-width-spec = tie.close (tie.spec Inv-loop μ-loop loop-holds (λ c. search needs) (λ c. search needs) (λ c κs. search needs) (λ c. search needs)
+    (λ c. search needs) (λ c. search needs) loop-again returns)

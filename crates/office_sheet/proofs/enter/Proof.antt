@@ -51,8 +51,6 @@ returns-4 c =
     rw (entered-with read ∙ text-taken _ _ _ _ (read .import .ensures) _ (told .enum-told3 .given .1)) (c .put-unfilled .ensures)
 
 pub enter-spec : {M : Type 1} → statement M
-enter-spec =
-    tie.close
-    (tie.spec (λ c κs. search needs) (λ c. search needs) (λ c. search needs) (λ c κs. search needs) returns (λ c κs. search needs)
-    (λ c. search needs) (λ c. search needs) (λ c κs. search needs) returns-2 (λ c κs. search needs) (λ c. search needs) (λ c κs. search needs)
-    returns-3 (λ c. search needs) put-unfilled-requires returns-4)
+enter-spec = tie.close (tie.spec (λ c κs. search needs) (λ c. search needs) (λ c. search needs) (λ c κs. search needs) returns (λ c κs. search needs)
+    (λ c. search needs) (λ c. search needs) (λ c κs. search needs) returns-2 (λ c κs. search needs) (λ c. search needs) (λ c κs. search needs) returns-3
+    (λ c. search needs) put-unfilled-requires returns-4)

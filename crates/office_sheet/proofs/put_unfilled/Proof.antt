@@ -22,7 +22,5 @@ returns-2 c =
     (rw (made .new .ensures, made .before .of .ensures, told .k .given .1) at (wrote .write .ensures))
 
 pub put-unfilled-spec : {M : Type 1} → statement M
-put-unfilled-spec =
-    tie.close
-    (tie.spec (λ c κs. search needs) (λ c κs. search needs) (λ c κs. search needs) (λ c. search needs) (λ c. search needs) (λ c. search needs)
-    returns (λ c. search needs) returns-2)
+put-unfilled-spec = tie.close (tie.spec (λ c κs. search needs) (λ c κs. search needs) (λ c κs. search needs) (λ c. search needs) (λ c. search needs)
+    (λ c. search needs) returns (λ c. search needs) returns-2)

@@ -21,6 +21,4 @@ returns-3 : tie.Need-returns-3
 returns-3 c = sym (setting-is _ _ _ (is-number (c .before .before)) (c .if1 .left))
 
 pub setting-of-spec : {M : Type 1} → statement M
-setting-of-spec =
-    tie.close
-    (tie.spec (λ c κs. search needs) (λ c. search needs) (λ c. search needs) returns returns-2 (λ c. search needs) returns-3)
+setting-of-spec = tie.close (tie.spec (λ c κs. search needs) (λ c. search needs) (λ c. search needs) returns returns-2 (λ c. search needs) returns-3)

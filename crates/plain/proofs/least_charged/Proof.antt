@@ -70,7 +70,5 @@ loop-again : tie.Need-loop-again Inv-loop μ-loop
 loop-again c = let left = c .before in (omega arith, moved (left .before), failed left)
 
 pub least-charged-spec : {M : Type 1} → statement M
-least-charged-spec =
-    tie.close
-    (tie.spec Inv-loop μ-loop (λ c κs. c .before .pre .0 .few) loop-holds passes-charged-requires returns returns-2 (λ c. omega arith)
-    (λ c. omega arith) loop-again)
+least-charged-spec = tie.close (tie.spec Inv-loop μ-loop (λ c κs. c .before .pre .0 .few) loop-holds passes-charged-requires returns returns-2
+    (λ c. omega arith) (λ c. omega arith) loop-again)

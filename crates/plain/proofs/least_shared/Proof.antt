@@ -75,7 +75,6 @@ loop-again c =
     )
 
 pub least-shared-spec : {M : Type 1} → statement M
-least-shared-spec =
-    tie.close
-    (tie.spec Inv-loop μ-loop (λ c κs. c .before .pre .0 .few) (λ c κs. let pre = c .before .before .pre in (pre .1, pre .2, pre .0 .few))
-    (λ c κs. c .before .before .before .before .pre .0) loop-holds passes-summed-requires returns returns-2 next-shares-requires (λ c. omega arith) (λ c. omega arith) loop-again)
+least-shared-spec = tie.close (tie.spec Inv-loop μ-loop (λ c κs. c .before .pre .0 .few)
+    (λ c κs. let pre = c .before .before .pre in (pre .1, pre .2, pre .0 .few)) (λ c κs. c .before .before .before .before .pre .0) loop-holds
+    passes-summed-requires returns returns-2 next-shares-requires (λ c. omega arith) (λ c. omega arith) loop-again)

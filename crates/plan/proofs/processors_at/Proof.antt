@@ -46,6 +46,5 @@ returns-2 c =
     (at-start .pre .chargeable .few) other
 
 pub processors-at-spec : {M : Type 1} → statement M
-processors-at-spec =
-    tie.close
-    (tie.spec (λ c κs. search needs) (λ c κs. search needs) (λ c κs. search needs) (λ c. search needs) first-fit-requires returns returns-2)
+processors-at-spec = tie.close (tie.spec (λ c κs. search needs) (λ c κs. search needs) (λ c κs. search needs) (λ c. search needs) first-fit-requires returns
+    returns-2)

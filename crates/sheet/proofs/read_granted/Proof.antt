@@ -27,7 +27,5 @@ returns-3 c =
     granted-read _ _ _ _ _ _ (got-period (has-processor .before .before .before .before)) got-processor
 
 pub read-granted-spec : {M : Type 1} → statement M
-read-granted-spec =
-    tie.close
-    (tie.spec (λ c κs. search needs) (λ c. search needs) (λ c. search needs) returns (λ c κs. search needs) (λ c. search needs) (λ c. search needs)
-    returns-2 returns-3)
+read-granted-spec = tie.close (tie.spec (λ c κs. search needs) (λ c. search needs) (λ c. search needs) returns (λ c κs. search needs) (λ c. search needs)
+    (λ c. search needs) returns-2 returns-3)

@@ -52,8 +52,6 @@ returns-6 : tie.Need-returns-6
 returns-6 c = let few = c .before .before in begun (head (few .before .before)) (c .of .ensures) (few .if3 .left)
 
 pub read-head-spec : {M : Type 1} → statement M
-read-head-spec =
-    tie.close
-    (tie.spec (λ c κs. search needs) (λ c. search needs) (λ c. search needs) returns (λ c. search needs) (λ c κs. search needs) returns-2
-    read-settings-requires returns-3 (λ c κs. search needs) (λ c. search needs) (λ c. search needs) returns-4 (λ c. search needs) returns-5
+read-head-spec = tie.close (tie.spec (λ c κs. search needs) (λ c. search needs) (λ c. search needs) returns (λ c. search needs) (λ c κs. search needs)
+    returns-2 read-settings-requires returns-3 (λ c κs. search needs) (λ c. search needs) (λ c. search needs) returns-4 (λ c. search needs) returns-5
     (λ c κs. search needs) returns-6)

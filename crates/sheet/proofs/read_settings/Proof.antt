@@ -42,7 +42,5 @@ returns-2 c =
     cc (settings-there (args .s .now) (args .from) (args .n) (omega arith))
 
 pub read-settings-spec : {M : Type 1} → statement M
-read-settings-spec =
-    tie.close
-    (tie.spec Inv-loop μ-loop loop-holds (λ c κs. search needs) (λ c. search needs) (λ c. search needs) returns (λ c. search needs)
+read-settings-spec = tie.close (tie.spec Inv-loop μ-loop loop-holds (λ c κs. search needs) (λ c. search needs) (λ c. search needs) returns (λ c. search needs)
     (λ c. search needs) (λ c. search needs) (λ c. search needs) loop-again returns-2)

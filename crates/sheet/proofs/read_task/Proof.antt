@@ -52,8 +52,6 @@ returns-5 c =
     (task-read _ _ _ _ _ _ _ _ _ _ (got-c (has-tmin .before .before .before .before)) (got-tmin has-tmin) (got-tmax has-tmax) got-e)
 
 pub read-task-spec : {M : Type 1} → statement M
-read-task-spec =
-    tie.close
-    (tie.spec (λ c κs. search needs) (λ c. search needs) (λ c. search needs) returns (λ c κs. search needs) (λ c. search needs) (λ c. search needs)
-    returns-2 (λ c κs. search needs) (λ c. search needs) (λ c. search needs) returns-3 (λ c κs. search needs) (λ c. search needs)
+read-task-spec = tie.close (tie.spec (λ c κs. search needs) (λ c. search needs) (λ c. search needs) returns (λ c κs. search needs) (λ c. search needs)
+    (λ c. search needs) returns-2 (λ c κs. search needs) (λ c. search needs) (λ c. search needs) returns-3 (λ c κs. search needs) (λ c. search needs)
     (λ c. search needs) returns-4 (λ c κs. search needs) returns-5)

@@ -13,7 +13,5 @@ abbrev μ-loop : tie.MeasureT-loop
 μ-loop n name counts i₀ i = mostTasks + 1 - i
 
 pub counts-spec : {M : Type 1} → statement M
-counts-spec =
-    tie.close
-    (tie.spec Inv-loop μ-loop (λ _ _. tt) (λ c. omega arith) (λ c. tt) (λ c. omega arith) (λ c. omega arith) (λ _ _. tt) (λ c. omega arith)
-    (λ c. omega arith) (λ c. omega arith) (λ c. tt))
+counts-spec = tie.close (tie.spec Inv-loop μ-loop (λ _ _. tt) (λ c. omega arith) (λ c. tt) (λ c. omega arith) (λ c. omega arith) (λ _ _. tt)
+    (λ c. omega arith) (λ c. omega arith) (λ c. omega arith) (λ c. tt))

@@ -49,7 +49,5 @@ most : (c : tie.After-part) → c .part .result ≤ scale
 most c = let args = start c .args in omega (arith, charged c, charge-most (args .notch) (args .spring) (start c .pre) (args .k))
 
 pub charge-at-spec : {M : Type 1} → statement M
-charge-at-spec =
-    tie.close
-    (tie.spec (λ c κs. search needs) returns (λ c κs. allowed (c .before .before)) (λ c κs. search needs) part-requires (λ c. omega (arith, most c))
-    (λ c. (charged c, most c)))
+charge-at-spec = tie.close (tie.spec (λ c κs. search needs) returns (λ c κs. allowed (c .before .before)) (λ c κs. search needs) part-requires
+    (λ c. omega (arith, most c)) (λ c. (charged c, most c)))

@@ -71,8 +71,6 @@ returns c =
     record { loaded = rw e at (at-loop .loop .inv .1); sum-is = c .widened .ensures ∙ (rw e at (at-loop .loop .inv .2)) }
 
 pub next-shares-spec : {M : Type 1} → statement M
-next-shares-spec =
-    tie.close
-    (tie.spec Inv-loop μ-loop loop-holds (λ c. omega arith) (λ c. omega arith) (λ c. omega arith) (λ c. omega arith) (λ c. omega arith)
-    (λ c. omega arith) (λ c. omega arith) (λ c. omega arith) let-down-requires (λ c. omega arith) (λ c. omega arith) add-sum (λ c. omega arith)
-    (λ c. omega arith) loop-again (λ _ _. tt) returns)
+next-shares-spec = tie.close (tie.spec Inv-loop μ-loop loop-holds (λ c. omega arith) (λ c. omega arith) (λ c. omega arith) (λ c. omega arith)
+    (λ c. omega arith) (λ c. omega arith) (λ c. omega arith) (λ c. omega arith) let-down-requires (λ c. omega arith) (λ c. omega arith) add-sum
+    (λ c. omega arith) (λ c. omega arith) loop-again (λ _ _. tt) returns)

@@ -56,7 +56,5 @@ returns c =
     record { loaded = rw e at (at-loop .loop .inv .1); sum-is = c .widened .ensures ∙ (rw e at (at-loop .loop .inv .2 .is)) }
 
 pub shares-at-spec : {M : Type 1} → statement M
-shares-at-spec =
-    tie.close
-    (tie.spec Inv-loop μ-loop loop-holds spring-in-requires share-on-requires (λ c. omega arith) (λ c. omega arith) add-sum (λ c. omega arith)
-    (λ c. omega arith) loop-again (λ _ _. tt) returns)
+shares-at-spec = tie.close (tie.spec Inv-loop μ-loop loop-holds spring-in-requires share-on-requires (λ c. omega arith) (λ c. omega arith) add-sum
+    (λ c. omega arith) (λ c. omega arith) loop-again (λ _ _. tt) returns)

@@ -82,7 +82,5 @@ returns-2 c =
     record { first = bad-none good _ _ (c .before .loop .inv .1) e; sprung = rw e at (c .before .loop .inv .2) }
 
 pub springs-of-spec : {M : Type 1} → statement M
-springs-of-spec =
-    tie.close
-    (tie.spec Inv-loop μ-loop loop-holds (λ c. omega arith) (λ c. omega arith) good-requires returns priced-requires spring-of-requires
-    put-spring-requires (λ c. omega arith) (λ c. omega arith) loop-again returns-2)
+springs-of-spec = tie.close (tie.spec Inv-loop μ-loop loop-holds (λ c. omega arith) (λ c. omega arith) good-requires returns priced-requires
+    spring-of-requires put-spring-requires (λ c. omega arith) (λ c. omega arith) loop-again returns-2)

@@ -14,6 +14,5 @@ loop-holds : tie.Need-loop-holds Inv-loop μ-loop
 loop-holds c = (search needs, refl)
 
 pub repeated-spec : {M : Type 1} → statement M
-repeated-spec =
-    tie.close
-    (tie.spec Inv-loop μ-loop loop-holds (λ _ _. tt) (λ c. search needs) (λ c. search needs) (λ c. search needs) (λ c. search needs) (λ c. tt))
+repeated-spec = tie.close (tie.spec Inv-loop μ-loop loop-holds (λ _ _. tt) (λ c. search needs) (λ c. search needs) (λ c. search needs) (λ c. search needs)
+    (λ c. tt))

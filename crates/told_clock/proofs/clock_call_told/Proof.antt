@@ -22,7 +22,5 @@ returns-3 c =
     rw (c .place .ensures, c .before .number .ensures) (told-refused _ _ (called .result) (called .ensures) _ (told .answer2 .given .1))
 
 pub clock-call-told-spec : {M : Type 1} → statement M
-clock-call-told-spec =
-    tie.close
-    (tie.spec (λ c κs. search needs) (λ c. search needs) (λ c. search needs) (λ c. search needs) (λ c κs. search needs) (λ c. search needs)
-    (λ c κs. search needs) returns returns-2 returns-3)
+clock-call-told-spec = tie.close (tie.spec (λ c κs. search needs) (λ c. search needs) (λ c. search needs) (λ c. search needs) (λ c κs. search needs)
+    (λ c. search needs) (λ c κs. search needs) returns returns-2 returns-3)

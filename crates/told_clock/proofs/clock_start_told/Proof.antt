@@ -16,7 +16,5 @@ returns-2 c =
     rw (c .place .ensures, c .before .number .ensures) (told-not-begun _ _ (started .result) (started .ensures) _ (told .answer .given .1))
 
 pub clock-start-told-spec : {M : Type 1} → statement M
-clock-start-told-spec =
-    tie.close
-    (tie.spec (λ c κs. search needs) (λ c. search needs) (λ c. search needs) (λ c κs. search needs) (λ c. search needs) (λ c κs. search needs)
-    returns returns-2)
+clock-start-told-spec = tie.close (tie.spec (λ c κs. search needs) (λ c. search needs) (λ c. search needs) (λ c κs. search needs) (λ c. search needs)
+    (λ c κs. search needs) returns returns-2)

@@ -15,8 +15,6 @@ loop-holds : tie.Need-loop-holds Inv-loop μ-loop
 loop-holds c = (search needs, (search needs, refl))
 
 pub put-plan-spec : {M : Type 1} → statement M
-put-plan-spec =
-    tie.close
-    (tie.spec Inv-loop μ-loop (λ _ _. tt) (λ _ _. tt) loop-holds (λ c. search needs) (λ c. search needs) (λ _ _. tt) (λ _ _. tt) (λ c. search needs)
-    (λ c. search needs) (λ c. search needs) (λ c. search needs) (λ _ _. tt) (λ _ _. tt) (λ c. search needs) (λ c. search needs) (λ c. search needs)
-    (λ c. search needs) (λ c. tt))
+put-plan-spec = tie.close (tie.spec Inv-loop μ-loop (λ _ _. tt) (λ _ _. tt) loop-holds (λ c. search needs) (λ c. search needs) (λ _ _. tt) (λ _ _. tt)
+    (λ c. search needs) (λ c. search needs) (λ c. search needs) (λ c. search needs) (λ _ _. tt) (λ _ _. tt) (λ c. search needs) (λ c. search needs)
+    (λ c. search needs) (λ c. search needs) (λ c. tt))

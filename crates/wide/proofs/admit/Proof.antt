@@ -38,7 +38,5 @@ returns-3 c =
     rw (← gate-is (bad .before .before .before), bad .before .enum-told .given .1, ← bad .first-bad .ensures, le-ltb _ _ (c .if1 .left))
 
 pub admit-spec : {M : Type 1} → statement M
-admit-spec =
-    tie.close
-    (tie.spec (λ c κs. search needs) (λ c κs. search needs) (λ c κs. search needs) (λ c κs. search needs) (λ c. search needs) (λ c. search needs)
-    returns first-bad-requires returns-2 returns-3)
+admit-spec = tie.close (tie.spec (λ c κs. search needs) (λ c κs. search needs) (λ c κs. search needs) (λ c κs. search needs) (λ c. search needs)
+    (λ c. search needs) returns first-bad-requires returns-2 returns-3)

@@ -25,7 +25,5 @@ returns : tie.Need-returns Inv-loop μ-loop
 returns c = let all : c .before .loop .i ≡ c .before .before .args .t1 .n = omega arith in rw all at (c .before .loop .inv .1)
 
 pub cores-sum-spec : {M : Type 1} → statement M
-cores-sum-spec =
-    tie.close
-    (tie.spec Inv-loop μ-loop loop-holds (λ c. omega arith) (λ c. omega arith) cores-at-requires (λ c. omega arith) (λ c. omega arith)
+cores-sum-spec = tie.close (tie.spec Inv-loop μ-loop loop-holds (λ c. omega arith) (λ c. omega arith) cores-at-requires (λ c. omega arith) (λ c. omega arith)
     (λ c. omega arith) loop-again returns)

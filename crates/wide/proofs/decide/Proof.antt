@@ -19,7 +19,5 @@ returns-2 c =
     c .decide2 .ensures ∙ admitted-found _ _ _ _ _ (searched .before .before .before .admit .ensures) _ (searched .least-step .ensures)
 
 pub decide-spec : {M : Type 1} → statement M
-decide-spec =
-    tie.close
-    (tie.spec (λ c κs. search needs) (λ c. search needs) (λ c. search needs) (λ c κs. search needs) returns least-step-requires
+decide-spec = tie.close (tie.spec (λ c κs. search needs) (λ c. search needs) (λ c. search needs) (λ c κs. search needs) returns least-step-requires
     (λ c κs. search needs) returns-2)

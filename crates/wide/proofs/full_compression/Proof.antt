@@ -35,7 +35,5 @@ returns c =
     full-done (start .args .t1) _ (start .pre) (rw all at (at-loop .loop .inv .1))
 
 pub full-compression-spec : {M : Type 1} → statement M
-full-compression-spec =
-    tie.close
-    (tie.spec Inv-loop μ-loop loop-holds (λ c. omega arith) (λ c. omega arith) saturation-requires (λ _ _. tt) (λ c. omega arith) (λ c. omega arith)
-    loop-again returns)
+full-compression-spec = tie.close (tie.spec Inv-loop μ-loop loop-holds (λ c. omega arith) (λ c. omega arith) saturation-requires (λ _ _. tt)
+    (λ c. omega arith) (λ c. omega arith) loop-again returns)

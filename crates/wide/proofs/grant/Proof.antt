@@ -36,7 +36,5 @@ returns-2 : tie.Need-returns-2
 returns-2 c = leaves-refused (c .before .before .before .before .args .answer) _ _ _ _ (sym (c .before .accepted .ensures) ∙ c .if1 .left)
 
 pub grant-spec : {M : Type 1} → statement M
-grant-spec =
-    tie.close
-    (tie.spec (λ c κs. search needs) (λ c κs. search needs) write-periods-requires write-cores-requires (λ c. search needs) (λ c. search needs)
-    returns returns-2)
+grant-spec = tie.close (tie.spec (λ c κs. search needs) (λ c κs. search needs) write-periods-requires write-cores-requires (λ c. search needs)
+    (λ c. search needs) returns returns-2)

@@ -60,7 +60,5 @@ returns-2 c =
     rw (← full) (halved-none _ _ _ _ (at-loop .loop .inv .1) (c .before .loop-test .left) (c .if2 .left))
 
 pub least-step-spec : {M : Type 1} → statement M
-least-step-spec =
-    tie.close
-    (tie.spec Inv-loop μ-loop full-compression-requires add-to loop-holds add-middle passes-at-requires (λ c. omega arith) loop-again add-from
-    (λ c. omega arith) loop-again-2 returns returns-2)
+least-step-spec = tie.close (tie.spec Inv-loop μ-loop full-compression-requires add-to loop-holds add-middle passes-at-requires (λ c. omega arith) loop-again
+    add-from (λ c. omega arith) loop-again-2 returns returns-2)

@@ -43,7 +43,5 @@ unfolding coreCountsAt
 returns c = let all : c .before .loop .i ≡ c .before .before .before .args .t1 .n = omega arith in rw all at (c .before .loop .inv .1 .is)
 
 pub write-cores-spec : {M : Type 1} → statement M
-write-cores-spec =
-    tie.close
-    (tie.spec Inv-loop μ-loop loop-holds (λ c. omega arith) (λ c. omega arith) cores-at-requires cast-out (λ c. omega arith) (λ c. omega arith)
-    (λ c. omega arith) (λ c. omega arith) loop-again same-length returns)
+write-cores-spec = tie.close (tie.spec Inv-loop μ-loop loop-holds (λ c. omega arith) (λ c. omega arith) cores-at-requires cast-out (λ c. omega arith)
+    (λ c. omega arith) (λ c. omega arith) (λ c. omega arith) loop-again same-length returns)

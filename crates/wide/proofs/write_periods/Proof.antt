@@ -35,7 +35,5 @@ unfolding periodsAt
 returns c = let all : c .before .loop .i ≡ c .before .before .before .args .t1 .n = omega arith in rw all at (c .before .loop .inv .1 .is)
 
 pub write-periods-spec : {M : Type 1} → statement M
-write-periods-spec =
-    tie.close
-    (tie.spec Inv-loop μ-loop loop-holds (λ c. omega arith) (λ c. omega arith) period-at-requires (λ c. omega arith) (λ c. omega arith)
-    (λ c. omega arith) (λ c. omega arith) loop-again same-length returns)
+write-periods-spec = tie.close (tie.spec Inv-loop μ-loop loop-holds (λ c. omega arith) (λ c. omega arith) period-at-requires (λ c. omega arith)
+    (λ c. omega arith) (λ c. omega arith) (λ c. omega arith) loop-again same-length returns)

@@ -15,6 +15,4 @@ returns c =
     put-then (at-c .put-u32 .ensures) (put-then (at-tmin .put-u322 .ensures) (put-then (at-tmax .put-u323 .ensures) (at-e .put-u324 .ensures)))
 
 pub put-task-spec : {M : Type 1} → statement M
-put-task-spec =
-    tie.close
-    (tie.spec (λ c κs. search needs) (λ c κs. search needs) (λ c κs. search needs) (λ c κs. search needs) (λ c. search needs) returns)
+put-task-spec = tie.close (tie.spec (λ c κs. search needs) (λ c κs. search needs) (λ c κs. search needs) (λ c κs. search needs) (λ c. search needs) returns)

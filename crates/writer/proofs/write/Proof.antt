@@ -54,7 +54,5 @@ returns-5 c =
     wrote _ _ (taken (tasks .before)) (tasks .if2 .left) (fit fits) (rw (room .before .end-place .ensures) at (room .if4 .left)) _ _ (put .put-sheet .ensures)
 
 pub write-spec : {M : Type 1} → statement M
-write-spec =
-    tie.close
-    (tie.spec (λ c κs. search needs) returns returns-2 (λ c κs. search needs) returns-3 (λ c κs. few c) returns-4 put-sheet-requires
+write-spec = tie.close (tie.spec (λ c κs. search needs) returns returns-2 (λ c κs. search needs) returns-3 (λ c κs. few c) returns-4 put-sheet-requires
     (λ c. search needs) returns-5)
