@@ -7,7 +7,7 @@ returns : tie.Need-returns
 returns c =
     let two = c .before .before in
     let last = two .before .before .before in
-    let p = last .before .before .before in
+    let meaning = last .before .before .before in
     rw (
       c .and-then3 .ensures,
       c .before .knows .ensures,
@@ -17,7 +17,7 @@ returns c =
       last .and-then .ensures,
       last .before .roomy .ensures,
       last .before .before .served .ensures,
-      p .meant .ensures,
+      meaning .meant .ensures,
     )
 
 pub gate-of-spec : {M : Type 1} → statement M

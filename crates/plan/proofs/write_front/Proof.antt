@@ -1,4 +1,5 @@
--- `plan::write_front` meets its contract. Assumes nothing.
+-- `plan::write_front` meets its contract. The loop: the first j processors are written, and nothing past them has moved; n − j falls.
+-- Assumes nothing.
 use Rattle.ground.proofs.Kit.{ℕ, _-_, _≤_, _≡_, refl, arith, getD}
 use Rattle.ground.proofs.Buffer.{Front, front-none, front-more}
 use Rattle.plan.proofs.write_front.Statement.{statement}
@@ -15,8 +16,8 @@ loop-holds c = (omega arith, front-none _ _)
 
 loop-again : tie.Need-loop-again Inv-loop μ-loop
 loop-again c =
-    let l = c .before in
-    (omega arith, front-more (λ (i : ℕ). getD (l .before .args .t1) i 0) _ _ _ _ (omega arith) refl (l .loop .inv .1))
+    let at-loop = c .before in
+    (omega arith, front-more (λ (i : ℕ). getD (at-loop .before .args .t1) i 0) _ _ _ _ (omega arith) refl (at-loop .loop .inv .1))
 
 same-length : tie.Need-same-length Inv-loop μ-loop
 same-length c = c .before .loop .inv .1 .long
