@@ -1,19 +1,16 @@
-// The one admission: what every call on a table checks before it works, in document 01's order. Contracts cite `specs/Admission`
-// and, of the block of springs, `specs/Handover`.
+// The one admission: what every call on a table checks before it works, in document 01's order. Between `gate_of` and `judge` a call hands its
+// table to the walk that works the springs out, which says the first bad record. Contracts cite `specs/Admission`.
 use kinds::Policy;
 use kinds::Refusal;
 use kinds::Settings;
 use kinds::Table;
 use kinds::Verdict;
-use springs::Columns;
 ghost use mathlib.Core.Bool.{not};
 ghost use mathlib.Core.Path.{_≡_};
 ghost use Rattle.ground.specs.Choice.{both};
 ghost use Rattle.kinds.specs.Policy.{isFirstFit};
 ghost use Rattle.admission.specs.Admission.{andThen, knows, misset, noEdition, missetNumbers, unsuited, missetUnder};
-ghost use Rattle.admission.specs.Admission.{gate, served, roomy, gateOf};
-ghost use Rattle.admission.specs.Handover.{AdmittedSprung};
-ghost use Rattle.springs.specs.Handover.{Roomy};
+ghost use Rattle.admission.specs.Admission.{gate, served, roomy, gateOf, judged};
 
 // The policy's own refusal: 1 where it is none of those numbered, 15 where it is withdrawn.
 pub fn knows(policy: Policy) -> Verdict
@@ -138,23 +135,10 @@ pub fn gate_of(settings: Settings, serves: bool, n: usize, room: usize) -> Verdi
     and_then(knows(policy), from_two)
 }
 
-// Refusals 1 to 6 of a call that serves policy 4, or does not. The walk that judges the records works their springs out into a lent block.
-pub fn admit(
-    table: Table,
-    settings: Settings,
-    serves: bool,
-    room: usize,
-    block: &mut [u32; Columns::ROOM],
-) -> Verdict
-    requires { ⌜ Roomy (now block) ⌝ }
-    ensures { λ r. ⌜ AdmittedSprung serves settings (table .rows) (table .n) room r (now (block .exit)) ⌝ }
+// Refusal 6: of n records the first that is not good, or n where all are.
+pub fn judge(bad: usize, n: usize) -> Verdict
+    ensures { λ r. ⌜ r ≡ judged bad n ⌝ }
 {
-    let n = table.n;
-    let gate = gate_of(settings, serves, n, room);
-    let Verdict::Accepted = gate else {
-        return gate;
-    };
-    let bad = springs::springs_of(table, settings.swap, settings.notch, block);
     if bad < n {
         return Verdict::Refused(Refusal::BadRecord(bad));
     }

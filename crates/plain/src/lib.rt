@@ -16,10 +16,9 @@ ghost use Rattle.kinds.specs.Limits.{mostProcessors};
 ghost use Rattle.kinds.specs.Policy.{meant, Served};
 ghost use Rattle.springs.specs.Spring.{sharesOn, chargesOn, loadsOn};
 ghost use Rattle.springs.specs.Columns.{springIn};
-ghost use Rattle.springs.specs.Handover.{Roomy, Springy, Chargeable};
+ghost use Rattle.springs.specs.Handover.{Springy, Chargeable};
 ghost use Rattle.plan.specs.Plan.{found, outcome, Meets};
-ghost use Rattle.plan.specs.Handover.{FoundSprung};
-ghost use Rattle.plain.specs.Handover.{Searched};
+ghost use Rattle.plain.specs.Handover.{Searchable, MaySearch, Searched, SearchedIn};
 
 // The periods and processors of the least passing step, written to the two lent outputs, or the refusal, which writes nothing.
 pub fn find(table: Table, settings: Settings, periods: &mut [u32], processors: &mut [u16]) -> Answer
@@ -29,7 +28,14 @@ pub fn find(table: Table, settings: Settings, periods: &mut [u32], processors: &
     let n = table.n;
     let room = ground::shorter(periods.len(), processors.len());
     let mut block = [0u32; Columns::ROOM];
-    let answer = decide_in(table, settings, room, &mut block);
+    let gate = admission::gate_of(settings, true, n, room);
+    let Verdict::Accepted = gate else {
+        return plan::decide(gate, Step::Nothing);
+    };
+    let bad = springs::springs_of(table, settings.swap, settings.notch, &mut block);
+    let admission = admission::judge(bad, n);
+    let step = step_in(admission, settings, &mut block, n);
+    let answer = plan::decide(admission, step);
     plan::grant(answer, settings, &mut block, n, periods, processors);
     answer
 }
@@ -38,33 +44,36 @@ pub fn find(table: Table, settings: Settings, periods: &mut [u32], processors: &
 pub fn decide(table: Table, settings: Settings, room: usize) -> Answer
     ensures { λ r. ⌜ handed r ≡ found true settings (table .rows) (table .n) room ⌝ }
 {
+    let n = table.n;
     let mut block = [0u32; Columns::ROOM];
-    decide_in(table, settings, room, &mut block)
+    let gate = admission::gate_of(settings, true, n, room);
+    let Verdict::Accepted = gate else {
+        return plan::decide(gate, Step::Nothing);
+    };
+    let bad = springs::springs_of(table, settings.swap, settings.notch, &mut block);
+    let admission = admission::judge(bad, n);
+    plan::decide(admission, step_in(admission, settings, &mut block, n))
 }
 
-// The same in a lent block, which has the springs of an acceptance.
-fn decide_in(
-    table: Table,
+// The least step of an admitted call, on the springs in the block. A refused one has none.
+fn step_in(
+    admission: Verdict,
     settings: Settings,
-    room: usize,
     block: &mut [u32; Columns::ROOM],
-) -> Answer
-    requires { ⌜ Roomy (now block) ⌝ }
-    ensures { λ r. ⌜ FoundSprung true settings (table .rows) (table .n) room r (now (block .exit)) ⌝ }
+    n: usize,
+) -> Step
+    requires { ⌜ MaySearch admission settings (now block) n ⌝ }
+    ensures { λ r. ⌜ SearchedIn admission settings n r (now (block .entry)) (now (block .exit)) ⌝ }
 {
-    let n = table.n;
-    let admission = admission::admit(table, settings, true, room, block);
     let Verdict::Accepted = admission else {
-        return plan::decide(admission, Step::Nothing);
+        return Step::Nothing;
     };
-    let step = least_step(settings, block, n);
-    plan::decide(admission, step)
+    least_step(settings, block, n)
 }
 
 // The least step from 0 to full compression that passes on the loads of the settings' edition.
 fn least_step(settings: Settings, block: &mut [u32; Columns::ROOM], n: usize) -> Step
-    requires { ⌜ Chargeable (settings .notch) (now block) n
-        × (1 ≤ settings .m) × (settings .m ≤ mostProcessors) × Served (meant (settings .policy)) ⌝ }
+    requires { ⌜ Searchable settings (now block) n ⌝ }
     ensures { λ r. ⌜ Searched (meant (settings .policy)) (settings .m) (loadsOn settings (springIn (now (block .entry)))) n r
         (now (block .entry)) (now (block .exit)) ⌝ }
 {

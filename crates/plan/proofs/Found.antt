@@ -22,12 +22,13 @@ use Rattle.policy.specs.Under.{rowsUnder, loadsUnder, leastUnder}
 use Rattle.policy.proofs.Demand.{step-at}
 use Rattle.policy.proofs.Tests.{passes-same}
 use Rattle.kinds.specs.declared.Verdict as verdict
-use Rattle.admission.specs.Admission.{admission}
+use Rattle.admission.specs.Admission.{gateOf, admission}
+use Rattle.admission.proofs.Opened.{refused-gate}
 use Rattle.admission.proofs.Chain.{Ready, admitted, not-admitted, Unlike, admission-unlike}
-use Rattle.plan.specs.Plan.{processorOn, processorsAt, decided, periodsAfter, processorsAfter, found, outcome, Meets}
+use Rattle.plan.specs.Plan.{processorOn, processorsAt, periodsUnder, processorsUnder, decided, periodsAfter, processorsAfter, found, outcome, Meets}
 use Rattle.plan.specs.Handover.{FoundSprung, Leaves, MayGrant}
 use Rattle.plan.proofs.Processors.{processors-same}
-use Rattle.plan.proofs.Writing.{written-same}
+use Rattle.plan.proofs.Writing.{written-kept, written-same}
 
 -- an acceptance was admitted, and its step is the least that passes
 pub decided-accepted : (a : verdict.Verdict) (step : Step) (k : ℕ) → accepted k ≡ decided a step → (a ≡ verdict.the-variants.Accepted) × (step ≡ At k)
@@ -100,6 +101,27 @@ module _ (serves : Bool) (s : Settings) (rows : List Task) (n room : ℕ) (a : v
   pub admitted-found : (step : Step) → step ≡ leastUnder s rows n → decided a step ≡ found serves s rows n room
   unfolding found
   admitted-found step e = rw (is, e)
+
+-- a call that is refused at the gate is found refused, and leaves the outputs as they are
+module _ (serves : Bool) (s : Settings) (rows : List Task) (n room : ℕ) (answer : Answer) (r : Refusal) (g : gateOf serves s n room ≡ verdict.the-variants.Refused r)
+    (e : handed answer ≡ decided (verdict.the-variants.Refused r) Nothing) where
+  pub gate-found : handed answer ≡ found serves s rows n room
+  gate-found = e ∙ refused-found serves s rows n room (verdict.the-variants.Refused r) (refused-gate serves s rows n room r g) r Nothing refl
+
+  pub gate-refused : isAccepted answer ≡ true → ⊥
+  gate-refused t = refused-sprung answer (verdict.the-variants.Refused r) Nothing r e refl t
+
+pub meets-refused : (serves : Bool) (s : Settings) (rows : List Task) (n : ℕ) (periods processors : List ℕ) (answer : Answer)
+    → handed answer ≡ found serves s rows n (min (length periods) (length processors)) → (isAccepted answer ≡ true → ⊥)
+    → Meets (outcome serves s rows n periods processors) answer periods processors
+unfolding outcome
+meets-refused serves s rows n periods processors (Accepted k) e no-plan = absurd (no-plan refl)
+meets-refused serves s rows n periods processors (Refused r) e no-plan =
+    record {
+      answers = e;
+      grants = rw (← e) (sym (written-kept (Refused r) (periodsUnder s rows n 0) n periods refl));
+      places = rw (← e) (sym (written-kept (Refused r) (processorsUnder s rows n 0) n processors refl));
+    }
 
 -- an answer that is found, with what it leaves in the outputs, meets the outcome
 module _ (serves : Bool) (answer : Answer) (s : Settings) (rows : List Task) (n : ℕ) (block periods processors : List ℕ)

@@ -9,7 +9,7 @@ least-charged-requires : tie.Need-least-charged-requires
 least-charged-requires c κs =
     let meaning = c .before .before .before in
     let pre = meaning .before .pre in
-    (pre .0, pre .1, pre .2, rw (meaning .meant .ensures) (pre .3))
+    (pre .chargeable, pre .m-some, pre .m-most, rw (meaning .meant .ensures) (pre .served))
 
 returns : tie.Need-returns
 returns c =
@@ -23,7 +23,7 @@ least-shared-requires : tie.Need-least-shared-requires
 least-shared-requires c κs =
     let meaning = c .before .before .before in
     let pre = meaning .before .pre in
-    (charged-springy _ _ _ (pre .0), pre .1, pre .2, rw (meaning .meant .ensures) (pre .3))
+    (charged-springy _ _ _ (pre .chargeable), pre .m-some, pre .m-most, rw (meaning .meant .ensures) (pre .served))
 
 returns-2 : tie.Need-returns-2
 returns-2 c =
