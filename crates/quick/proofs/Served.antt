@@ -14,6 +14,8 @@ use Rattle.kinds.specs.declared.Task.{Task}
 use Rattle.kinds.specs.declared.Policy.{Policy}
 use Rattle.kinds.specs.declared.Settings.{Settings}
 use Rattle.kinds.specs.declared.Verdict as verdict
+use Rattle.kinds.specs.declared.Answer.{Answer}
+use Rattle.kinds.specs.Answer.{handed}
 use Rattle.kinds.specs.Policy.{isWeighed, meant}
 use Rattle.kinds.specs.Settings.{testsCharge}
 use Rattle.kinds.specs.Task.{at}
@@ -24,7 +26,7 @@ use Rattle.springs.specs.declared.Spring.{Spring}
 use Rattle.springs.specs.Spring.{sharesOn, saturations, chargesOn}
 use Rattle.springs.specs.Columns.{springIn, fullIn}
 use Rattle.springs.specs.Handover.{Sprung}
-use Rattle.springs.proofs.Blocks.{shares-are, saturations-are, loads-are}
+use Rattle.springs.proofs.Blocks.{sprung-beside, shares-are, saturations-are, loads-are}
 use Rattle.policy.specs.Sides.{weightsOf}
 use Rattle.policy.specs.Looks.{looksFor, looksOf}
 use Rattle.policy.specs.Under.{rowsUnder, fullUnder, loadsUnder, leastUnder, looksUnder, mostLooks}
@@ -35,10 +37,14 @@ use Rattle.policy.proofs.Tests.{passes-weighed, passes-same}
 use Rattle.policy.proofs.Under as under
 use Rattle.policy.proofs.Under.{first-least}
 use Rattle.admission.specs.Admission.{admission}
-use Rattle.admission.proofs.Chain.{admitted}
+use Rattle.admission.specs.Handover.{AdmittedSprung}
+use Rattle.admission.proofs.Chain.{admitted, passed-weighed}
+use Rattle.admission.proofs.Opened.{opened}
+use Rattle.plan.specs.Plan.{decided}
+use Rattle.plan.proofs.Found.{refused-found, admitted-found, refused-sprung}
 use Rattle.halve.specs.Halves.{HalvingEnds}
 use Rattle.quick.specs.Looked.{looksAfter, looks}
-use Rattle.quick.specs.Handover.{SearchEnds, SearchUnder}
+use Rattle.quick.specs.Handover.{MaySearch, SearchEnds, SearchUnder, SearchedIn, LookedSprung}
 
 -- a search of the first n of some records ends at the step that demand 2 asks for, with the looks of its edition
 pub record LeastFound (s : Settings) (rows : List Task) (n : ℕ) (r : Ended) : Type 0 where
@@ -114,6 +120,40 @@ module _ (s : Settings) (rows : List Task) (n room : ℕ) (a : verdict.Verdict) 
   pub some-looks : (k : ℕ) → a ≡ verdict.the-variants.Accepted → k ≡ looksUnder s rows n → k ≡ looks s rows n room
   unfolding looks
   some-looks k e q = rw (← is, e) q
+
+-- what the search of an admitted call relies on
+pub may-search : (s : Settings) (rows : List Task) (n room : ℕ) (a : verdict.Verdict) (block : List ℕ) → AdmittedSprung false s rows n room a block
+    → MaySearch a s block n
+may-search s rows n room a block x e =
+    let admitted = opened false s rows n room a block x e in
+    let passed = admitted .ready .passed in
+    record { chargeable = admitted .chargeable; m-some = passed .m-some; m-most = passed .m-most }
+
+-- so its answer and looks are those of demand 3, and of an acceptance the springs still stand there
+pub found-looked : (s : Settings) (rows : List Task) (n room : ℕ) (a : verdict.Verdict) (old new : List ℕ) → AdmittedSprung false s rows n room a old
+    → (r : Ended) → SearchedIn a s n r old new → (answer : Answer) → handed answer ≡ decided a (r .step)
+    → LookedSprung s rows n room answer (r .looks) new
+found-looked s rows n room (verdict.the-variants.Refused x) old new w r h answer e =
+    record {
+      found =
+          record {
+            answers = e ∙ refused-found false s rows n room _ (w .is) x (r .step) refl;
+            sprung = λ t. refused-sprung answer _ (r .step) x e refl t;
+          };
+      counted = h .unlooked x refl ∙ no-looks s rows n room _ (w .is) refl;
+    }
+found-looked s rows n room verdict.the-variants.Accepted old new w r h answer e =
+    let sprung = w .sprung refl in
+    let passed = opened false s rows n room _ old w refl .ready .passed in
+    let least = least-found s rows n old sprung (passed-weighed _ _ _ _ passed) r (h .searched refl) in
+    record {
+      found =
+          record {
+            answers = e ∙ admitted-found false s rows n room _ (w .is) (r .step) (least .least);
+            sprung = λ _. sprung-beside _ n old new (h .beside refl) sprung;
+          };
+      counted = some-looks s rows n room _ (w .is) (r .looks) refl (least .count);
+    }
 
 -- demand 3: at most tasks + 1; Ask 10: "never over 20" under edition 2
 after-few : (a : verdict.Verdict) (k most : ℕ) → (a ≡ verdict.the-variants.Accepted → k ≤ most) → looksAfter a k ≤ most

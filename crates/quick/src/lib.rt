@@ -14,11 +14,11 @@ ghost use Prim.Native.Nat.{_≤_, _<_};
 ghost use Rattle.kinds.specs.Limits.{mostTasks, mostProcessors};
 ghost use Rattle.springs.specs.Spring.{saturations};
 ghost use Rattle.springs.specs.Columns.{springIn};
-ghost use Rattle.springs.specs.Handover.{SumIs, Roomy, Springy, Chargeable, Beside};
+ghost use Rattle.springs.specs.Handover.{SumIs, Springy, Beside};
 ghost use Rattle.policy.specs.Weighed.{weighedAt};
 ghost use Rattle.policy.specs.Handover.{Light};
 ghost use Rattle.quick.specs.Search.{dueAfter, OneLook};
-ghost use Rattle.quick.specs.Handover.{SearchEnds, SearchUnder, LookedSprung};
+ghost use Rattle.quick.specs.Handover.{Searchable, MaySearch, SearchEnds, SearchUnder, SearchedIn};
 ghost use Rattle.quick.specs.Looked.{MeetsLooked};
 
 // What the quick finder answers, and the looks that it made.
@@ -42,44 +42,51 @@ pub fn find(table: Table, settings: Settings, periods: &mut [u32], processors: &
     ensures { λ r. ⌜ MeetsLooked settings (table .rows) (table .n) (now (periods .entry)) (now (processors .entry)) r
         (now (periods .exit)) (now (processors .exit)) ⌝ }
 {
-    let mut block = [0u32; Columns::ROOM];
     let n = table.n;
     let room = ground::shorter(periods.len(), processors.len());
-    let found = decide_in(table, settings, room, &mut block);
-    let answer = found.answer;
-    plan::grant(answer, settings, &mut block, n, periods, processors);
-    found
-}
-
-// The answer and the looks, for outputs of which the shorter has so much room; of an acceptance the lent block holds the springs.
-fn decide_in(
-    table: Table,
-    settings: Settings,
-    room: usize,
-    block: &mut [u32; Columns::ROOM],
-) -> Looked
-    requires { ⌜ Roomy (now block) ⌝ }
-    ensures { λ r. ⌜ LookedSprung settings (table .rows) (table .n) room r (now (block .exit)) ⌝ }
-{
-    let admission = admission::admit(table, settings, false, room, block);
-    let Verdict::Accepted = admission else {
+    let mut block = [0u32; Columns::ROOM];
+    let gate = admission::gate_of(settings, false, n, room);
+    let Verdict::Accepted = gate else {
         let looks = 0;
         return Looked {
-            answer: plan::decide(admission, Step::Nothing),
+            answer: plan::decide(gate, Step::Nothing),
             looks,
         };
     };
-    let ended = search_under(settings, block, table.n);
+    let bad = springs::springs_of(table, settings.swap, settings.notch, &mut block);
+    let admission = admission::judge(bad, n);
+    let ended = search_in(admission, settings, &mut block, n);
     let step = ended.step;
+    let answer = plan::decide(admission, step);
+    plan::grant(answer, settings, &mut block, n, periods, processors);
     Looked {
-        answer: plan::decide(admission, step),
+        answer,
         looks: ended.looks,
     }
 }
 
+// The search of an admitted call, on the springs in the block. A refused one has no step and makes no look.
+fn search_in(
+    admission: Verdict,
+    settings: Settings,
+    block: &mut [u32; Columns::ROOM],
+    n: usize,
+) -> Ended
+    requires { ⌜ MaySearch admission settings (now block) n ⌝ }
+    ensures { λ r. ⌜ SearchedIn admission settings n r (now (block .entry)) (now (block .exit)) ⌝ }
+{
+    let Verdict::Accepted = admission else {
+        return Ended {
+            step: Step::Nothing,
+            looks: 0,
+        };
+    };
+    search_under(settings, block, n)
+}
+
 // The search of the settings' edition.
 fn search_under(settings: Settings, block: &mut [u32; Columns::ROOM], n: usize) -> Ended
-    requires { ⌜ Chargeable (settings .notch) (now block) n × (1 ≤ settings .m) × (settings .m ≤ mostProcessors) ⌝ }
+    requires { ⌜ Searchable settings (now block) n ⌝ }
     ensures { λ r. ⌜ SearchUnder settings (now (block .entry)) n r × Beside (now (block .entry)) (now (block .exit)) ⌝ }
 {
     let asked = settings.policy;

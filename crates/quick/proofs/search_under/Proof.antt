@@ -22,7 +22,7 @@ returns c =
 search-columns-requires : tie.Need-search-columns-requires
 search-columns-requires c κs =
     let weighted = c .before .before .before in
-    (weighted .weights-of .ensures .1, charged-springy _ _ _ (weighted .before .before .pre .0))
+    (weighted .weights-of .ensures .1, charged-springy _ _ _ (weighted .before .before .pre .chargeable))
 
 returns-2 : tie.Need-returns-2
 returns-2 c =
