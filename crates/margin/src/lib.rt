@@ -14,7 +14,12 @@ pub fn margin_at(table: Table, settings: Settings, step: u32) -> Margin
 {
     let n = table.n;
     let mut block = [0u32; Columns::ROOM];
-    let admission = admission::admit(table, settings, false, n, &mut block);
+    let gate = admission::gate_of(settings, false, n, n);
+    if let Verdict::Refused(refusal) = gate {
+        return Margin::Refused(refusal);
+    }
+    let bad = springs::springs_of(table, settings.swap, settings.notch, &mut block);
+    let admission = admission::judge(bad, n);
     let Verdict::Refused(refusal) = admission else {
         let asked = settings.policy;
         springs::loads_at(settings, &mut block, n, step);
