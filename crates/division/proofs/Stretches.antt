@@ -6,12 +6,12 @@ use native.Mathlib.Nat.{min-eq-left, min-eq-right}
 use Rattle.ground.specs.Folds.{sumTo, maxTo}
 use Rattle.ground.specs.Least.{LeastAt, Rising}
 use Rattle.ground.proofs.Cases.{by-le, true-false, false-of}
-use Rattle.ground.proofs.Folds.{sum-none, sum-more, sum-le, max-falls, sum-line, term-le-sum}
+use Rattle.ground.proofs.Folds.{sum-none, sum-more, sum-line, term-le-sum}
 use Rattle.kinds.specs.Limits.{greatestElasticity}
 use Rattle.policy.specs.declared.Weights.{Weights}
 use Rattle.policy.specs.Sides.{left}
 use Rattle.policy.specs.Weighed.{weighed, weighedAt}
-use Rattle.policy.proofs.Tests.{test-stays}
+use Rattle.policy.proofs.Weighing.{weighed-stays}
 use Rattle.springs.specs.declared.Spring.{Spring}
 use Rattle.springs.specs.Spring.{shareOn, saturationOn, sharesOn, saturations}
 use Rattle.springs.proofs.Springs.{shares-fall}
@@ -52,11 +52,7 @@ stretch w springs n p q j x l =
 
 -- the test stays once it holds
 pub weighed-rising : (w : Weights) (springs : ℕ → Spring) (n : ℕ) → Rising (weighedAt w springs n)
-unfolding weighed
-weighed-rising w springs n j k h t =
-    let falls : (i : ℕ) → i < n → shareOn (springs i) k ≤ shareOn (springs i) j = λ i l. shares-fall (springs i) j k h in
-    le-leb _ _
-    (test-stays w _ _ _ _ (sum-le _ _ n falls) (max-falls _ _ n falls) (leb-true _ _ t))
+weighed-rising w springs n j k h t = weighed-stays w (sharesOn springs j) (sharesOn springs k) n (λ i l. shares-fall (springs i) j k h) t
 
 -- what fails fails at every earlier step
 pub fails-before : (test : ℕ → Bool) → Rising test → (p k : ℕ) → test p ≡ false → k ≤ p → test k ≡ false

@@ -1,11 +1,10 @@
 -- The loop that halves: one look more, and its end.
 -- Assumes nothing.
-use Rattle.ground.proofs.Kit.{ℕ, _-_, _≤_, _<_, Bool, List, arith, le-leb, leb-true}
+use Rattle.ground.proofs.Kit.{ℕ, _-_, _≤_, _<_, Bool, List, arith}
 use Rattle.ground.specs.declared.Step.the-variants.{At, Nothing}
 use Rattle.ground.specs.Least.{Rising}
 use Rattle.ground.specs.Halving.{middle}
 use Rattle.ground.proofs.Cases.{by-bool}
-use Rattle.ground.proofs.Folds.{sum-le, max-falls}
 use Rattle.ground.proofs.Halving.{Counted, middle-in, made-few, counted-pass, counted-fail, counted-few, counted-done}
 use Rattle.ground.proofs.Halving.{halved-found, halved-none}
 use Rattle.springs.specs.Spring.{chargesOn}
@@ -13,8 +12,8 @@ use Rattle.springs.specs.Columns.{springIn}
 use Rattle.springs.specs.Handover.{Chargeable}
 use Rattle.springs.proofs.Springs.{charge-falls}
 use Rattle.policy.specs.declared.Weights.{Weights}
-use Rattle.policy.specs.Weighed.{weighed, chargedAt}
-use Rattle.policy.proofs.Tests.{test-stays}
+use Rattle.policy.specs.Weighed.{chargedAt}
+use Rattle.policy.proofs.Weighing.{weighed-stays}
 use Rattle.halve.specs.declared.Range.{Range}
 use Rattle.halve.specs.Halves.{half, HalvingEnds}
 
@@ -47,8 +46,6 @@ module _ (test : ℕ → Bool) (K : ℕ) (r : Range) (g : Going test K r) (d : r
 
 -- the test on charges stays once it holds
 pub charged-rising : (w : Weights) (q : ℕ) (block : List ℕ) (n : ℕ) → Chargeable q block n → Rising (chargedAt w q (springIn block) n)
-unfolding weighed
 charged-rising w q block n h j k g t =
     let charges = chargesOn q (springIn block) in
-    let falls : (i : ℕ) → i < n → charges k i ≤ charges j i = λ i l. charge-falls q (springIn block i) (h .allowed i l) k j g in
-    le-leb _ _ (test-stays w _ _ _ _ (sum-le _ _ n falls) (max-falls _ _ n falls) (leb-true _ _ t))
+    weighed-stays w (charges j) (charges k) n (λ i l. charge-falls q (springIn block i) (h .allowed i l) k j g) t

@@ -87,7 +87,7 @@ may-grant serves (Accepted k) s rows n a b block f t =
           record {
             chargeable = sprung-chargeable paid n block (f .sprung t) (p .few) good (s .notch) on;
             m-most = p .m-most;
-            passing = passes-same (meant (s .policy)) (s .m) (loadsOn s (springIn block) k) (loadsUnder s rows n k) n (loads-are paid n block (f .sprung t) s k) ∙ passing;
+            passing = passes-same (meant (s .policy)) (s .m) _ (loadsUnder s rows n k) n (loads-are paid n block (f .sprung t) s k) ∙ passing;
           };
     }
 

@@ -1,7 +1,7 @@
 -- The test as the code works it out, and on charges that a block holds.
 -- Assumes nothing.
-use Rattle.ground.proofs.Kit.{ℕ, _≤_, _<_, List, _≡_, leb}
-use Rattle.ground.proofs.Folds.{sum-cong, max-cong}
+use Rattle.ground.proofs.Kit.{ℕ, _≤_, _<_, true, List, _≡_, leb, le-leb, leb-true}
+use Rattle.ground.proofs.Folds.{sum-le, max-falls, sum-cong, max-cong}
 use Rattle.kinds.specs.Limits.{scale, mostTasks}
 use Rattle.springs.specs.Spring.{chargesOn}
 use Rattle.springs.specs.Columns.{springIn}
@@ -13,10 +13,16 @@ use Rattle.policy.specs.declared.Weights.{Weights}
 use Rattle.policy.specs.Sides.{left}
 use Rattle.policy.specs.Handover.{TotalIs}
 use Rattle.policy.specs.Weighed.{weighed, chargedAt}
+use Rattle.policy.proofs.Tests.{test-stays}
 
 pub weighed-worked-out : (w : Weights) (load : ℕ → ℕ) (n sum max : ℕ) → TotalIs load n sum max → leb (left w sum max) (w .r) ≡ weighed w load n
 unfolding weighed
 weighed-worked-out w load n sum max t = rw (t .sum-is, t .max-is)
+
+-- the test stays where no load is larger
+pub weighed-stays : (w : Weights) (f g : ℕ → ℕ) (n : ℕ) → ((i : ℕ) → i < n → g i ≤ f i) → weighed w f n ≡ true → weighed w g n ≡ true
+unfolding weighed
+weighed-stays w f g n falls t = le-leb _ _ (test-stays w _ _ _ _ (sum-le _ _ n falls) (max-falls _ _ n falls) (leb-true _ _ t))
 
 -- loads that are written to a block, none above S
 pub loaded-loads : (load : ℕ → ℕ) (n : ℕ) (old new : List ℕ) → n ≤ mostTasks → ((i : ℕ) → i < n → load i ≤ scale) → Loaded load n old new → Loads new n

@@ -1,7 +1,7 @@
 -- One promise for every call: no second answer, looks included; the plain finder's outcome where policy 4 is not asked; and it depends on
 -- the first n records only.
 -- Assumes nothing.
-use Rattle.ground.proofs.Kit.{ℕ, _≤_, _<_, min, true, false, List, _≡_, refl, sym, _∙_, ap, ap₂, arith, length}
+use Rattle.ground.proofs.Kit.{ℕ, _≤_, _<_, true, false, List, _≡_, refl, sym, _∙_, ap, ap₂, arith}
 use Rattle.ground.proofs.Cases.{by-le}
 use Rattle.kinds.specs.declared.Task.{Task}
 use Rattle.kinds.specs.declared.Answer.{Answer}
@@ -15,7 +15,7 @@ use Rattle.kinds.specs.declared.Verdict as verdict
 use Rattle.admission.specs.Admission.{admission}
 use Rattle.admission.proofs.Chain.{admitted, admission-same, admission-many}
 use Rattle.plan.specs.Plan.{outcome, Meets}
-use Rattle.plan.proofs.Outcomes.{no-second-answer, outcome-same, outcome-serves}
+use Rattle.plan.proofs.Outcomes.{no-second-answer, outcome-serves}
 use Rattle.quick.specs.declared.Looked.{Looked}
 use Rattle.quick.specs.Looked.{looksAfter, looks, MeetsLooked}
 
@@ -50,12 +50,3 @@ module _ (s : Settings) (xs ys : List Task) (n : ℕ) (same : n ≤ mostTasks �
       (λ many.
       ap (λ (a : verdict.Verdict). looksAfter a (looksUnder s xs n)) (admission-many false s xs ys n room many)
       ∙ after-apart (admission false s ys n room) _ _ (λ e. omega (arith, admitted false s ys n room e .passed .few)))
-
-  pub meets-looked-same : (periods processors : List ℕ) (r : Looked) (ps qs : List ℕ)
-      → MeetsLooked s xs n periods processors r ps qs → MeetsLooked s ys n periods processors r ps qs
-  meets-looked-same periods processors r ps qs x =
-      record {
-        meets = rw (← outcome-same false s xs ys n periods processors same) (x .meets);
-        count = x .count ∙ looks-agree (min (length periods) (length processors));
-        few = x .few;
-      }

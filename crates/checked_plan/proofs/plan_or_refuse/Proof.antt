@@ -61,7 +61,5 @@ returns-2 c =
     hands-accepted _ _ _ _ _ _ _ (room (planned (judged told))) _ (accepted told) _ (written .write-front .ensures)
 
 pub plan-or-refuse-spec : {M : Type 1} → statement M
-plan-or-refuse-spec =
-    tie.close
-    (tie.spec (λ c κs. search needs) (λ c κs. search needs) (λ c. search needs) slice-aggregate-check (λ c κs. search needs) (λ c. search needs)
-    (λ c. search needs) (λ c. search needs) returns write-front-requires (λ c. search needs) (λ c. search needs) returns-2)
+plan-or-refuse-spec = tie.close (tie.spec (λ c κs. search needs) (λ c κs. search needs) (λ c. search needs) slice-aggregate-check (λ c κs. search needs)
+    (λ c. search needs) (λ c. search needs) (λ c. search needs) returns write-front-requires (λ c. search needs) (λ c. search needs) returns-2)

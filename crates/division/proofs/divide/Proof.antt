@@ -32,7 +32,5 @@ least c =
     divided-worked-out _ springs _ _ _ _ _ _ (at-start .pre .1 .next .above) (at-start .pre .2 .is) (c .before .slope-sum .ensures .is) (c .needed .ensures)
 
 pub divide-spec : {M : Type 1} → statement M
-divide-spec =
-    tie.close
-    (tie.spec (λ c κs. c .pre .1 .springy) needed-requires (λ c. search needs) (λ c. search needs) (λ c. search needs) (λ c. search needs)
+divide-spec = tie.close (tie.spec (λ c κs. c .pre .1 .springy) needed-requires (λ c. search needs) (λ c. search needs) (λ c. search needs) (λ c. search needs)
     (λ c. least (c .before) .0 (c .if1 .taken)) (λ c. least (c .before) .1 (c .if1 .left)))

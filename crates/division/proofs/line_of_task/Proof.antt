@@ -30,6 +30,4 @@ returns c =
     ) (c .line-of .ensures)
 
 pub line-of-task-spec : {M : Type 1} → statement M
-line-of-task-spec =
-    tie.close
-    (tie.spec (λ c κs. search needs) (λ c κs. search needs) (λ c κs. search needs) (λ c κs. search needs) line-of-requires returns)
+line-of-task-spec = tie.close (tie.spec (λ c κs. search needs) (λ c κs. search needs) (λ c κs. search needs) (λ c κs. search needs) line-of-requires returns)

@@ -60,8 +60,6 @@ returns c =
     rw e at (at-loop .loop .inv .1 .is)
 
 pub need-over-spec : {M : Type 1} → statement M
-need-over-spec =
-    tie.close
-    (tie.spec Inv-loop μ-loop line-of-requires (λ c κs. c .line-of .ensures .falling) loop-holds spring-in-requires line-of-task-requires
-    (λ c κs. (c .line-of-task .ensures .falling, c .before .before .before .loop .inv .1 .most)) (λ c. omega arith) (λ c. omega arith) loop-again
-    returns)
+need-over-spec = tie.close (tie.spec Inv-loop μ-loop line-of-requires (λ c κs. c .line-of .ensures .falling) loop-holds spring-in-requires
+    line-of-task-requires (λ c κs. (c .line-of-task .ensures .falling, c .before .before .before .loop .inv .1 .most)) (λ c. omega arith) (λ c. omega arith)
+    loop-again returns)

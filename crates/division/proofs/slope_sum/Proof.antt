@@ -45,7 +45,5 @@ returns : tie.Need-returns Inv-loop μ-loop
 returns c = let e : c .before .loop .i ≡ c .before .before .args .n = omega arith in rw e at (c .before .loop .inv .1)
 
 pub slope-sum-spec : {M : Type 1} → statement M
-slope-sum-spec =
-    tie.close
-    (tie.spec Inv-loop μ-loop loop-holds spring-in-requires slope-of-requires (λ _ _. tt) add-fall (λ c. omega arith) (λ c. omega arith) loop-again
-    returns)
+slope-sum-spec = tie.close (tie.spec Inv-loop μ-loop loop-holds spring-in-requires slope-of-requires (λ _ _. tt) add-fall (λ c. omega arith)
+    (λ c. omega arith) loop-again returns)

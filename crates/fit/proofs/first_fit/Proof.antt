@@ -55,9 +55,7 @@ returns c =
     (c .tasks-test .came)
 
 pub first-fit-spec : {M : Type 1} → statement M
-first-fit-spec =
-    tie.close
-    (tie.spec Inv-loop μ-loop Inv-tasks μ-tasks (λ c. omega arith) tasks-holds (λ c. omega arith) (λ c. omega arith) loop-holds (λ c. omega arith)
-    (λ c. omega arith) sub-if1 (λ c. omega arith) (λ c. omega arith) loop-again (λ c. omega arith) (λ c. omega arith) add-held (λ c. omega arith)
-    (λ c. omega arith) (λ c. omega arith) (λ c. omega arith) (λ c. omega arith) (λ c. omega arith) (λ c. omega arith) (λ c. omega arith) tasks-again
-    returns)
+first-fit-spec = tie.close (tie.spec Inv-loop μ-loop Inv-tasks μ-tasks (λ c. omega arith) tasks-holds (λ c. omega arith) (λ c. omega arith) loop-holds
+    (λ c. omega arith) (λ c. omega arith) sub-if1 (λ c. omega arith) (λ c. omega arith) loop-again (λ c. omega arith) (λ c. omega arith) add-held
+    (λ c. omega arith) (λ c. omega arith) (λ c. omega arith) (λ c. omega arith) (λ c. omega arith) (λ c. omega arith) (λ c. omega arith) (λ c. omega arith)
+    tasks-again returns)

@@ -82,6 +82,5 @@ returns-2 c =
     (rw (← compressed .full-compression .ensures) (ends (c .if2 .left)), at-loop .loop .inv .1)
 
 pub least-step-spec : {M : Type 1} → statement M
-least-step-spec =
-    tie.close
-    (tie.spec Inv-loop μ-loop (λ c κs. c .before .pre .1 .few) add-none loop-holds look-requires loop-less loop-again returns returns-2)
+least-step-spec = tie.close (tie.spec Inv-loop μ-loop (λ c κs. c .before .pre .1 .few) add-none loop-holds look-requires loop-less loop-again returns
+    returns-2)

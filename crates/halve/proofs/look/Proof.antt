@@ -19,6 +19,4 @@ returns-2 : tie.Need-returns-2
 returns-2 c = let looked = c .before .before in (rw (← tested looked, c .if1 .left), looked .weighs-charged .ensures .1)
 
 pub look-spec : {M : Type 1} → statement M
-look-spec =
-    tie.close
-    (tie.spec (λ c. search needs) (λ c κs. search needs) (λ c. search needs) returns (λ c. search needs) returns-2)
+look-spec = tie.close (tie.spec (λ c. search needs) (λ c κs. search needs) (λ c. search needs) returns (λ c. search needs) returns-2)

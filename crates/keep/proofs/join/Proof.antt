@@ -57,7 +57,5 @@ returns-4 c =
     ∙ join-made _ _ _ _ (gate .before .if1 .left) (gate .if2 .left) _ (found judged .first) (good .if3 .left)
 
 pub join-spec : {M : Type 1} → statement M
-join-spec =
-    tie.close
-    (tie.spec (λ c κs. search needs) returns (λ c κs. search needs) returns-2 (λ c κs. search needs) springs-of-requires (λ c κs. search needs) returns-3
-    (λ c. search needs) (λ c. search needs) index-of-requires (λ c κs. search needs) returns-4)
+join-spec = tie.close (tie.spec (λ c κs. search needs) returns (λ c κs. search needs) returns-2 (λ c κs. search needs) springs-of-requires
+    (λ c κs. search needs) returns-3 (λ c. search needs) (λ c. search needs) index-of-requires (λ c κs. search needs) returns-4)

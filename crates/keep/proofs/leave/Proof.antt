@@ -53,8 +53,5 @@ returns-5 c =
     ∙ leave-made _ _ _ _ (gate judged .before .if1 .left) few _ (judged .springs-of .ensures .first) (good .if3 .left) (stays .if4 .left)
 
 pub leave-spec : {M : Type 1} → statement M
-leave-spec =
-    tie.close
-    (tie.spec (λ c κs. search needs) returns (λ c κs. search needs) returns-2 (λ c κs. search needs) (λ c κs. search needs) returns-3
-    (λ c κs. search needs) returns-4 (λ c. search needs) index-of-requires (λ c. search needs) (λ c κs. search needs)
-    (λ c κs. search needs) returns-5)
+leave-spec = tie.close (tie.spec (λ c κs. search needs) returns (λ c κs. search needs) returns-2 (λ c κs. search needs) (λ c κs. search needs) returns-3
+    (λ c κs. search needs) returns-4 (λ c. search needs) index-of-requires (λ c. search needs) (λ c κs. search needs) (λ c κs. search needs) returns-5)

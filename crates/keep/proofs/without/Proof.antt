@@ -54,7 +54,5 @@ returns c =
     rw copied
 
 pub without-spec : {M : Type 1} → statement M
-without-spec =
-    tie.close
-    (tie.spec Inv-loop μ-loop loop-holds left-from-requires mul-row element-copy-out-row (λ c. omega arith) (λ c. omega arith) (λ c. omega arith)
-    (λ c. omega arith) loop-again returns)
+without-spec = tie.close (tie.spec Inv-loop μ-loop loop-holds left-from-requires mul-row element-copy-out-row (λ c. omega arith) (λ c. omega arith)
+    (λ c. omega arith) (λ c. omega arith) loop-again returns)

@@ -39,9 +39,10 @@ returns c =
     let told = loaded .before .before in
     let admitted = told .before .before in
     let args = admitted .before .before .args in
-    let are : (i : ℕ) → i < args .table .n → loadIn (loaded .loads-at .last .1 .0) i ≡ loadsUnder (args .settings) (args .table .rows) (args .table .n) (args .step) i =
+    let load = loadsUnder (args .settings) (args .table .rows) (args .table .n) (args .step) in
+    let are : (i : ℕ) → i < args .table .n → loadIn (loaded .loads-at .last .1 .0) i ≡ load i =
     λ i l. loaded .loads-at .ensures .are i l ∙ loads-are _ _ _ (begun told .sprung) (args .settings) (args .step) i l in
-    let same = margin-same _ _ (loadIn (loaded .loads-at .last .1 .0)) (loadsUnder (args .settings) (args .table .rows) (args .table .n) (args .step)) _ are in
+    let same = margin-same _ _ (loadIn (loaded .loads-at .last .1 .0)) load _ are in
     rw (← admitted .admit .ensures .is, told .enum-told .given .1, ← meaning .meant .ensures)
     (ap accepted (search needs ∙ (c .margin-of .ensures ∙ same)))
 
@@ -50,7 +51,5 @@ unfolding marginHanded
 returns-2 c = rw (← c .before .before .before .admit .ensures .is, c .before .admission .given .1)
 
 pub margin-at-spec : {M : Type 1} → statement M
-margin-at-spec =
-    tie.close
-    (tie.spec (λ c κs. search needs) (λ c. search needs) (λ c. search needs) (λ c κs. begun (c .before) .chargeable) (λ c κs. search needs)
-    margin-of-requires returns returns-2)
+margin-at-spec = tie.close (tie.spec (λ c κs. search needs) (λ c. search needs) (λ c. search needs) (λ c κs. begun (c .before) .chargeable)
+    (λ c κs. search needs) margin-of-requires returns returns-2)

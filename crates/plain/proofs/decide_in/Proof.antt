@@ -42,7 +42,5 @@ returns-2 c =
     }
 
 pub decide-in-spec : {M : Type 1} → statement M
-decide-in-spec =
-    tie.close
-    (tie.spec (λ c κs. search needs) (λ c. search needs) (λ c. search needs) (λ c κs. search needs) returns least-step-requires
+decide-in-spec = tie.close (tie.spec (λ c κs. search needs) (λ c. search needs) (λ c. search needs) (λ c κs. search needs) returns least-step-requires
     (λ c κs. search needs) returns-2)

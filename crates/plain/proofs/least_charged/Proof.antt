@@ -52,8 +52,9 @@ unfolding leastStep
 returns c =
     let at-loop = c .before .before .before in
     let last = at-loop .before .full-compression .ensures in
+    let passed = sym (tested (c .before)) ∙ c .if1 .taken in
     record {
-      least = least-here (test (start at-loop)) _ _ (at-loop .loop .inv .2) (omega (arith, last, at-loop .loop .inv .0)) (sym (tested (c .before)) ∙ c .if1 .taken);
+      least = least-here (test (start at-loop)) _ _ (at-loop .loop .inv .2) (omega (arith, last, at-loop .loop .inv .0)) passed;
       beside = moved (c .before);
     }
 
@@ -69,7 +70,5 @@ loop-again : tie.Need-loop-again Inv-loop μ-loop
 loop-again c = let left = c .before in (omega arith, moved (left .before), failed left)
 
 pub least-charged-spec : {M : Type 1} → statement M
-least-charged-spec =
-    tie.close
-    (tie.spec Inv-loop μ-loop (λ c κs. c .before .pre .0 .few) loop-holds passes-charged-requires returns returns-2 (λ c. omega arith)
-    (λ c. omega arith) loop-again)
+least-charged-spec = tie.close (tie.spec Inv-loop μ-loop (λ c κs. c .before .pre .0 .few) loop-holds passes-charged-requires returns returns-2
+    (λ c. omega arith) (λ c. omega arith) loop-again)

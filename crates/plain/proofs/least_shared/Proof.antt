@@ -34,9 +34,10 @@ loop-holds c = (omega arith, stepped-none _ _ _ _ _ _ (start c .pre .0 .few) (c 
 passes-summed-requires : tie.Need-passes-summed-requires Inv-loop μ-loop
 passes-summed-requires c κs =
     let at-loop = c .before in
-    let pre = start (at-loop .before) .pre in
+    let first = at-loop .before in
+    let pre = start first .pre in
     let stepped = at-loop .loop .inv .1 in
-    (stepped-loads _ _ _ _ (springy (at-loop .before)) _ _ _ stepped, pre .1, pre .2, pre .3, stepped .added, at-loop .before .before .before .most-sum .ensures)
+    (stepped-loads _ _ _ _ (springy first) _ _ _ stepped, pre .1, pre .2, pre .3, stepped .added, first .before .before .most-sum .ensures)
 
 returns : tie.Need-returns Inv-loop μ-loop
 returns c =
@@ -74,7 +75,6 @@ loop-again c =
     )
 
 pub least-shared-spec : {M : Type 1} → statement M
-least-shared-spec =
-    tie.close
-    (tie.spec Inv-loop μ-loop (λ c κs. c .before .pre .0 .few) (λ c κs. let pre = c .before .before .pre in (pre .1, pre .2, pre .0 .few)) (λ c κs. c .before .before .before .before .pre .0) loop-holds passes-summed-requires returns
-    returns-2 next-shares-requires (λ c. omega arith) (λ c. omega arith) loop-again)
+least-shared-spec = tie.close (tie.spec Inv-loop μ-loop (λ c κs. c .before .pre .0 .few)
+    (λ c κs. let pre = c .before .before .pre in (pre .1, pre .2, pre .0 .few)) (λ c κs. c .before .before .before .before .pre .0) loop-holds
+    passes-summed-requires returns returns-2 next-shares-requires (λ c. omega arith) (λ c. omega arith) loop-again)

@@ -34,5 +34,4 @@ returns-2 c =
     (rw (meaning .meant .ensures) at (c .least-shared .ensures))
 
 pub least-step-spec : {M : Type 1} → statement M
-least-step-spec =
-    tie.close (tie.spec (λ c κs. search needs) (λ c κs. search needs) least-charged-requires returns least-shared-requires returns-2)
+least-step-spec = tie.close (tie.spec (λ c κs. search needs) (λ c κs. search needs) least-charged-requires returns least-shared-requires returns-2)

@@ -43,7 +43,5 @@ returns-2 : tie.Need-returns-2
 returns-2 c = leaves-refused _ _ _ _ _ _ _ (c .enum-told .given .1)
 
 pub grant-spec : {M : Type 1} → statement M
-grant-spec =
-    tie.close
-    (tie.spec (λ c. search needs) write-periods-requires processors-at-requires write-front-requires (λ c. search needs) (λ c. search needs)
-    (λ c. search needs) returns returns-2)
+grant-spec = tie.close (tie.spec (λ c. search needs) write-periods-requires processors-at-requires write-front-requires (λ c. search needs)
+    (λ c. search needs) (λ c. search needs) returns returns-2)

@@ -40,10 +40,11 @@ returns-2 : tie.Need-returns-2
 returns-2 c =
     let asked = c .before in
     let at-start = asked .before .before in
-    any-processors (meant (at-start .args .settings .policy)) (at-start .args .settings .m)
-    (loadsOn (at-start .args .settings) (springIn (at-start .args .block .now)) (at-start .args .k)) _ (at-start .pre .chargeable .few) (sym (rw (asked .before .meant .ensures) at (asked .is-first-fit .ensures)) ∙ c .if1 .left)
+    let args = at-start .args in
+    let other = sym (rw (asked .before .meant .ensures) at (asked .is-first-fit .ensures)) ∙ c .if1 .left in
+    any-processors (meant (args .settings .policy)) (args .settings .m) (loadsOn (args .settings) (springIn (args .block .now)) (args .k)) _
+    (at-start .pre .chargeable .few) other
 
 pub processors-at-spec : {M : Type 1} → statement M
-processors-at-spec =
-    tie.close
-    (tie.spec (λ c κs. search needs) (λ c κs. search needs) (λ c κs. search needs) (λ c. search needs) first-fit-requires returns returns-2)
+processors-at-spec = tie.close (tie.spec (λ c κs. search needs) (λ c κs. search needs) (λ c κs. search needs) (λ c. search needs) first-fit-requires returns
+    returns-2)

@@ -25,7 +25,5 @@ returns : tie.Need-returns Inv-loop μ-loop
 returns c = let e : c .before .loop .j ≡ c .before .before .args .n = omega arith in rw e at (c .before .loop .inv .1 .is)
 
 pub write-front-spec : {M : Type 1} → statement M
-write-front-spec =
-    tie.close
-    (tie.spec Inv-loop μ-loop loop-holds (λ c. omega arith) (λ c. omega arith) (λ c. omega arith) (λ c. omega arith) (λ c. omega arith)
-    (λ c. omega arith) loop-again same-length returns)
+write-front-spec = tie.close (tie.spec Inv-loop μ-loop loop-holds (λ c. omega arith) (λ c. omega arith) (λ c. omega arith) (λ c. omega arith)
+    (λ c. omega arith) (λ c. omega arith) loop-again same-length returns)

@@ -40,7 +40,5 @@ returns : tie.Need-returns Inv-loop μ-loop
 returns c = let e : c .before .loop .i ≡ c .before .before .before .args .n = omega arith in rw e at (c .before .loop .inv .1 .is)
 
 pub write-periods-spec : {M : Type 1} → statement M
-write-periods-spec =
-    tie.close
-    (tie.spec Inv-loop μ-loop loop-holds spring-in-requires period-at-requires (λ c. omega arith) (λ c. omega arith) (λ c. omega arith)
-    (λ c. omega arith) loop-again same-length returns)
+write-periods-spec = tie.close (tie.spec Inv-loop μ-loop loop-holds spring-in-requires period-at-requires (λ c. omega arith) (λ c. omega arith)
+    (λ c. omega arith) (λ c. omega arith) loop-again same-length returns)

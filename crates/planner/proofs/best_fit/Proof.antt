@@ -38,10 +38,8 @@ loop-again : tie.Need-loop-again Inv-loop μ-loop
 loop-again c = let at-loop = chosen c .before .before .before in (omega arith, still-light _ _ _ (at-loop .loop .inv .1))
 
 pub best-fit-spec : {M : Type 1} → statement M
-best-fit-spec =
-    tie.close
-    (tie.spec Inv-loop μ-loop (λ c. (omega arith, c .pre .0)) heaviest-requires (λ c. omega (arith, task c)) (λ c. omega (arith, task c)) fullest-requires
-    (λ c. tt) (λ c. omega (arith, processor c)) (λ c. omega (arith, processor c)) add-held (λ c. omega (arith, processor c))
-    (λ c. omega (arith, processor c)) (λ c. omega (arith, task (chosen c))) (λ c. omega (arith, task (chosen c))) (λ c. omega (arith, processor c))
-    (λ c. omega (arith, processor c)) (λ c. omega (arith, task (chosen c))) (λ c. omega (arith, task (chosen c))) (λ c. omega arith)
-    (λ c. omega arith) loop-again (λ c. tt))
+best-fit-spec = tie.close (tie.spec Inv-loop μ-loop (λ c. (omega arith, c .pre .0)) heaviest-requires (λ c. omega (arith, task c))
+    (λ c. omega (arith, task c)) fullest-requires (λ c. tt) (λ c. omega (arith, processor c)) (λ c. omega (arith, processor c)) add-held
+    (λ c. omega (arith, processor c)) (λ c. omega (arith, processor c)) (λ c. omega (arith, task (chosen c))) (λ c. omega (arith, task (chosen c)))
+    (λ c. omega (arith, processor c)) (λ c. omega (arith, processor c)) (λ c. omega (arith, task (chosen c))) (λ c. omega (arith, task (chosen c)))
+    (λ c. omega arith) (λ c. omega arith) loop-again (λ c. tt))

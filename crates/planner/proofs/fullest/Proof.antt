@@ -19,7 +19,5 @@ fuller-requires c κs =
     (at-loop .before .pre .0, c .loop-test .taken, at-loop .before .pre .1, at-loop .loop .inv .1)
 
 pub fullest-spec : {M : Type 1} → statement M
-fullest-spec =
-    tie.close
-    (tie.spec Inv-loop μ-loop loop-holds fuller-requires (λ c. omega arith) (λ c. omega arith) (λ c. (omega arith, c .fuller .ensures))
+fullest-spec = tie.close (tie.spec Inv-loop μ-loop loop-holds fuller-requires (λ c. omega arith) (λ c. omega arith) (λ c. (omega arith, c .fuller .ensures))
     (λ c. c .before .loop .inv .1))

@@ -15,7 +15,5 @@ heavier-requires c κs =
     (at-loop .loop .inv .1, c .loop-test .taken, at-loop .before .pre .1)
 
 pub heaviest-spec : {M : Type 1} → statement M
-heaviest-spec =
-    tie.close
-    (tie.spec Inv-loop μ-loop (λ c. (omega arith, omega (arith, c .pre .0))) heavier-requires (λ c. omega arith) (λ c. omega arith)
+heaviest-spec = tie.close (tie.spec Inv-loop μ-loop (λ c. (omega arith, omega (arith, c .pre .0))) heavier-requires (λ c. omega arith) (λ c. omega arith)
     (λ c. (omega arith, c .heavier .ensures)) (λ c. c .before .loop .inv .1))

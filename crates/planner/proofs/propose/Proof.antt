@@ -24,7 +24,5 @@ best-fit-requires c κs =
     (loads .light, loads .m-most)
 
 pub propose-spec : {M : Type 1} → statement M
-propose-spec =
-    tie.close
-    (tie.spec (λ c. search needs) (λ c κs. search needs) (λ c. search needs) (λ c. search needs) (λ c. search needs) slice-aggregate-first-fit
-    first-fit-requires (λ c. search needs) best-fit-requires (λ c. search needs))
+propose-spec = tie.close (tie.spec (λ c. search needs) (λ c κs. search needs) (λ c. search needs) (λ c. search needs) (λ c. search needs)
+    slice-aggregate-first-fit first-fit-requires (λ c. search needs) best-fit-requires (λ c. search needs))

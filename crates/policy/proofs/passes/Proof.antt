@@ -18,6 +18,5 @@ returns-2 c =
     c .weighs .ensures ∙ passes-worked-out _ _ _ _ _ _ _ _ served (weighed .weights-of .ensures .0) (summed .total-of .ensures) refl
 
 pub passes-spec : {M : Type 1} → statement M
-passes-spec =
-    tie.close
-    (tie.spec (λ c κs. search needs) (λ c κs. search needs) returns (λ c κs. search needs) (λ c κs. search needs) (λ c κs. search needs) returns-2)
+passes-spec = tie.close (tie.spec (λ c κs. search needs) (λ c κs. search needs) returns (λ c κs. search needs) (λ c κs. search needs) (λ c κs. search needs)
+    returns-2)

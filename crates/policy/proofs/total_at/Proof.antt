@@ -41,7 +41,5 @@ returns c =
     rw (c .before .widened .ensures, c .widened2 .ensures) (rw e at (at-loop .loop .inv .1))
 
 pub total-at-spec : {M : Type 1} → statement M
-total-at-spec =
-    tie.close
-    (tie.spec Inv-loop μ-loop loop-holds spring-in-requires share-on-requires add-sum (λ _ _. tt) (λ c. omega arith) (λ c. omega arith) loop-again
-    (λ _ _. tt) (λ _ _. tt) returns)
+total-at-spec = tie.close (tie.spec Inv-loop μ-loop loop-holds spring-in-requires share-on-requires add-sum (λ _ _. tt) (λ c. omega arith) (λ c. omega arith)
+    loop-again (λ _ _. tt) (λ _ _. tt) returns)

@@ -34,7 +34,5 @@ returns c =
     rw (c .before .widened .ensures, c .widened2 .ensures) (rw e at (at-loop .loop .inv .1))
 
 pub total-of-spec : {M : Type 1} → statement M
-total-of-spec =
-    tie.close
-    (tie.spec Inv-loop μ-loop loop-holds (λ c. omega arith) (λ c. omega arith) add-sum (λ _ _. tt) (λ c. omega arith) (λ c. omega arith) loop-again
-    (λ _ _. tt) (λ _ _. tt) returns)
+total-of-spec = tie.close (tie.spec Inv-loop μ-loop loop-holds (λ c. omega arith) (λ c. omega arith) add-sum (λ _ _. tt) (λ c. omega arith) (λ c. omega arith)
+    loop-again (λ _ _. tt) (λ _ _. tt) returns)

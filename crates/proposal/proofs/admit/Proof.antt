@@ -67,6 +67,5 @@ returns-3 c =
     }
 
 pub admit-spec : {M : Type 1} → statement M
-admit-spec =
-    tie.close
-    (tie.spec (λ c κs. search needs) (λ c. search needs) (λ c. search needs) returns springs-of-requires returns-2 loads-at-requires returns-3)
+admit-spec = tie.close (tie.spec (λ c κs. search needs) (λ c. search needs) (λ c. search needs) returns springs-of-requires returns-2 loads-at-requires
+    returns-3)

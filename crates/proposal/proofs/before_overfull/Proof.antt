@@ -41,7 +41,5 @@ returns-2 c =
     sym e ∙ first-none (λ (x : ℕ). isOverfull (getD (args .t1) x 0)) _ _ (at-loop .loop .inv .2) e
 
 pub before-overfull-spec : {M : Type 1} → statement M
-before-overfull-spec =
-    tie.close
-    (tie.spec Inv-loop μ-loop (λ c. omega arith) loop-holds (λ c. omega arith) (λ c. omega arith) returns (λ c. omega arith) (λ c. omega arith)
-    loop-again returns-2)
+before-overfull-spec = tie.close (tie.spec Inv-loop μ-loop (λ c. omega arith) loop-holds (λ c. omega arith) (λ c. omega arith) returns (λ c. omega arith)
+    (λ c. omega arith) loop-again returns-2)

@@ -89,7 +89,5 @@ returns-4 c =
     (written .write-front .ensures ∙ ap (λ (x : List ℕ). x ++ drop (args .settings .m) (args .loads .now)) front)
 
 pub check-spec : {M : Type 1} → statement M
-check-spec =
-    tie.close
-    (tie.spec (λ c κs. search needs) (λ c. search needs) (λ c. search needs) returns first-out-of-range-requires returns-2 loads-of-requires
-    (λ c. search needs) before-overfull-requires (λ c. search needs) returns-3 write-front-requires (λ c. search needs) returns-4)
+check-spec = tie.close (tie.spec (λ c κs. search needs) (λ c. search needs) (λ c. search needs) returns first-out-of-range-requires returns-2
+    loads-of-requires (λ c. search needs) before-overfull-requires (λ c. search needs) returns-3 write-front-requires (λ c. search needs) returns-4)

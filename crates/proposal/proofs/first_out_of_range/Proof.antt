@@ -42,7 +42,5 @@ returns-2 c =
     sym e ∙ first-none (λ x. isOutOfRange (args .m) (placeIn (args .proposal .now) x)) (args .n) _ (at-loop .loop .inv .1) e
 
 pub first-out-of-range-spec : {M : Type 1} → statement M
-first-out-of-range-spec =
-    tie.close
-    (tie.spec Inv-loop μ-loop loop-holds (λ c. omega arith) (λ c. omega arith) (λ _ _. tt) returns (λ c. omega arith) (λ c. omega arith) loop-again
-    returns-2)
+first-out-of-range-spec = tie.close (tie.spec Inv-loop μ-loop loop-holds (λ c. omega arith) (λ c. omega arith) (λ _ _. tt) returns (λ c. omega arith)
+    (λ c. omega arith) loop-again returns-2)

@@ -49,8 +49,6 @@ returns : tie.Need-returns Inv-loop μ-loop
 returns c = let e : c .before .loop .i ≡ c .before .before .args .n = omega arith in rw e at (c .before .loop .inv .so-far)
 
 pub loads-of-spec : {M : Type 1} → statement M
-loads-of-spec =
-    tie.close
-    (tie.spec Inv-loop μ-loop (λ c. loading-none _ _ _) (λ c. omega arith) element-copy-out-load (λ c. omega arith) shared-slice-read-j
+loads-of-spec = tie.close (tie.spec Inv-loop μ-loop (λ c. loading-none _ _ _) (λ c. omega arith) element-copy-out-load (λ c. omega arith) shared-slice-read-j
     (λ c. omega (arith, range c)) (λ c. omega (arith, range c)) (λ c. omega (arith, range c)) (λ c. omega (arith, range c)) add-held
     (λ c. omega (arith, range c)) (λ c. omega (arith, range c)) (λ c. omega arith) (λ c. omega arith) loop-again returns)

@@ -54,7 +54,5 @@ returns-2 c =
     }
 
 pub decide-in-spec : {M : Type 1} → statement M
-decide-in-spec =
-    tie.close
-    (tie.spec (λ c κs. search needs) (λ c. search needs) (λ c. search needs) (λ c κs. search needs) returns search-under-requires
+decide-in-spec = tie.close (tie.spec (λ c κs. search needs) (λ c. search needs) (λ c. search needs) (λ c κs. search needs) returns search-under-requires
     (λ c κs. search needs) returns-2)

@@ -73,7 +73,5 @@ returns-3 : tie.Need-returns-3 Inv-loop μ-loop
 returns-3 c = none-due _ _ _ _ _ (c .before .loop .inv .0) (omega (arith, c .loop-test .left))
 
 pub search-columns-spec : {M : Type 1} → statement M
-search-columns-spec =
-    tie.close
-    (tie.spec Inv-loop μ-loop look-requires returns (λ c κs. c .before .before .pre .1) loop-holds look-requires-2 divide-requires returns-2
-    (λ c κs. called (c .before .before .before) .pre .1) (λ c. stands c .1) (λ c. (stands c .0, c .before .before .look2 .ensures .1)) returns-3)
+search-columns-spec = tie.close (tie.spec Inv-loop μ-loop look-requires returns (λ c κs. c .before .before .pre .1) loop-holds look-requires-2 divide-requires
+    returns-2 (λ c κs. called (c .before .before .before) .pre .1) (λ c. stands c .1) (λ c. (stands c .0, c .before .before .look2 .ensures .1)) returns-3)

@@ -38,6 +38,5 @@ returns-2 c =
     )
 
 pub search-under-spec : {M : Type 1} → statement M
-search-under-spec =
-    tie.close
-    (tie.spec (λ c κs. search needs) (λ c κs. search needs) (λ c κs. search needs) (λ c κs. search needs) returns search-columns-requires returns-2)
+search-under-spec = tie.close (tie.spec (λ c κs. search needs) (λ c κs. search needs) (λ c κs. search needs) (λ c κs. search needs) returns
+    search-columns-requires returns-2)

@@ -42,7 +42,5 @@ returns : tie.Need-returns Inv-loop μ-loop
 returns c = let e : c .before .loop .i ≡ c .before .before .args .n = omega arith in rw e at (c .before .loop .inv .1)
 
 pub charges-at-spec : {M : Type 1} → statement M
-charges-at-spec =
-    tie.close
-    (tie.spec Inv-loop μ-loop loop-holds spring-in-requires charge-at-requires (λ c. omega arith) (λ c. omega arith) (λ c. omega arith)
-    (λ c. omega arith) loop-again returns)
+charges-at-spec = tie.close (tie.spec Inv-loop μ-loop loop-holds spring-in-requires charge-at-requires (λ c. omega arith) (λ c. omega arith)
+    (λ c. omega arith) (λ c. omega arith) loop-again returns)

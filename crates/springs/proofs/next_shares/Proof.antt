@@ -32,11 +32,15 @@ let-down-requires c κs =
       omega (arith, loaded-elasticity _ _ _ _ loaded, w .elasticity-most),
     )
 
+-- the turn of the loop in which a share is let down
+abbrev turn : tie.After-let-down Inv-loop μ-loop → tie.At-loop Inv-loop μ-loop
+turn c = let tested = c .before .before .before .before in tested .before
+
 -- the share that is let down is that of the block as it came
-down : (c : tie.After-let-down Inv-loop μ-loop) → let at-loop = c .before .before .before .before .before in let block = at-loop .before .args .block .now in
+down : (c : tie.After-let-down Inv-loop μ-loop) → let at-loop = turn c in let block = at-loop .before .args .block .now in
     c .let-down .result ≡ letDown (springIn block (at-loop .loop .i)) (getD block (at-loop .loop .i) 0)
 down c =
-    let loaded = c .before .before .before .before .before .loop .inv .1 in
+    let loaded = turn c .loop .inv .1 in
     rw (loaded-here _ _ _ _ loaded, loaded-least _ _ _ _ loaded, loaded-elasticity _ _ _ _ loaded) at (c .let-down .ensures)
 
 down-most : (c : tie.After-let-down Inv-loop μ-loop) → c .let-down .result ≤ scale
@@ -47,15 +51,16 @@ down-most c =
     omega (arith, down c, at-start .pre .1 _ (tested .loop-test .taken), w .least-largest, w .largest-most)
 
 add-sum : tie.Need-add-sum Inv-loop μ-loop
-add-sum c = let at-loop = c .before .before .before .before .before in omega (arith, down-most c, at-loop .loop .inv .3, at-loop .before .pre .0 .few)
+add-sum c = let at-loop = turn c in omega (arith, down-most c, at-loop .loop .inv .3, at-loop .before .pre .0 .few)
 
 loop-again : tie.Need-loop-again Inv-loop μ-loop
 loop-again c =
-    let at-loop = c .before .before .before .before .before in
-    let at-start = at-loop .before in (
+    let at-loop = turn c in
+    let at-start = at-loop .before in
+    let block = at-start .args .block .now in (
       omega arith,
       loaded-more _ _ _ _ _ (omega (arith, at-start .pre .0 .few, at-start .pre .0 .long)) (down c) (at-loop .loop .inv .1),
-      omega (arith, sum-more (λ (j : ℕ). letDown (springIn (at-start .args .block .now) j) (getD (at-start .args .block .now) j 0)) (at-loop .loop .i), down c, at-loop .loop .inv .2),
+      omega (arith, sum-more (λ (j : ℕ). letDown (springIn block j) (getD block j 0)) (at-loop .loop .i), down c, at-loop .loop .inv .2),
       omega (arith, down-most c, at-loop .loop .inv .3),
     )
 
@@ -66,8 +71,6 @@ returns c =
     record { loaded = rw e at (at-loop .loop .inv .1); sum-is = c .widened .ensures ∙ (rw e at (at-loop .loop .inv .2)) }
 
 pub next-shares-spec : {M : Type 1} → statement M
-next-shares-spec =
-    tie.close
-    (tie.spec Inv-loop μ-loop loop-holds (λ c. omega arith) (λ c. omega arith) (λ c. omega arith) (λ c. omega arith) (λ c. omega arith)
-    (λ c. omega arith) (λ c. omega arith) (λ c. omega arith) let-down-requires (λ c. omega arith) (λ c. omega arith) add-sum (λ c. omega arith)
-    (λ c. omega arith) loop-again (λ _ _. tt) returns)
+next-shares-spec = tie.close (tie.spec Inv-loop μ-loop loop-holds (λ c. omega arith) (λ c. omega arith) (λ c. omega arith) (λ c. omega arith)
+    (λ c. omega arith) (λ c. omega arith) (λ c. omega arith) (λ c. omega arith) let-down-requires (λ c. omega arith) (λ c. omega arith) add-sum
+    (λ c. omega arith) (λ c. omega arith) loop-again (λ _ _. tt) returns)

@@ -7,10 +7,10 @@ use Rattle.springs.proofs.period_at.Tie as tie
 
 period-for-requires : tie.Need-period-for-requires
 period-for-requires c κs =
-    let at-start = c .before in
-    let args = at-start .args in
+    let args = c .before .args in
+    let pre = c .before .pre in
     rw (c .share-on .ensures .0)
-    (at-start .pre .notch, share-some (args .notch) (args .spring) (at-start .pre) (args .k), still-allowed (args .notch) (args .spring) (at-start .pre) (args .k))
+    (pre .notch, share-some (args .notch) (args .spring) pre (args .k), still-allowed (args .notch) (args .spring) pre (args .k))
 
 returns : tie.Need-returns
 returns c =

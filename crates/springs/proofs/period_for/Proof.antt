@@ -30,6 +30,4 @@ returns : tie.Need-returns
 returns c = given c
 
 pub period-for-spec : {M : Type 1} → statement M
-period-for-spec =
-    tie.close
-    (tie.spec (λ c κs. search needs) (λ c κs. search needs) (λ c κs. search needs) notched-up-requires cast-result returns)
+period-for-spec = tie.close (tie.spec (λ c κs. search needs) (λ c κs. search needs) (λ c κs. search needs) notched-up-requires cast-result returns)

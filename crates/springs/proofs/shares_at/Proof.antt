@@ -31,7 +31,8 @@ found c =
 
 shared : (c : tie.After-share-on Inv-loop μ-loop) → let at-loop = c .before .before .before .before in
     c .share-on .result ≡ shareOn (springIn (at-loop .before .args .block .now) (at-loop .loop .i)) (at-loop .before .args .k)
-shared c = c .share-on .ensures .0 ∙ ap (λ (s : Spring). shareOn s (c .before .before .before .before .before .args .k)) (found (c .before))
+shared c = let at-loop = c .before .before .before .before in
+    c .share-on .ensures .0 ∙ ap (λ (s : Spring). shareOn s (at-loop .before .args .k)) (found (c .before))
 
 share-on-requires : tie.Need-share-on-requires Inv-loop μ-loop
 share-on-requires c κs = rw (found c) (c .before .before .before .before .pre .within _ (c .before .before .loop-test .taken))
@@ -55,7 +56,5 @@ returns c =
     record { loaded = rw e at (at-loop .loop .inv .1); sum-is = c .widened .ensures ∙ (rw e at (at-loop .loop .inv .2 .is)) }
 
 pub shares-at-spec : {M : Type 1} → statement M
-shares-at-spec =
-    tie.close
-    (tie.spec Inv-loop μ-loop loop-holds spring-in-requires share-on-requires (λ c. omega arith) (λ c. omega arith) add-sum (λ c. omega arith)
-    (λ c. omega arith) loop-again (λ _ _. tt) returns)
+shares-at-spec = tie.close (tie.spec Inv-loop μ-loop loop-holds spring-in-requires share-on-requires (λ c. omega arith) (λ c. omega arith) add-sum
+    (λ c. omega arith) (λ c. omega arith) loop-again (λ _ _. tt) returns)

@@ -21,6 +21,5 @@ returns c =
     rw (found .before .before .largest .ensures .is, found .before .least .ensures .is, saturated found)
 
 pub spring-of-spec : {M : Type 1} → statement M
-spring-of-spec =
-    tie.close
-    (tie.spec (λ c κs. search needs) (λ c κs. search needs) (λ c κs. search needs) (λ c. search needs) (λ c. search needs) cast-t7 returns)
+spring-of-spec = tie.close (tie.spec (λ c κs. search needs) (λ c κs. search needs) (λ c κs. search needs) (λ c. search needs) (λ c. search needs) cast-t7
+    returns)

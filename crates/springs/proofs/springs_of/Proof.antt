@@ -50,7 +50,8 @@ spring-of-requires c κs = rw (c .priced .ensures) (good-priced (c .before))
 
 put-spring-requires : tie.Need-put-spring-requires Inv-loop μ-loop
 put-spring-requires c κs =
-    let at-loop = c .before .before .before .before .before .before .before in
+    let judged = c .before .before .before .before in
+    let at-loop = judged .before .before .before in
     (omega (arith, at-loop .before .pre .0), at-loop .loop .inv .2 .long)
 
 loop-again : tie.Need-loop-again Inv-loop μ-loop
@@ -67,7 +68,8 @@ loop-again c =
     let e = paid .priced .ensures ∙ sym (priced-at (args .swap) (table .rows) (table .n) i (omega arith)) in (
       omega arith,
       bad-more good (table .n) _ (at-loop .loop .inv .1) _ (judged .good2 .ensures) (left .if1 .left),
-      sprung-more _ _ _ _ _ (omega (arith, at-loop .before .pre .0)) (at-loop .loop .inv .2) (c .put-spring .ensures) (sprung .spring-of .ensures ∙ ap springOf e),
+      sprung-more _ _ _ _ _ (omega (arith, at-loop .before .pre .0)) (at-loop .loop .inv .2) (c .put-spring .ensures)
+          (sprung .spring-of .ensures ∙ ap springOf e),
     )
 
 returns-2 : tie.Need-returns-2 Inv-loop μ-loop
@@ -80,7 +82,5 @@ returns-2 c =
     record { first = bad-none good _ _ (c .before .loop .inv .1) e; sprung = rw e at (c .before .loop .inv .2) }
 
 pub springs-of-spec : {M : Type 1} → statement M
-springs-of-spec =
-    tie.close
-    (tie.spec Inv-loop μ-loop loop-holds (λ c. omega arith) (λ c. omega arith) good-requires returns priced-requires spring-of-requires
-    put-spring-requires (λ c. omega arith) (λ c. omega arith) loop-again returns-2)
+springs-of-spec = tie.close (tie.spec Inv-loop μ-loop loop-holds (λ c. omega arith) (λ c. omega arith) good-requires returns priced-requires
+    spring-of-requires put-spring-requires (λ c. omega arith) (λ c. omega arith) loop-again returns-2)

@@ -26,7 +26,5 @@ returns-2 c =
     rw (c .place .ensures, c .before .number .ensures) (ap handedMargin (sym (r .refusal .given .1)) ∙ handed-back (r .before .before))
 
 pub margin-told-spec : {M : Type 1} → statement M
-margin-told-spec =
-    tie.close
-    (tie.spec (λ c κs. search needs) (λ c κs. search needs) (λ c. search needs) (λ c. search needs) (λ c κs. search needs) (λ c. search needs)
-    (λ c κs. search needs) returns returns-2)
+margin-told-spec = tie.close (tie.spec (λ c κs. search needs) (λ c κs. search needs) (λ c. search needs) (λ c. search needs) (λ c κs. search needs)
+    (λ c. search needs) (λ c κs. search needs) returns returns-2)

@@ -11,6 +11,4 @@ returns c =
     record { answers = c .tell .ensures .0 ∙ e .answers; grants = e .grants; places = e .places; no-looks = c .tell .ensures .1 }
 
 pub plain-told-spec : {M : Type 1} → statement M
-plain-told-spec =
-    tie.close
-    (tie.spec (λ c κs. search needs) (λ c κs. search needs) (λ c κs. search needs) (λ c. search needs) (λ c. search needs) returns)
+plain-told-spec = tie.close (tie.spec (λ c κs. search needs) (λ c κs. search needs) (λ c κs. search needs) (λ c. search needs) (λ c. search needs) returns)
