@@ -1,5 +1,5 @@
 // Ask 6: tasks join and leave a table, beside which the index by saturation step is kept. The promises of `join` and `leave` are `joined`
-// and `left` of `specs/Keep`; what the functions hand each other is in `specs/Handover`.
+// and `left` of `specs/Keep`.
 use kinds::Index;
 use kinds::Refusal;
 use kinds::Table;
@@ -7,14 +7,12 @@ use kinds::Task;
 use kinds::Verdict;
 use springs::Columns;
 ghost use mathlib.Core.Path.{_≡_};
-ghost use Prim.Native.Nat.{_+_, _-_, _≤_, _<_};
+ghost use Prim.Native.Nat.{_+_, _≤_, _<_};
 ghost use Rattle.ground.specs.Folds.{listTo};
 ghost use Rattle.kinds.specs.Limits.{mostTasks};
 ghost use Rattle.kinds.specs.Task.{table, tableWith};
 ghost use Rattle.kinds.specs.Answer.{accepted, refused};
-ghost use Rattle.springs.specs.Handover.{Roomy};
-ghost use Rattle.keep.specs.Keep.{kept, leftFrom, leftRow, joinedRows, joined, left, handedChange};
-ghost use Rattle.keep.specs.Handover.{ClosedUp};
+ghost use Rattle.keep.specs.Keep.{kept, leftRow, joinedRows, joined, left, handedChange};
 
 // A table, and beside it the index of its tasks. It is laid out as C lays it out.
 #[repr(C)]
@@ -49,14 +47,6 @@ fn accept(table: Table, index: Index) -> Changed
     }
 }
 
-// Where record i comes from once the record at a place has left.
-fn left_from(place: usize, i: usize) -> usize
-    requires { ⌜ i < mostTasks ⌝ }
-    ensures { λ r. ⌜ r ≡ leftFrom place i ⌝ }
-{
-    if i < place { i } else { i + 1 }
-}
-
 // The first n records of a table without the one at a place, and zeros past them.
 fn without(old: Table, place: usize, n: usize) -> Table
     requires { ⌜ (n ≤ mostTasks) × (place < n → n < mostTasks) ⌝ }
@@ -64,7 +54,7 @@ fn without(old: Table, place: usize, n: usize) -> Table
 {
     let mut rows = [Task::NONE; Table::MOST_TASKS];
     for i in 0..n {
-        let from = left_from(place, i);
+        let from = order::left_from(place, i);
         let row = old.rows[from];
         rows[i] = row;
     }
@@ -81,18 +71,6 @@ fn with(old: Table, task: Task) -> Table
     after.rows[n] = task;
     after.n = n + 1;
     after
-}
-
-// Moves the springs that stand after a place of a block down by one.
-fn close_up(block: &mut [u32; Columns::ROOM], place: usize, n: usize)
-    requires { ⌜ (n ≤ mostTasks) × (place < n) × Roomy (now block) ⌝ }
-    ensures { λ _. ⌜ ClosedUp place (n - 1) (now (block .entry)) (now (block .exit)) ⌝ }
-{
-    let last = n - 1;
-    for i in place..last {
-        let next = springs::spring_in(block, i + 1);
-        springs::put_spring(block, i, next);
-    }
 }
 
 // Joins a task at the end of a table, where a swap costs so much and a notch is so wide.
@@ -113,7 +91,7 @@ pub fn join(kept: Kept, swap: u16, notch: u16, task: Task) -> Changed
     if bad <= n {
         return refuse(kept, Refusal::BadRecord(bad));
     }
-    let index = order::index_of(&block, n + 1);
+    let index = order::index_of(&block, n + 1, n + 1);
     accept(after, index)
 }
 
@@ -137,8 +115,7 @@ pub fn leave(kept: Kept, swap: u16, notch: u16, place: usize) -> Changed
     if n <= place {
         return refuse(kept, Refusal::NoSuchRecord(place));
     }
-    close_up(&mut block, place, n);
-    let index = order::index_of(&block, n - 1);
+    let index = order::index_of(&block, place, n - 1);
     let rest = without(old, place, n - 1);
     accept(rest, index)
 }

@@ -3,7 +3,7 @@ use Rattle.ground.proofs.Kit.{_+_, _≤_, _∙_, ap, arith, needs}
 use Rattle.kinds.specs.declared.Table.{Table}
 use Rattle.springs.specs.Handover.{SprungUntil}
 use Rattle.keep.specs.Keep.{joinedRows}
-use Rattle.keep.proofs.Blocks.{until-low, until-index}
+use Rattle.keep.proofs.Blocks.{joined-indexable, joined-index}
 use Rattle.keep.proofs.Changes.{fresh-is, join-zero, join-many, join-bad, join-made}
 use Rattle.keep.proofs.join.Statement.{statement}
 use Rattle.keep.proofs.join.Tie as tie
@@ -42,7 +42,7 @@ index-of-requires : tie.Need-index-of-requires
 index-of-requires c κs =
     let good = c .before in
     let gate = good .before .before .before .before in
-    (omega (arith, gate .if2 .left), until-low _ _ _ _ _ _ (found (good .before)) (omega (arith, good .if3 .left)))
+    joined-indexable _ _ _ _ _ _ (found (good .before)) (omega (arith, good .if3 .left)) (omega (arith, gate .if2 .left))
 
 returns-4 : tie.Need-returns-4
 returns-4 c =
@@ -51,10 +51,11 @@ returns-4 c =
     let judged = good .before in
     let joined = judged .before .before in
     let gate = joined .before in
+    let index = joined-index _ _ _ _ _ _ (found judged) (omega (arith, good .if3 .left)) (omega (arith, gate .if2 .left)) _ (indexed .index-of .ensures) in
     c .accept .ensures
-    ∙ fresh-is _ _ _ _ _ (joined .with .ensures) (indexed .index-of .ensures ∙ until-index _ _ _ _ _ _ (found judged) (omega (arith, good .if3 .left)))
+    ∙ fresh-is _ _ _ _ _ (joined .with .ensures) index
     ∙ join-made _ _ _ _ (gate .before .if1 .left) (gate .if2 .left) _ (found judged .first) (good .if3 .left)
 
 pub join-spec : {M : Type 1} → statement M
 join-spec = tie.close (tie.spec (λ c κs. search needs) returns (λ c κs. search needs) returns-2 (λ c κs. search needs) springs-of-requires
-    (λ c κs. search needs) returns-3 (λ c. search needs) index-of-requires (λ c κs. search needs) returns-4)
+    (λ c κs. search needs) returns-3 (λ c. search needs) (λ c. search needs) index-of-requires (λ c κs. search needs) returns-4)

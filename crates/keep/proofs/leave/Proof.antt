@@ -1,7 +1,7 @@
 -- `keep::leave` meets its contract. Assumes nothing.
-use Rattle.ground.proofs.Kit.{_∙_, arith, needs}
+use Rattle.ground.proofs.Kit.{_∙_, needs}
 use Rattle.keep.specs.Keep.{leftRows}
-use Rattle.keep.proofs.Blocks.{left-low, left-index}
+use Rattle.keep.proofs.Blocks.{left-indexable, left-index}
 use Rattle.keep.proofs.Changes.{fresh-is, leave-zero, leave-many, leave-bad, leave-missing, leave-made}
 use Rattle.keep.proofs.leave.Statement.{statement}
 use Rattle.keep.proofs.leave.Tie as tie
@@ -9,10 +9,6 @@ use Rattle.keep.proofs.leave.Tie as tie
 -- what stood before the walk over the records: the table is not too long, and there is a notch
 abbrev gate : tie.After-springs-of → tie.Else2
 gate c = c .before .before
-
--- what stood before the block was closed up: every record is good, and the one that leaves is there
-abbrev opened : tie.After-close-up → tie.Else4
-opened c = c .before .before
 
 returns : tie.Need-returns
 returns c = c .refuse .ensures ∙ leave-zero _ _ _ _ (c .before .if1 .taken)
@@ -38,27 +34,24 @@ returns-4 c =
 
 index-of-requires : tie.Need-index-of-requires
 index-of-requires c κs =
-    let closed = c .before in
-    let good = opened closed .before in
+    let good = c .before .before in
     let judged = good .before in
-    let few = gate judged .if2 .left in
-    (omega (arith, few), left-low _ _ _ _ _ _ _ _ (judged .springs-of .ensures) (good .if3 .left) few (closed .close-up .ensures))
+    left-indexable _ _ _ _ _ _ (judged .springs-of .ensures) (good .if3 .left) (gate judged .if2 .left) _
 
 returns-5 : tie.Need-returns-5
 unfolding leftRows
 returns-5 c =
     let rest = c .before in
     let indexed = rest .before in
-    let closed = indexed .before .before in
-    let good = opened closed .before in
+    let stays = indexed .before .before in
+    let good = stays .before in
     let judged = good .before in
     let few = gate judged .if2 .left in
-    let index = left-index _ _ _ _ _ _ _ _ (judged .springs-of .ensures) (good .if3 .left) few (closed .close-up .ensures) in
+    let index = left-index _ _ _ _ _ _ (judged .springs-of .ensures) (good .if3 .left) few _ _ (indexed .index-of .ensures) in
     c .accept .ensures
-    ∙ fresh-is _ _ _ _ _ (rest .without .ensures) (indexed .index-of .ensures ∙ index)
-    ∙ leave-made _ _ _ _ (gate judged .before .if1 .left) few _ (judged .springs-of .ensures .first) (good .if3 .left) (opened closed .if4 .left)
+    ∙ fresh-is _ _ _ _ _ (rest .without .ensures) index
+    ∙ leave-made _ _ _ _ (gate judged .before .if1 .left) few _ (judged .springs-of .ensures .first) (good .if3 .left) (stays .if4 .left)
 
 pub leave-spec : {M : Type 1} → statement M
 leave-spec = tie.close (tie.spec (λ c κs. search needs) returns (λ c κs. search needs) returns-2 (λ c κs. search needs) (λ c κs. search needs) returns-3
-    (λ c κs. search needs) returns-4 (λ c κs. search needs) (λ c. search needs) index-of-requires (λ c. search needs) (λ c κs. search needs)
-    (λ c κs. search needs) returns-5)
+    (λ c κs. search needs) returns-4 (λ c. search needs) index-of-requires (λ c. search needs) (λ c κs. search needs) (λ c κs. search needs) returns-5)

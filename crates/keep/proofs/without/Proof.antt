@@ -4,8 +4,9 @@ use Rattle.ground.proofs.Kit.{_-_, _<_, _≡_, refl, ap, arith}
 use Rattle.ground.specs.Folds.{listTo}
 use Rattle.kinds.specs.Limits.{mostTasks}
 use Rattle.kinds.specs.Task.{at}
+use Rattle.order.proofs.Gone.{from-within}
 use Rattle.keep.specs.Keep.{leftRow}
-use Rattle.keep.proofs.Rows.{from-within, Copied, copied-none, copied-more}
+use Rattle.keep.proofs.Rows.{Copied, copied-none, copied-more}
 use Rattle.keep.proofs.without.Statement.{statement}
 use Rattle.keep.proofs.without.Tie as tie
 
