@@ -19,18 +19,19 @@ use Rattle.admission.proofs.Chain.{Ready, admitted, not-admitted, all-p
 
 -- a call that passed the gate is admitted where the walk over its records found none bad, and the block then holds their springs
 pub admitted-sprung : (serves : Bool) (s : Settings) (rows : List Task) (n room bad : ℕ) (a : Verdict) (block : List ℕ)
-    → gateOf serves s n room ≡ Accepted → a ≡ judged bad n → SprungUntil (s .swap) (s .notch) rows n bad block
+    → {gate : Verdict} → gate ≡ gateOf serves s n room → gate ≡ Accepted → a ≡ judged bad n → SprungUntil (s .swap) (s .notch) rows n bad block
     → AdmittedSprung serves s rows n room a block
 unfolding admission
-admitted-sprung serves s rows n room bad a block g j u =
+admitted-sprung serves s rows n room bad a block is opens j u =
     record {
-      is = rw (g, ← u .first) j;
+      is = rw (sym is ∙ opens, ← u .first) j;
       sprung = λ e. by-le n bad (λ l. sprung-front _ bad n block l (u .sprung)) (λ l. not-admitted {r = BadRecord bad} a (rw (lt-ltb bad n l) at j) e);
     }
 
 -- what that walk relies on
-pub may-walk : (serves : Bool) (s : Settings) (n room : ℕ) → gateOf serves s n room ≡ Accepted → (n ≤ mostTasks) × (1 ≤ s .notch)
-may-walk serves s n room g = (all-passed serves s n room g .few, notch-passed serves s n room g)
+pub may-walk : (serves : Bool) (s : Settings) (n room : ℕ) {gate : Verdict} → gate ≡ gateOf serves s n room → gate ≡ Accepted
+    → (n ≤ mostTasks) × (1 ≤ s .notch)
+may-walk serves s n room is opens = (all-passed serves s n room (sym is ∙ opens) .few, notch-passed serves s n room (sym is ∙ opens))
 
 -- one that did not is refused there
 pub refused-gate : (serves : Bool) (s : Settings) (rows : List Task) (n room : ℕ) (r : Refusal) → gateOf serves s n room ≡ Refused r

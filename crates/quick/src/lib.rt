@@ -11,7 +11,7 @@ use policy::Weights;
 use springs::Columns;
 ghost use mathlib.Core.Path.{_≡_};
 ghost use Prim.Native.Nat.{_≤_, _<_};
-ghost use Rattle.kinds.specs.Limits.{mostTasks, mostProcessors};
+ghost use Rattle.kinds.specs.Limits.{mostTasks};
 ghost use Rattle.springs.specs.Spring.{saturations};
 ghost use Rattle.springs.specs.Columns.{springIn};
 ghost use Rattle.springs.specs.Handover.{SumIs, Springy, Beside};

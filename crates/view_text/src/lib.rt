@@ -10,6 +10,7 @@ use kinds::Sheet;
 use kinds::Table;
 use kinds::Task;
 use kinds::Verdict;
+use view_table::Shown;
 
 // Room for every view: 32 tasks, 16 processors and ten lines besides, of 80 columns.
 pub const LONGEST: usize = 4_800;
@@ -165,7 +166,12 @@ fn put_accepted(
     let fits = text::words(out, set, b"the tasks fit at step ");
     let stepped = text::number(out, fits, step as u64, 0);
     let ended = text::byte(out, stepped, b'\n');
-    let planned = view_table::put_plan(out, ended, table, settings, step, periods, processors);
+    let shown = Shown {
+        table,
+        settings,
+        step,
+    };
+    let planned = view_table::put_plan(out, ended, shown, periods, processors);
     put_room(out, planned, table, settings, step, processors)
 }
 

@@ -13,9 +13,6 @@ Inv-loop periods tick n held₀ next₀ i₀ held next i =
 abbrev μ-loop : tie.MeasureT-loop
 μ-loop periods tick n held₀ next₀ i₀ held next i = length periods - i
 
-loop-holds : tie.Need-loop-holds Inv-loop μ-loop
-loop-holds c = (omega arith, column-none _, column-none _)
-
 loop-again : tie.Need-loop-again Inv-loop μ-loop
 loop-again c =
     let at-loop = c .before .before in
@@ -39,5 +36,5 @@ returns c =
     rw (column-all _ _ _ all (so-far .1), column-all _ _ _ ticks (so-far .2))
 
 pub clock-from-spec : {M : Type 1} → statement M
-clock-from-spec = tie.close (tie.spec Inv-loop μ-loop loop-holds (λ c. omega arith) (λ c. omega arith) (λ c. omega arith) (λ c. omega arith)
-    (λ c. omega arith) (λ c. omega arith) (λ c. omega arith) (λ c. omega arith) loop-again returns)
+clock-from-spec = tie.close (tie.spec Inv-loop μ-loop (λ c. (omega arith, column-none _, column-none _)) (λ c. omega arith) (λ c. omega arith)
+    (λ c. omega arith) (λ c. omega arith) (λ c. omega arith) (λ c. omega arith) (λ c. omega arith) (λ c. omega arith) loop-again returns)

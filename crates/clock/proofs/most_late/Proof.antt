@@ -12,9 +12,6 @@ Inv-loop present clock n most₀ task₀ i₀ most task i = (i ≤ clock .n) × 
 abbrev μ-loop : tie.MeasureT-loop
 μ-loop present clock n most₀ task₀ i₀ most task i = clock .n - i
 
-loop-holds : tie.Need-loop-holds Inv-loop μ-loop
-loop-holds c = (omega arith, walked-none _)
-
 loop-again : tie.Need-loop-again Inv-loop μ-loop
 loop-again c =
     let at-loop = c .before .before .before .before in
@@ -39,5 +36,5 @@ returns c =
     record { greatest = walked .is; lowest = walked-all lates _ _ _ walked; low = walked .low }
 
 pub most-late-spec : {M : Type 1} → statement M
-most-late-spec = tie.close (tie.spec Inv-loop μ-loop loop-holds (λ c. omega arith) (λ c. omega arith) (λ _ _. tt) (λ c. omega arith) (λ c. omega arith)
-    loop-again returns)
+most-late-spec = tie.close (tie.spec Inv-loop μ-loop (λ c. (omega arith, walked-none _)) (λ c. omega arith) (λ c. omega arith) (λ _ _. tt) (λ c. omega arith)
+    (λ c. omega arith) loop-again returns)

@@ -15,9 +15,6 @@ Inv-loop block n p nearest₀ i₀ nearest i = (i ≤ n) × (nearest ≡ nextTo 
 abbrev μ-loop : tie.MeasureT-loop
 μ-loop block n p nearest₀ i₀ nearest i = n - i
 
-loop-holds : tie.Need-loop-holds Inv-loop μ-loop
-loop-holds c = (omega arith, sym (next-start _ _))
-
 loop-again : tie.Need-loop-again Inv-loop μ-loop
 loop-again c =
     let below = c .before .before in
@@ -33,5 +30,5 @@ returns : tie.Need-returns Inv-loop μ-loop
 returns c = let e : c .before .loop .i ≡ c .before .before .args .n = omega arith in rw e at (c .before .loop .inv .1)
 
 pub next-due-spec : {M : Type 1} → statement M
-next-due-spec = tie.close (tie.spec Inv-loop μ-loop loop-holds (λ c. omega arith) (λ c. omega arith) (λ c. omega arith) (λ _ _. tt) (λ c. omega arith)
-    (λ c. omega arith) loop-again returns)
+next-due-spec = tie.close (tie.spec Inv-loop μ-loop (λ c. (omega arith, sym (next-start _ _))) (λ c. omega arith) (λ c. omega arith) (λ c. omega arith)
+    (λ _ _. tt) (λ c. omega arith) (λ c. omega arith) loop-again returns)

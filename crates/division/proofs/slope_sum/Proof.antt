@@ -15,9 +15,6 @@ Inv-loop block n p fall₀ i₀ fall i = (i ≤ n) × FallIs (springIn block) i 
 abbrev μ-loop : tie.MeasureT-loop
 μ-loop block n p fall₀ i₀ fall i = n - i
 
-loop-holds : tie.Need-loop-holds Inv-loop μ-loop
-loop-holds c = (omega arith, fall-none _ _)
-
 spring-in-requires : tie.Need-spring-in-requires Inv-loop μ-loop
 spring-in-requires c κs = omega (arith, c .before .before .pre .few)
 
@@ -45,5 +42,5 @@ returns : tie.Need-returns Inv-loop μ-loop
 returns c = let e : c .before .loop .i ≡ c .before .before .args .n = omega arith in rw e at (c .before .loop .inv .1)
 
 pub slope-sum-spec : {M : Type 1} → statement M
-slope-sum-spec = tie.close (tie.spec Inv-loop μ-loop loop-holds spring-in-requires slope-of-requires (λ _ _. tt) add-fall (λ c. omega arith)
-    (λ c. omega arith) loop-again returns)
+slope-sum-spec = tie.close (tie.spec Inv-loop μ-loop (λ c. (omega arith, fall-none _ _)) spring-in-requires slope-of-requires (λ _ _. tt) add-fall
+    (λ c. omega arith) (λ c. omega arith) loop-again returns)

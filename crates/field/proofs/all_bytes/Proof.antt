@@ -12,9 +12,6 @@ Inv-loop s end i₀ i = (i ≤ length s) × ((k : ℕ) → k < i → getD s k 0 
 abbrev μ-loop : tie.MeasureT-loop
 μ-loop s end i₀ i = length s - i
 
-loop-holds : tie.Need-loop-holds Inv-loop μ-loop
-loop-holds c = (omega arith, below-none _)
-
 loop-again : tie.Need-loop-again Inv-loop μ-loop
 loop-again c =
     let at-loop = c .before .before .before in
@@ -26,5 +23,5 @@ returns : tie.Need-returns Inv-loop μ-loop
 returns c = let at-loop = c .before in all-bytes (at-loop .before .before .args .s .now) (λ i l. at-loop .loop .inv .1 i (omega arith))
 
 pub all-bytes-spec : {M : Type 1} → statement M
-all-bytes-spec = tie.close (tie.spec Inv-loop μ-loop loop-holds (λ c. omega arith) (λ c κs. search needs) (λ c. omega arith) (λ c. omega arith) loop-again
-    returns)
+all-bytes-spec = tie.close (tie.spec Inv-loop μ-loop (λ c. (omega arith, below-none _)) (λ c. omega arith) (λ c κs. search needs) (λ c. omega arith)
+    (λ c. omega arith) loop-again returns)

@@ -12,9 +12,6 @@ Inv-loop n results periods processors i₀ i = (i ≤ n) × ((j : ℕ) → j < i
 abbrev μ-loop : tie.MeasureT-loop
 μ-loop n results periods processors i₀ i = n - i
 
-loop-holds : tie.Need-loop-holds Inv-loop μ-loop
-loop-holds c = (omega arith, λ j l. absurd (omega arith))
-
 returns : tie.Need-returns Inv-loop μ-loop
 returns c =
     let turn = c .before .before .before in
@@ -37,5 +34,5 @@ returns-2 c =
     sym all ∙ first-none (unlike (args .t1 .rows) (args .t2) (args .t3)) _ _ (at-loop .loop .inv .1) all
 
 pub first-unlike-spec : {M : Type 1} → statement M
-first-unlike-spec = tie.close (tie.spec Inv-loop μ-loop loop-holds (λ c. search needs) (λ c. search needs) (λ c. search needs) (λ c. search needs)
+first-unlike-spec = tie.close (tie.spec Inv-loop μ-loop (λ c. (omega arith, λ j l. absurd (omega arith))) (λ c. search needs) (λ c. search needs) (λ c. search needs) (λ c. search needs)
     (λ c. search needs) (λ c. search needs) (λ c κs. search needs) returns (λ c. search needs) (λ c. search needs) loop-again returns-2)

@@ -21,9 +21,6 @@ abbrev μ-tasks : tie.MeasureT-tasks
 tasks-holds : tie.Need-tasks-holds Inv-loop μ-loop Inv-tasks μ-tasks
 tasks-holds c = placed-none _ _ _
 
-loop-holds : tie.Need-loop-holds Inv-loop μ-loop Inv-tasks μ-tasks
-loop-holds c = passed-none _ _ _
-
 sub-if1 : tie.Need-sub-if1 Inv-loop μ-loop Inv-tasks μ-tasks
 sub-if1 c =
     let tested = c .before .before .before in
@@ -56,7 +53,7 @@ returns c =
     (c .tasks-test .came)
 
 pub first-fit-spec : {M : Type 1} → statement M
-first-fit-spec = tie.close (tie.spec Inv-loop μ-loop Inv-tasks μ-tasks (λ c. omega arith) tasks-holds (λ c. omega arith) (λ c. omega arith) loop-holds
-    (λ c. omega arith) (λ c. omega arith) sub-if1 (λ c. omega arith) (λ c. omega arith) loop-again (λ c. omega arith) (λ c. omega arith) add-held
-    (λ c. omega arith) (λ c. omega arith) (λ c. omega arith) (λ c. omega arith) (λ c. omega arith) (λ c. omega arith) (λ c. omega arith) (λ c. omega arith)
-    tasks-again returns)
+first-fit-spec = tie.close (tie.spec Inv-loop μ-loop Inv-tasks μ-tasks (λ c. omega arith) tasks-holds (λ c. omega arith) (λ c. omega arith)
+    (λ c. passed-none _ _ _) (λ c. omega arith) (λ c. omega arith) sub-if1 (λ c. omega arith) (λ c. omega arith) loop-again (λ c. omega arith)
+    (λ c. omega arith) add-held (λ c. omega arith) (λ c. omega arith) (λ c. omega arith) (λ c. omega arith) (λ c. omega arith) (λ c. omega arith)
+    (λ c. omega arith) (λ c. omega arith) tasks-again returns)

@@ -28,9 +28,6 @@ low c = omega (arith, c .full-compression .ensures, full-low _ _ _ (c .before .b
 add-none : tie.Need-add-none Inv-loop μ-loop
 add-none c = omega (arith, low c)
 
-loop-holds : tie.Need-loop-holds Inv-loop μ-loop
-loop-holds c = (counted-all (test (c .before .before)) _, beside-same _)
-
 look-requires : tie.Need-look-requires Inv-loop μ-loop
 look-requires c κs =
     let at-loop = c .before .before .before in
@@ -82,5 +79,5 @@ returns-2 c =
     (rw (← compressed .full-compression .ensures) (ends (c .if2 .left)), at-loop .loop .inv .1)
 
 pub least-step-spec : {M : Type 1} → statement M
-least-step-spec = tie.close (tie.spec Inv-loop μ-loop (λ c κs. c .before .pre .1 .few) add-none loop-holds look-requires loop-less loop-again returns
-    returns-2)
+least-step-spec = tie.close (tie.spec Inv-loop μ-loop (λ c κs. c .before .pre .1 .few) add-none
+    (λ c. (counted-all (test (c .before .before)) _, beside-same _)) look-requires loop-less loop-again returns returns-2)

@@ -13,9 +13,6 @@ Inv-loop out₀ at bytes end i₀ out i =
 abbrev μ-loop : tie.MeasureT-loop
 μ-loop out₀ at bytes end i₀ out i = length bytes - i
 
-loop-holds : tie.Need-loop-holds Inv-loop μ-loop
-loop-holds c = (search needs, (refl, copied-none _ (c .args .bytes .now) _))
-
 loop-again : tie.Need-loop-again Inv-loop μ-loop
 loop-again c =
     let at-loop = c .before .before .loop in
@@ -25,5 +22,5 @@ returns : tie.Need-returns Inv-loop μ-loop
 returns c = copied-all _ _ _ _ _ (c .before .loop .inv .1 .1) (omega arith)
 
 pub put-bytes-spec : {M : Type 1} → statement M
-put-bytes-spec = tie.close (tie.spec Inv-loop μ-loop loop-holds (λ c. search needs) (λ c. search needs) (λ c. search needs) (λ c. search needs)
-    (λ c. search needs) loop-again (λ c. search needs) (λ c. search needs) returns)
+put-bytes-spec = tie.close (tie.spec Inv-loop μ-loop (λ c. (search needs, (refl, copied-none _ (c .args .bytes .now) _))) (λ c. search needs)
+    (λ c. search needs) (λ c. search needs) (λ c. search needs) (λ c. search needs) loop-again (λ c. search needs) (λ c. search needs) returns)

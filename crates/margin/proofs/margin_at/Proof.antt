@@ -1,13 +1,11 @@
 -- `margin::margin_at` meets its contract. Assumes nothing.
 use Rattle.ground.proofs.Kit.{ℕ, _<_, false, _≡_, refl, sym, _∙_, ap, needs}
-use Rattle.kinds.specs.declared.Verdict.the-variants.{Accepted}
 use Rattle.kinds.specs.Answer.{accepted}
 use Rattle.springs.proofs.Blocks.{loads-are, loads-most}
 use Rattle.fit.specs.Fit.{loadIn}
 use Rattle.policy.specs.Under.{loadsUnder}
 use Rattle.policy.proofs.Tests.{margin-same}
 use Rattle.policy.proofs.Weighing.{loaded-loads}
-use Rattle.admission.specs.Admission.{gateOf}
 use Rattle.admission.specs.Handover.{AdmittedSprung}
 use Rattle.admission.proofs.Chain.{passed-weighed}
 use Rattle.admission.proofs.Opened.{Opened, opened, may-walk, admitted-sprung, refused-gate}
@@ -23,17 +21,15 @@ returns c =
     let args = asked .before .args in
     rw (← refused-gate false (args .settings) (args .table .rows) (args .table .n) (args .table .n) _ (sym (asked .gate-of .ensures) ∙ refused))
 
--- refusals 1 to 5 are not given
-opens : (c : tie.After-enum-told) → let args = c .before .before .before .args in gateOf false (args .settings) (args .table .n) (args .table .n) ≡ Accepted
-opens c = sym (c .before .before .gate-of .ensures) ∙ c .enum-told .given .1
-
 springs-of-requires : tie.Need-springs-of-requires
 springs-of-requires c κs =
-    let args = c .before .before .before .before .args in
-    let walk = may-walk false (args .settings) (args .table .n) (args .table .n) (opens (c .before)) in
+    let told = c .before in
+    let asked = told .before .before in
+    let args = asked .before .args in
+    let walk = may-walk false (args .settings) (args .table .n) (args .table .n) (asked .gate-of .ensures) (told .enum-told .given .1) in
     (walk .0, walk .1, refl)
 
--- and the walk over the records says whether 6 is
+-- refusals 1 to 5 are not given, and the walk over the records says whether 6 is
 abbrev start : tie.After-judge → tie.Start
 start c = let told = c .before .before .before in told .before .before .before
 
@@ -41,7 +37,9 @@ admitted : (c : tie.After-judge) → let args = start c .args in
     AdmittedSprung false (args .settings) (args .table .rows) (args .table .n) (args .table .n) (c .judge .result) (c .before .springs-of .last .1 .1 .1 .0)
 admitted c =
     let walked = c .before in
-    admitted-sprung false (start c .args .settings) _ _ _ _ _ _ (opens (walked .before .before)) (c .judge .ensures) (walked .springs-of .ensures)
+    let told = walked .before .before in
+    admitted-sprung false (start c .args .settings) _ _ _ _ _ _ (told .before .before .gate-of .ensures) (told .enum-told .given .1) (c .judge .ensures)
+    (walked .springs-of .ensures)
 
 -- an admitted call has passed every check, and its springs are in the block
 begun : (c : tie.After-enum-told2) → let judged = c .before .before in let args = start judged .args in

@@ -13,9 +13,6 @@ Inv-loop text room rows₀ at₀ n₀ rows at n = Going text rows at n
 abbrev μ-loop : tie.MeasureT-loop
 μ-loop text room rows₀ at₀ n₀ rows at n = mostTasks - n
 
-loop-holds : tie.Need-loop-holds Inv-loop μ-loop
-loop-holds c = going-none _
-
 returns : tie.Need-returns Inv-loop μ-loop
 returns c =
     let turn = c .before .before in
@@ -47,6 +44,6 @@ returns-4 c =
     rw (c .new .ensures) (reads-done _ _ _ _ _ (all .before .before .loop .inv) (all .before .loop-test .left) (all .if2 .left))
 
 pub import-spec : {M : Type 1} → statement M
-import-spec = tie.close (tie.spec Inv-loop μ-loop loop-holds (λ _ _. tt) returns (λ c κs. search needs) (λ c. search needs) (λ c. search needs) (λ _ _. tt)
-    returns-2 (λ c. search needs) (λ c. search needs) (λ c. search needs) (λ c. search needs) loop-again (λ _ _. tt) returns-3 (λ c κs. search needs)
-    returns-4)
+import-spec = tie.close (tie.spec Inv-loop μ-loop (λ c. going-none _) (λ _ _. tt) returns (λ c κs. search needs) (λ c. search needs) (λ c. search needs)
+    (λ _ _. tt) returns-2 (λ c. search needs) (λ c. search needs) (λ c. search needs) (λ c. search needs) loop-again (λ _ _. tt) returns-3
+    (λ c κs. search needs) returns-4)

@@ -14,9 +14,6 @@ Inv-loop out₀ n rows at₀ i₀ out at i = (i ≤ n) × ((length out ≡ lengt
 abbrev μ-loop : tie.MeasureT-loop
 μ-loop out₀ n rows at₀ i₀ out at i = n - i
 
-loop-holds : tie.Need-loop-holds Inv-loop μ-loop
-loop-holds c = (search needs, (refl, puts-none _ _))
-
 put-line-requires : tie.Need-put-line-requires Inv-loop μ-loop
 put-line-requires c κs =
     let at-loop = c .before .before .before in
@@ -38,5 +35,5 @@ returns c =
     rw (← all) (at-loop .loop .inv .1 .1)
 
 pub put-text-spec : {M : Type 1} → statement M
-put-text-spec = tie.close (tie.spec Inv-loop μ-loop loop-holds (λ c. search needs) (λ c. search needs) put-line-requires (λ c. search needs)
-    (λ c. search needs) loop-again (λ c. search needs) returns)
+put-text-spec = tie.close (tie.spec Inv-loop μ-loop (λ c. (search needs, (refl, puts-none _ _))) (λ c. search needs) (λ c. search needs) put-line-requires
+    (λ c. search needs) (λ c. search needs) loop-again (λ c. search needs) returns)

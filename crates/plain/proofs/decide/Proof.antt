@@ -1,7 +1,5 @@
 -- `plain::decide` meets its contract. Assumes nothing.
-use Rattle.ground.proofs.Kit.{true, _≡_, refl, sym, _∙_, needs}
-use Rattle.kinds.specs.declared.Verdict.the-variants.{Accepted}
-use Rattle.admission.specs.Admission.{gateOf}
+use Rattle.ground.proofs.Kit.{true, refl, sym, _∙_, needs}
 use Rattle.admission.specs.Handover.{AdmittedSprung}
 use Rattle.admission.proofs.Opened.{may-walk, admitted-sprung}
 use Rattle.plan.proofs.Found.{gate-found}
@@ -14,17 +12,15 @@ returns c =
     let refused = c .before .enum-told2 .given .1 in
     gate-found true _ _ _ _ (c .decide .result) _ (sym (c .before .before .before .gate-of .ensures) ∙ refused) (rw refused at (c .decide .ensures))
 
--- refusals 1 to 5 are not given
-opens : (c : tie.After-enum-told) → let args = c .before .before .before .args in gateOf true (args .settings) (args .table .n) (args .room) ≡ Accepted
-opens c = sym (c .before .before .gate-of .ensures) ∙ c .enum-told .given .1
-
 springs-of-requires : tie.Need-springs-of-requires
 springs-of-requires c κs =
-    let args = c .before .before .before .before .args in
-    let walk = may-walk true (args .settings) (args .table .n) (args .room) (opens (c .before)) in
+    let told = c .before in
+    let asked = told .before .before in
+    let args = asked .before .args in
+    let walk = may-walk true (args .settings) (args .table .n) (args .room) (asked .gate-of .ensures) (told .enum-told .given .1) in
     (walk .0, walk .1, refl)
 
--- and the walk over the records says whether 6 is
+-- refusals 1 to 5 are not given, and the walk over the records says whether 6 is
 abbrev start : tie.After-judge → tie.Start
 start c = let told = c .before .before .before in told .before .before .before
 
@@ -32,8 +28,9 @@ admitted : (c : tie.After-judge) → let args = start c .args in
     AdmittedSprung true (args .settings) (args .table .rows) (args .table .n) (args .room) (c .judge .result) (c .before .springs-of .last .1 .1 .1 .0)
 admitted c =
     let walked = c .before in
-    let args = start c .args in
-    admitted-sprung true (args .settings) _ _ _ _ _ _ (opens (walked .before .before)) (c .judge .ensures) (walked .springs-of .ensures)
+    let told = walked .before .before in
+    admitted-sprung true (start c .args .settings) _ _ _ _ _ _ (told .before .before .gate-of .ensures) (told .enum-told .given .1) (c .judge .ensures)
+    (walked .springs-of .ensures)
 
 returns-2 : tie.Need-returns-2
 returns-2 c =

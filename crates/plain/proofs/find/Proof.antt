@@ -1,7 +1,5 @@
 -- `plain::find` meets its contract. Assumes nothing.
-use Rattle.ground.proofs.Kit.{min, true, _≡_, refl, sym, _∙_, ap, length, needs}
-use Rattle.kinds.specs.declared.Verdict.the-variants.{Accepted}
-use Rattle.admission.specs.Admission.{gateOf}
+use Rattle.ground.proofs.Kit.{min, true, refl, sym, _∙_, ap, length, needs}
 use Rattle.admission.specs.Handover.{AdmittedSprung}
 use Rattle.admission.proofs.Opened.{may-walk, admitted-sprung}
 use Rattle.plan.specs.Plan.{found}
@@ -28,19 +26,15 @@ returns c =
     (is ∙ ap (found true (args .settings) (args .table .rows) (args .table .n)) (asked .before .shorter .ensures))
     (gate-refused true (args .settings) (args .table .rows) (args .table .n) (asked .before .shorter .result) (c .decide .result) _ gate e)
 
--- refusals 1 to 5 are not given
-opens : (c : tie.After-enum-told) → let roomed = c .before .before .before in let args = start roomed .args in
-    gateOf true (args .settings) (args .table .n) (roomed .shorter .result) ≡ Accepted
-opens c = sym (c .before .before .gate-of .ensures) ∙ c .enum-told .given .1
-
 springs-of-requires : tie.Need-springs-of-requires
 springs-of-requires c κs =
-    let roomed = c .before .before .before .before in
-    let args = start roomed .args in
-    let walk = may-walk true (args .settings) (args .table .n) (roomed .shorter .result) (opens (c .before)) in
+    let told = c .before in
+    let asked = told .before .before in
+    let args = start (asked .before) .args in
+    let walk = may-walk true (args .settings) (args .table .n) (asked .before .shorter .result) (asked .gate-of .ensures) (told .enum-told .given .1) in
     (walk .0, walk .1, refl)
 
--- and the walk over the records says whether 6 is
+-- refusals 1 to 5 are not given, and the walk over the records says whether 6 is
 abbrev roomed : tie.After-judge → tie.After-shorter
 roomed c = let told = c .before .before .before in told .before .before .before
 
@@ -49,8 +43,9 @@ admitted : (c : tie.After-judge) → let args = start (roomed c) .args in
     (c .before .springs-of .last .1 .1 .1 .0)
 admitted c =
     let walked = c .before in
-    let args = start (roomed c) .args in
-    admitted-sprung true (args .settings) _ _ _ _ _ _ (opens (walked .before .before)) (c .judge .ensures) (walked .springs-of .ensures)
+    let told = walked .before .before in
+    admitted-sprung true (start (roomed c) .args .settings) _ _ _ _ _ _ (told .before .before .gate-of .ensures) (told .enum-told .given .1)
+    (c .judge .ensures) (walked .springs-of .ensures)
 
 -- the answer is what demand 2 finds in that room, and the block has the springs that its periods come from
 abbrev judged : tie.After-decide2 → tie.After-judge

@@ -25,9 +25,6 @@ test c = passesAt (c .args .policy) (c .args .m) (chargesOn (c .args .notch) (sp
 abbrev start : tie.At-loop Inv-loop μ-loop → tie.Start Inv-loop μ-loop
 start at-loop = at-loop .before .before .before
 
-loop-holds : tie.Need-loop-holds Inv-loop μ-loop
-loop-holds c = (omega arith, beside-same _, λ j l. absurd (omega arith))
-
 passes-charged-requires : tie.Need-passes-charged-requires Inv-loop μ-loop
 passes-charged-requires c κs =
     let at-loop = c .before in
@@ -70,5 +67,5 @@ loop-again : tie.Need-loop-again Inv-loop μ-loop
 loop-again c = let left = c .before in (omega arith, moved (left .before), failed left)
 
 pub least-charged-spec : {M : Type 1} → statement M
-least-charged-spec = tie.close (tie.spec Inv-loop μ-loop (λ c κs. c .before .pre .0 .few) loop-holds passes-charged-requires returns returns-2
-    (λ c. omega arith) (λ c. omega arith) loop-again)
+least-charged-spec = tie.close (tie.spec Inv-loop μ-loop (λ c κs. c .before .pre .0 .few) (λ c. (omega arith, beside-same _, λ j l. absurd (omega arith)))
+    passes-charged-requires returns returns-2 (λ c. omega arith) (λ c. omega arith) loop-again)

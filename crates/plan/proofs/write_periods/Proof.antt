@@ -14,9 +14,6 @@ Inv-loop notch block n k out₀ i₀ out i = (i ≤ n) × Front (periodsOn notch
 abbrev μ-loop : tie.MeasureT-loop
 μ-loop notch block n k out₀ i₀ out i = n - i
 
-loop-holds : tie.Need-loop-holds Inv-loop μ-loop
-loop-holds c = (omega arith, front-none _ _)
-
 spring-in-requires : tie.Need-spring-in-requires Inv-loop μ-loop
 spring-in-requires c κs = omega (arith, c .before .before .before .pre .0 .few)
 
@@ -33,12 +30,9 @@ loop-again c =
     let e = c .period-at .ensures ∙ ap (λ (s : Spring). periodFor (args .notch) s (shareOn s (args .k))) (found .spring-in .ensures) in
     (omega arith, front-more _ _ _ _ _ (omega arith) e (at-loop .loop .inv .1))
 
-same-length : tie.Need-same-length Inv-loop μ-loop
-same-length c = c .before .loop .inv .1 .long
-
 returns : tie.Need-returns Inv-loop μ-loop
 returns c = let e : c .before .loop .i ≡ c .before .before .before .args .n = omega arith in rw e at (c .before .loop .inv .1 .is)
 
 pub write-periods-spec : {M : Type 1} → statement M
-write-periods-spec = tie.close (tie.spec Inv-loop μ-loop loop-holds spring-in-requires period-at-requires (λ c. omega arith) (λ c. omega arith)
-    (λ c. omega arith) (λ c. omega arith) loop-again same-length returns)
+write-periods-spec = tie.close (tie.spec Inv-loop μ-loop (λ c. (omega arith, front-none _ _)) spring-in-requires period-at-requires (λ c. omega arith)
+    (λ c. omega arith) (λ c. omega arith) (λ c. omega arith) loop-again (λ c. c .before .loop .inv .1 .long) returns)

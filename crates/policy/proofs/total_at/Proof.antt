@@ -14,9 +14,6 @@ Inv-loop block n k sum₀ max₀ i₀ sum max i = (i ≤ n) × TotalIs (sharesOn
 abbrev μ-loop : tie.MeasureT-loop
 μ-loop block n k sum₀ max₀ i₀ sum max i = n - i
 
-loop-holds : tie.Need-loop-holds Inv-loop μ-loop
-loop-holds c = (omega arith, total-none _)
-
 spring-in-requires : tie.Need-spring-in-requires Inv-loop μ-loop
 spring-in-requires c κs = omega (arith, c .before .before .pre .few)
 
@@ -41,5 +38,5 @@ returns c =
     rw (c .before .widened .ensures, c .widened2 .ensures) (rw e at (at-loop .loop .inv .1))
 
 pub total-at-spec : {M : Type 1} → statement M
-total-at-spec = tie.close (tie.spec Inv-loop μ-loop loop-holds spring-in-requires share-on-requires add-sum (λ _ _. tt) (λ c. omega arith) (λ c. omega arith)
-    loop-again (λ _ _. tt) (λ _ _. tt) returns)
+total-at-spec = tie.close (tie.spec Inv-loop μ-loop (λ c. (omega arith, total-none _)) spring-in-requires share-on-requires add-sum (λ _ _. tt)
+    (λ c. omega arith) (λ c. omega arith) loop-again (λ _ _. tt) (λ _ _. tt) returns)

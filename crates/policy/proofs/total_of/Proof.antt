@@ -12,9 +12,6 @@ Inv-loop block n sum₀ max₀ i₀ sum max i = (i ≤ n) × TotalIs (loadIn blo
 abbrev μ-loop : tie.MeasureT-loop
 μ-loop block n sum₀ max₀ i₀ sum max i = n - i
 
-loop-holds : tie.Need-loop-holds Inv-loop μ-loop
-loop-holds c = (omega arith, total-none _)
-
 add-sum : tie.Need-add-sum Inv-loop μ-loop
 add-sum c =
     let tested = c .before in
@@ -34,5 +31,5 @@ returns c =
     rw (c .before .widened .ensures, c .widened2 .ensures) (rw e at (at-loop .loop .inv .1))
 
 pub total-of-spec : {M : Type 1} → statement M
-total-of-spec = tie.close (tie.spec Inv-loop μ-loop loop-holds (λ c. omega arith) (λ c. omega arith) add-sum (λ _ _. tt) (λ c. omega arith) (λ c. omega arith)
-    loop-again (λ _ _. tt) (λ _ _. tt) returns)
+total-of-spec = tie.close (tie.spec Inv-loop μ-loop (λ c. (omega arith, total-none _)) (λ c. omega arith) (λ c. omega arith) add-sum (λ _ _. tt)
+    (λ c. omega arith) (λ c. omega arith) loop-again (λ _ _. tt) (λ _ _. tt) returns)

@@ -12,9 +12,6 @@ Inv-loop m held most j₀ j = (j ≤ m) × (most ≡ scale) × ((x : ℕ) → x 
 abbrev μ-loop : tie.MeasureT-loop
 μ-loop m held most j₀ j = m - j
 
-loop-holds : tie.Need-loop-holds Inv-loop μ-loop
-loop-holds c = (omega arith, refl, λ x l. absurd (omega arith))
-
 returns : tie.Need-returns Inv-loop μ-loop
 returns c =
     let tested = c .before in
@@ -41,5 +38,5 @@ returns-2 c =
     sym e ∙ first-none (λ (x : ℕ). isOverfull (getD (args .t1) x 0)) _ _ (at-loop .loop .inv .2) e
 
 pub before-overfull-spec : {M : Type 1} → statement M
-before-overfull-spec = tie.close (tie.spec Inv-loop μ-loop (λ c. omega arith) loop-holds (λ c. omega arith) (λ c. omega arith) returns (λ c. omega arith)
-    (λ c. omega arith) loop-again returns-2)
+before-overfull-spec = tie.close (tie.spec Inv-loop μ-loop (λ c. omega arith) (λ c. (omega arith, refl, λ x l. absurd (omega arith))) (λ c. omega arith)
+    (λ c. omega arith) returns (λ c. omega arith) (λ c. omega arith) loop-again returns-2)

@@ -12,9 +12,6 @@ Inv-loop proposal n m i₀ i = (i ≤ n) × ((j : ℕ) → j < i → isOutOfRang
 abbrev μ-loop : tie.MeasureT-loop
 μ-loop proposal n m i₀ i = n - i
 
-loop-holds : tie.Need-loop-holds Inv-loop μ-loop
-loop-holds c = (omega arith, λ j l. absurd (omega arith))
-
 returns : tie.Need-returns Inv-loop μ-loop
 unfolding firstOutOfRange
 returns c =
@@ -42,5 +39,5 @@ returns-2 c =
     sym e ∙ first-none (λ x. isOutOfRange (args .m) (placeIn (args .proposal .now) x)) (args .n) _ (at-loop .loop .inv .1) e
 
 pub first-out-of-range-spec : {M : Type 1} → statement M
-first-out-of-range-spec = tie.close (tie.spec Inv-loop μ-loop loop-holds (λ c. omega arith) (λ c. omega arith) (λ _ _. tt) returns (λ c. omega arith)
-    (λ c. omega arith) loop-again returns-2)
+first-out-of-range-spec = tie.close (tie.spec Inv-loop μ-loop (λ c. (omega arith, λ j l. absurd (omega arith))) (λ c. omega arith) (λ c. omega arith)
+    (λ _ _. tt) returns (λ c. omega arith) (λ c. omega arith) loop-again returns-2)

@@ -15,9 +15,6 @@ Inv-loop s from n rows₀ at₀ i₀ rows at i =
 abbrev μ-loop : tie.MeasureT-loop
 μ-loop s from n rows₀ at₀ i₀ rows at i = n - i
 
-loop-holds : tie.Need-loop-holds Inv-loop μ-loop
-loop-holds c = (search needs, (omega arith, (search needs, sym (over-none _ _))))
-
 returns : tie.Need-returns Inv-loop μ-loop
 returns c =
     let short = granted-missed _ _ _ (c .before .before .read-granted .ensures) (c .enum-told .given .1) in
@@ -39,5 +36,5 @@ returns-2 c =
     cc (results-there (args .s .now) (args .from) (args .n) (omega arith))
 
 pub read-results-spec : {M : Type 1} → statement M
-read-results-spec = tie.close (tie.spec Inv-loop μ-loop loop-holds (λ c κs. search needs) (λ c. search needs) (λ c. search needs) returns (λ c. search needs)
-    (λ c. search needs) (λ c. search needs) (λ c. search needs) loop-again returns-2)
+read-results-spec = tie.close (tie.spec Inv-loop μ-loop (λ c. (search needs, (omega arith, (search needs, sym (over-none _ _))))) (λ c κs. search needs)
+    (λ c. search needs) (λ c. search needs) returns (λ c. search needs) (λ c. search needs) (λ c. search needs) (λ c. search needs) loop-again returns-2)

@@ -15,9 +15,6 @@ Inv-loop notch block₀ n k i₀ block i = (i ≤ n) × Loaded (chargesOn notch 
 abbrev μ-loop : tie.MeasureT-loop
 μ-loop notch block₀ n k i₀ block i = n - i
 
-loop-holds : tie.Need-loop-holds Inv-loop μ-loop
-loop-holds c = (omega arith, loaded-none _ _)
-
 spring-in-requires : tie.Need-spring-in-requires Inv-loop μ-loop
 spring-in-requires c κs = omega (arith, c .before .before .before .pre .few)
 
@@ -42,5 +39,5 @@ returns : tie.Need-returns Inv-loop μ-loop
 returns c = let e : c .before .loop .i ≡ c .before .before .args .n = omega arith in rw e at (c .before .loop .inv .1)
 
 pub charges-at-spec : {M : Type 1} → statement M
-charges-at-spec = tie.close (tie.spec Inv-loop μ-loop loop-holds spring-in-requires charge-at-requires (λ c. omega arith) (λ c. omega arith)
-    (λ c. omega arith) (λ c. omega arith) loop-again returns)
+charges-at-spec = tie.close (tie.spec Inv-loop μ-loop (λ c. (omega arith, loaded-none _ _)) spring-in-requires charge-at-requires (λ c. omega arith)
+    (λ c. omega arith) (λ c. omega arith) (λ c. omega arith) loop-again returns)

@@ -13,9 +13,6 @@ Inv-loop block n greatest₀ i₀ greatest i = (i ≤ n) × (greatest ≡ fullIn
 abbrev μ-loop : tie.MeasureT-loop
 μ-loop block n greatest₀ i₀ greatest i = n - i
 
-loop-holds : tie.Need-loop-holds Inv-loop μ-loop
-loop-holds c = (omega arith, sym (max-none _))
-
 loop-again : tie.Need-loop-again Inv-loop μ-loop
 loop-again c =
     let at-loop = c .before .before .before in
@@ -27,5 +24,5 @@ returns : tie.Need-returns Inv-loop μ-loop
 returns c = let e : c .before .loop .i ≡ c .before .before .args .n = omega arith in rw e at (c .before .loop .inv .1)
 
 pub full-compression-spec : {M : Type 1} → statement M
-full-compression-spec = tie.close (tie.spec Inv-loop μ-loop loop-holds (λ c. omega arith) (λ c. omega arith) (λ c. omega arith) (λ _ _. tt) (λ c. omega arith)
-    (λ c. omega arith) loop-again returns)
+full-compression-spec = tie.close (tie.spec Inv-loop μ-loop (λ c. (omega arith, sym (max-none _))) (λ c. omega arith) (λ c. omega arith) (λ c. omega arith)
+    (λ _ _. tt) (λ c. omega arith) (λ c. omega arith) loop-again returns)

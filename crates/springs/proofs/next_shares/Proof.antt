@@ -19,9 +19,6 @@ Inv-loop block₀ n sum₀ i₀ block sum i =
 abbrev μ-loop : tie.MeasureT-loop
 μ-loop block₀ n sum₀ i₀ block sum i = n - i
 
-loop-holds : tie.Need-loop-holds Inv-loop μ-loop
-loop-holds c = (omega arith, loaded-none _ _, sym (sum-none _), omega arith)
-
 let-down-requires : tie.Need-let-down-requires Inv-loop μ-loop
 let-down-requires c κs =
     let tested = c .before .before .before in
@@ -71,6 +68,6 @@ returns c =
     record { loaded = rw e at (at-loop .loop .inv .1); sum-is = c .widened .ensures ∙ (rw e at (at-loop .loop .inv .2)) }
 
 pub next-shares-spec : {M : Type 1} → statement M
-next-shares-spec = tie.close (tie.spec Inv-loop μ-loop loop-holds (λ c. omega arith) (λ c. omega arith) (λ c. omega arith) (λ c. omega arith)
-    (λ c. omega arith) (λ c. omega arith) (λ c. omega arith) (λ c. omega arith) let-down-requires (λ c. omega arith) (λ c. omega arith) add-sum
-    (λ c. omega arith) (λ c. omega arith) loop-again (λ _ _. tt) returns)
+next-shares-spec = tie.close (tie.spec Inv-loop μ-loop (λ c. (omega arith, loaded-none _ _, sym (sum-none _), omega arith)) (λ c. omega arith)
+    (λ c. omega arith) (λ c. omega arith) (λ c. omega arith) (λ c. omega arith) (λ c. omega arith) (λ c. omega arith) (λ c. omega arith) let-down-requires
+    (λ c. omega arith) (λ c. omega arith) add-sum (λ c. omega arith) (λ c. omega arith) loop-again (λ _ _. tt) returns)

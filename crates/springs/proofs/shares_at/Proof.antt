@@ -16,9 +16,6 @@ Inv-loop block₀ n k sum₀ i₀ block sum i =
 abbrev μ-loop : tie.MeasureT-loop
 μ-loop block₀ n k sum₀ i₀ block sum i = n - i
 
-loop-holds : tie.Need-loop-holds Inv-loop μ-loop
-loop-holds c = (omega arith, loaded-none _ _, sum-start _ _)
-
 spring-in-requires : tie.Need-spring-in-requires Inv-loop μ-loop
 spring-in-requires c κs = omega (arith, c .before .before .before .pre .few)
 
@@ -56,5 +53,5 @@ returns c =
     record { loaded = rw e at (at-loop .loop .inv .1); sum-is = c .widened .ensures ∙ (rw e at (at-loop .loop .inv .2 .is)) }
 
 pub shares-at-spec : {M : Type 1} → statement M
-shares-at-spec = tie.close (tie.spec Inv-loop μ-loop loop-holds spring-in-requires share-on-requires (λ c. omega arith) (λ c. omega arith) add-sum
-    (λ c. omega arith) (λ c. omega arith) loop-again (λ _ _. tt) returns)
+shares-at-spec = tie.close (tie.spec Inv-loop μ-loop (λ c. (omega arith, loaded-none _ _, sum-start _ _)) spring-in-requires share-on-requires
+    (λ c. omega arith) (λ c. omega arith) add-sum (λ c. omega arith) (λ c. omega arith) loop-again (λ _ _. tt) returns)

@@ -11,9 +11,6 @@ Inv-loop out₀ at processors loads m next₀ j₀ out next j = (j ≤ m) × ((m
 abbrev μ-loop : tie.MeasureT-loop
 μ-loop out₀ at processors loads m next₀ j₀ out next j = m - j
 
-loop-holds : tie.Need-loop-holds Inv-loop μ-loop
-loop-holds c = (search needs, (search needs, refl))
-
 pub put-loads-spec : {M : Type 1} → statement M
-put-loads-spec = tie.close (tie.spec Inv-loop μ-loop (λ _ _. tt) (λ _ _. tt) loop-holds (λ c. search needs) (λ c. search needs) (λ c. search needs)
-    (λ _ _. tt) (λ c. search needs) (λ c. search needs) (λ c. search needs) (λ c. search needs) (λ c. tt))
+put-loads-spec = tie.close (tie.spec Inv-loop μ-loop (λ _ _. tt) (λ _ _. tt) (λ c. (search needs, (search needs, refl))) (λ c. search needs)
+    (λ c. search needs) (λ c. search needs) (λ _ _. tt) (λ c. search needs) (λ c. search needs) (λ c. search needs) (λ c. search needs) (λ c. tt))

@@ -15,9 +15,6 @@ Inv-loop table n greatest₀ i₀ greatest i = (i ≤ n) × (greatest ≡ maxTo 
 abbrev μ-loop : tie.MeasureT-loop
 μ-loop table n greatest₀ i₀ greatest i = n - i
 
-loop-holds : tie.Need-loop-holds Inv-loop μ-loop
-loop-holds c = (omega arith, sym (max-none _))
-
 saturation-requires : tie.Need-saturation-requires Inv-loop μ-loop
 saturation-requires c κs = c .before .before .before .pre .good _ (c .before .loop-test .taken)
 
@@ -35,5 +32,5 @@ returns c =
     full-done (start .args .t1) _ (start .pre) (rw all at (at-loop .loop .inv .1))
 
 pub full-compression-spec : {M : Type 1} → statement M
-full-compression-spec = tie.close (tie.spec Inv-loop μ-loop loop-holds (λ c. omega arith) (λ c. omega arith) saturation-requires (λ _ _. tt)
-    (λ c. omega arith) (λ c. omega arith) loop-again returns)
+full-compression-spec = tie.close (tie.spec Inv-loop μ-loop (λ c. (omega arith, sym (max-none _))) (λ c. omega arith) (λ c. omega arith) saturation-requires
+    (λ _ _. tt) (λ c. omega arith) (λ c. omega arith) loop-again returns)

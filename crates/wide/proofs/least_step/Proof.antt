@@ -20,9 +20,6 @@ full-compression-requires c κs = c .pre
 add-to : tie.Need-add-to Inv-loop μ-loop
 add-to c = omega (arith, c .full-compression .ensures .most)
 
-loop-holds : tie.Need-loop-holds Inv-loop μ-loop
-loop-holds c = (c .full-compression .ensures .most, halved-all _ _)
-
 add-middle : tie.Need-add-middle Inv-loop μ-loop
 add-middle c = let so-far = c .before .loop .inv in omega (arith, so-far .0, so-far .1 .last, so-far .1 .order)
 
@@ -60,5 +57,5 @@ returns-2 c =
     rw (← full) (halved-none _ _ _ _ (at-loop .loop .inv .1) (c .before .loop-test .left) (c .if2 .left))
 
 pub least-step-spec : {M : Type 1} → statement M
-least-step-spec = tie.close (tie.spec Inv-loop μ-loop full-compression-requires add-to loop-holds add-middle passes-at-requires (λ c. omega arith) loop-again
-    add-from (λ c. omega arith) loop-again-2 returns returns-2)
+least-step-spec = tie.close (tie.spec Inv-loop μ-loop full-compression-requires add-to (λ c. (c .full-compression .ensures .most, halved-all _ _)) add-middle
+    passes-at-requires (λ c. omega arith) loop-again add-from (λ c. omega arith) loop-again-2 returns returns-2)

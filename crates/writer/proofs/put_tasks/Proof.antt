@@ -17,9 +17,6 @@ Inv-loop out₀ from n rows at₀ i₀ out at i =
 abbrev μ-loop : tie.MeasureT-loop
 μ-loop out₀ from n rows at₀ i₀ out at i = n - i
 
-loop-holds : tie.Need-loop-holds Inv-loop μ-loop
-loop-holds c = (search needs, (refl, put-no-row taskBytes noTask taskSize _ _ _))
-
 loop-again : tie.Need-loop-again Inv-loop μ-loop
 loop-again c =
     let put = c .before .before in
@@ -34,5 +31,5 @@ returns c =
     rw (← all) (at-loop .loop .inv .1 .1)
 
 pub put-tasks-spec : {M : Type 1} → statement M
-put-tasks-spec = tie.close (tie.spec Inv-loop μ-loop loop-holds (λ c. search needs) (λ c. search needs) (λ c κs. search needs) (λ c. search needs)
-    (λ c. search needs) loop-again (λ c. search needs) returns)
+put-tasks-spec = tie.close (tie.spec Inv-loop μ-loop (λ c. (search needs, (refl, put-no-row taskBytes noTask taskSize _ _ _))) (λ c. search needs)
+    (λ c. search needs) (λ c κs. search needs) (λ c. search needs) (λ c. search needs) loop-again (λ c. search needs) returns)
