@@ -63,9 +63,13 @@ gateOf serves s n room =
     let p = meant (s .policy) in
     andThen (knows p) (andThen (gate (missetUnder s) n) (andThen (served serves p) (roomy n room)))
 
--- 6, where a swap costs w and a notch is q
+-- 6: the first bad record, or n where there is none
+abbrev pub judged : ℕ → ℕ → Verdict
+judged bad n = check (ltb bad n) (Refused (BadRecord bad)) Accepted
+
+-- of some records, where a swap costs w and a notch is q
 abbrev pub recordsGood : ℕ → ℕ → List Task → ℕ → Verdict
-recordsGood w q rows n = check (ltb (firstBad w q rows n) n) (Refused (BadRecord (firstBad w q rows n))) Accepted
+recordsGood w q rows n = judged (firstBad w q rows n) n
 
 unfoldable pub admission : Bool → Settings → List Task → ℕ → ℕ → Verdict
 admission serves s rows n room = andThen (gateOf serves s n room) (recordsGood (s .swap) (s .notch) rows n)

@@ -1,5 +1,5 @@
-// The one admission: what every call on a table checks before it works, in document 01's order. Contracts cite `specs/Admission`
-// and, of the columns, `specs/Handover`.
+// The one admission: what every call on a table checks before it works, in document 01's order. Between `gate_of` and `judge` a call hands its
+// table to the walk that works the springs out, which says the first bad record. Contracts cite `specs/Admission`.
 use kinds::Policy;
 use kinds::Refusal;
 use kinds::Settings;
@@ -9,11 +9,8 @@ ghost use mathlib.Core.Bool.{not};
 ghost use mathlib.Core.Path.{_≡_};
 ghost use Rattle.ground.specs.Choice.{both};
 ghost use Rattle.kinds.specs.Policy.{isFirstFit};
-ghost use Rattle.springs.specs.Columns.{columns};
-ghost use Rattle.springs.specs.Handover.{Roomy};
 ghost use Rattle.admission.specs.Admission.{andThen, knows, misset, noEdition, missetNumbers, unsuited, missetUnder};
-ghost use Rattle.admission.specs.Admission.{gate, served, roomy, gateOf};
-ghost use Rattle.admission.specs.Handover.{AdmittedSprung};
+ghost use Rattle.admission.specs.Admission.{gate, served, roomy, gateOf, judged};
 
 // The policy's own refusal: 1 where it is none of those numbered, 15 where it is withdrawn.
 pub fn knows(policy: Policy) -> Verdict
@@ -138,41 +135,10 @@ pub fn gate_of(settings: Settings, serves: bool, n: usize, room: usize) -> Verdi
     and_then(knows(policy), from_two)
 }
 
-// Refusals 1 to 6 of a call that serves policy 4, or does not. The walk that judges the records works their springs, costs and shortest
-// periods out into six lent columns.
-pub fn admit(
-    table: Table,
-    settings: Settings,
-    serves: bool,
-    room: usize,
-    largest: &mut [u32; Table::MOST_TASKS],
-    least: &mut [u32; Table::MOST_TASKS],
-    elasticity: &mut [u32; Table::MOST_TASKS],
-    saturation: &mut [u32; Table::MOST_TASKS],
-    cost: &mut [u32; Table::MOST_TASKS],
-    tmin: &mut [u32; Table::MOST_TASKS],
-) -> Verdict
-    requires { ⌜ Roomy (columns (now largest) (now least) (now elasticity) (now saturation) (now cost) (now tmin)) ⌝ }
-    ensures { λ r. ⌜ AdmittedSprung serves settings (table .rows) (table .n) room r
-        (columns (now (largest .exit)) (now (least .exit)) (now (elasticity .exit)) (now (saturation .exit))
-        (now (cost .exit)) (now (tmin .exit))) ⌝ }
+// Refusal 6: of n records the first that is not good, or n where all are.
+pub fn judge(bad: usize, n: usize) -> Verdict
+    ensures { λ r. ⌜ r ≡ judged bad n ⌝ }
 {
-    let n = table.n;
-    let gate = gate_of(settings, serves, n, room);
-    let Verdict::Accepted = gate else {
-        return gate;
-    };
-    let bad = springs::springs_of(
-        table,
-        settings.swap,
-        settings.notch,
-        largest,
-        least,
-        elasticity,
-        saturation,
-        cost,
-        tmin,
-    );
     if bad < n {
         return Verdict::Refused(Refusal::BadRecord(bad));
     }

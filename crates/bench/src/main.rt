@@ -224,6 +224,10 @@ fn others() {
         17,
         same(rigid(1), 32),
     );
+}
+
+// The longest period, ties, and tasks that do not stretch.
+fn further() {
     run(
         b"L, the longest period\n",
         Policy::Pooled,
@@ -257,4 +261,5 @@ fn main() {
     charged();
     editions();
     others();
+    further();
 }

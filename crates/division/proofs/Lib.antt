@@ -1,4 +1,3 @@
-pub mod Weighing
 pub mod Nexts
 pub mod Lines
 pub mod Stretches

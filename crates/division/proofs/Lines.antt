@@ -1,18 +1,20 @@
 -- Between two neighbouring saturation steps every share is a line, and so is each side of the test.
 -- Assumes nothing.
-use Rattle.ground.proofs.Kit.{ℕ, _+_, _-_, _*_, _≤_, _<_, max, _≡_, ap, mul-le-mul-left, mul-le-mul-right, arith, lt-ltb, le-ltb}
+use Rattle.ground.proofs.Kit.{ℕ, _+_, _-_, _*_, _≤_, _<_, max, _≡_, sym, ap, mul-le-mul-left, mul-le-mul-right, arith, lt-ltb, le-ltb}
 use mathlib.Core.Logic.{_↔_}
 use native.Mathlib.Nat.{max-eq-left, max-eq-right}
 use Rattle.ground.specs.Rounding.{ceilDiv}
 use Rattle.ground.proofs.Cases.{by-le}
 use Rattle.ground.proofs.Rounding.{ceil-enough, ceil-least, ceil-over}
+use Rattle.kinds.specs.Limits.{greatestElasticity}
 use Rattle.policy.specs.declared.Weights.{Weights}
 use Rattle.policy.specs.Sides.{left}
 use Rattle.rule.proofs.Shares.{share-saturated, share-above}
 use Rattle.division.specs.declared.Line.{Line}
 use Rattle.springs.specs.declared.Spring.{Spring}
 use Rattle.springs.specs.Spring.{shareOn, saturationOn}
-use Rattle.division.specs.Division.{slopeOf, slope, need}
+use Rattle.springs.specs.Handover.{Within}
+use Rattle.division.specs.Division.{slope, need}
 use Rattle.division.specs.Handover.{LineIs, NeedIs}
 
 -- a spring with its saturation step above k is still falling at k
@@ -34,23 +36,21 @@ falls-on : (s : Spring) (p j : ℕ) → p + j < saturationOn s → shareOn s p �
 unfolding shareOn
 falls-on s p j h = omega (arith, falling s (p + j) h)
 
-pub slope-before : (e saturation p : ℕ) → p < saturation → slopeOf e saturation p ≡ e
-unfolding slopeOf
-slope-before e saturation p h = rw (lt-ltb p saturation h)
-
-pub slope-after : (e saturation p : ℕ) → saturation ≤ p → slopeOf e saturation p ≡ 0
-unfolding slopeOf
-slope-after e saturation p h = rw (le-ltb p saturation h)
-
 slope-on : (s : Spring) (p : ℕ) → p < saturationOn s → slope s p ≡ s .elasticity
-slope-on s p h = slope-before (s .elasticity) (saturationOn s) p h
+unfolding slope
+slope-on s p h = rw (lt-ltb p (saturationOn s) h)
 
 slope-off : (s : Spring) (p : ℕ) → saturationOn s ≤ p → slope s p ≡ 0
-slope-off s p h = slope-after (s .elasticity) (saturationOn s) p h
+unfolding slope
+slope-off s p h = rw (le-ltb p (saturationOn s) h)
 
-pub slope-most : (e saturation p : ℕ) → slopeOf e saturation p ≤ e
-slope-most e saturation p =
-    by-le saturation p (λ h. omega (arith, slope-after e saturation p h)) (λ h. omega (arith, slope-before e saturation p h))
+-- the slope as it is found: by the saturation step that the spring has beside it
+module _ (s : Spring) (w : Within s) (p : ℕ) where
+  pub slope-before : p < s .saturation → (s .elasticity ≡ slope s p) × (s .elasticity ≤ greatestElasticity)
+  slope-before h = (sym (slope-on s p (omega (arith, w .saturated))), w .elasticity-most)
+
+  pub slope-after : s .saturation ≤ p → (0 ≡ slope s p) × (0 ≤ greatestElasticity)
+  slope-after h = (sym (slope-off s p (omega (arith, w .saturated))), omega arith)
 
 pub slope-some : (s : Spring) (p : ℕ) → p < saturationOn s → 0 < slope s p
 slope-some s p h = omega (arith, slope-on s p h, falling s p h .0)

@@ -1,6 +1,6 @@
 -- The walk over the tasks finds the next saturation step, or says that there is none.
 -- Assumes nothing.
-use Rattle.ground.proofs.Kit.{ℕ, zero, suc, _+_, _≤_, _<_, min, _≡_, refl, ap, ap₂, add-one, arith, eq-eqb, ne-eqb, le-leb, lt-leb}
+use Rattle.ground.proofs.Kit.{ℕ, zero, suc, _+_, _≤_, _<_, min, _≡_, refl, ap, add-one, arith, eq-eqb, ne-eqb, le-leb, lt-leb}
 use native.Mathlib.Nat.{min-eq-left, min-eq-right}
 use Rattle.ground.proofs.Cases.{by-le}
 use Rattle.division.specs.Next.{Next, nearer, nextTo}
@@ -77,8 +77,3 @@ next-is s p (suc n) h =
     (λ l. rw (min-eq-left l) (next-old s p n (nextTo s p n) (next-is s p n b) (λ z. l)))
     (λ l. let l′ : s n ≤ nextTo s p n = omega arith in
     rw (min-eq-right l′) (next-new s p n a (λ i m z. omega (arith, next-is s p n b .least i m z))))))
-
-pub next-cong : (f g : ℕ → ℕ) (p n : ℕ) → ((i : ℕ) → i < n → f i ≡ g i) → nextTo f p n ≡ nextTo g p n
-unfolding nextTo
-next-cong f g p zero h = refl
-next-cong f g p (suc n) h = ap₂ (nearer p) (next-cong f g p n (λ i l. h i (omega arith))) (h n (omega arith))

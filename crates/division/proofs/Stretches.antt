@@ -1,24 +1,22 @@
 -- The division gives the least passing step of a stretch whose first step fails and whose last one, the next saturation step, passes.
 -- Assumes nothing.
-use Rattle.ground.proofs.Kit.{ℕ, zero, suc, _+_, _-_, _*_, _≤_, _<_, max, min, Bool, true, false, List, _≡_, refl, sym, ap₂, add-one, arith, getD, le-leb}
-use Rattle.ground.proofs.Kit.{leb-true}
+use Rattle.ground.proofs.Kit.{ℕ, zero, suc, _+_, _-_, _*_, _≤_, _<_, max, min, Bool, true, false, _≡_, refl, sym, add-one, arith, le-leb, leb-true}
 use mathlib.Core.Logic.{_↔_}
 use native.Mathlib.Nat.{min-eq-left, min-eq-right}
 use Rattle.ground.specs.Folds.{sumTo, maxTo}
 use Rattle.ground.specs.Least.{LeastAt, Rising}
 use Rattle.ground.proofs.Cases.{by-le, true-false, false-of}
-use Rattle.ground.proofs.Folds.{sum-none, sum-more, sum-cong, sum-le, max-falls, sum-line, term-le-sum}
+use Rattle.ground.proofs.Folds.{sum-none, sum-more, sum-line, term-le-sum}
 use Rattle.kinds.specs.Limits.{greatestElasticity}
 use Rattle.policy.specs.declared.Weights.{Weights}
 use Rattle.policy.specs.Sides.{left}
-use Rattle.policy.proofs.Tests.{test-stays}
-use Rattle.rule.proofs.Shares.{share-falls}
+use Rattle.policy.specs.Weighed.{weighed, weighedAt}
+use Rattle.policy.proofs.Weighing.{weighed-stays}
 use Rattle.springs.specs.declared.Spring.{Spring}
 use Rattle.springs.specs.Spring.{shareOn, saturationOn, sharesOn, saturations}
-use Rattle.springs.specs.Handover.{Saturates}
-use Rattle.division.specs.Weighed.{weighed, weighedAt}
+use Rattle.springs.proofs.Springs.{shares-fall}
 use Rattle.division.specs.Next.{Next}
-use Rattle.division.specs.Division.{slopeOf, slope, slopesIn, slopeSum, need, needTo, divided}
+use Rattle.division.specs.Division.{slope, slopeSum, need, needTo, divided}
 use Rattle.division.specs.Handover.{FallIs}
 use Rattle.division.proofs.Lines.{share-line, slope-some, need-iff, need-flat, both-ways}
 
@@ -32,7 +30,7 @@ need-to-iff w springs p q j sum sum′ fall (suc n) pos es l hq =
     (need-to-iff w springs p q j sum sum′ fall n pos es l (λ i m. hq i (omega arith)))
     (need-iff w sum sum′ _ _ fall _ j pos es (share-line (springs n) p q j (hq n (omega arith)) l))
 
-pub slope-within : (springs : ℕ → Spring) (n p i : ℕ) → i < n → slope (springs i) p ≤ slopeSum springs n p
+slope-within : (springs : ℕ → Spring) (n p i : ℕ) → i < n → slope (springs i) p ≤ slopeSum springs n p
 unfolding slopeSum
 slope-within springs n p i l = term-le-sum (λ i. slope (springs i) p) n i l
 
@@ -54,12 +52,7 @@ stretch w springs n p q j x l =
 
 -- the test stays once it holds
 pub weighed-rising : (w : Weights) (springs : ℕ → Spring) (n : ℕ) → Rising (weighedAt w springs n)
-unfolding weighed shareOn
-weighed-rising w springs n j k h t =
-    let falls : (i : ℕ) → i < n → shareOn (springs i) k ≤ shareOn (springs i) j =
-    λ i l. share-falls (springs i .largest) (springs i .least) (springs i .elasticity) j k h in
-    le-leb _ _
-    (test-stays w _ _ _ _ (sum-le _ _ n falls) (max-falls _ _ n falls) (leb-true _ _ t))
+weighed-rising w springs n j k h t = weighed-stays w (sharesOn springs j) (sharesOn springs k) n (λ i l. shares-fall (springs i) j k h) t
 
 -- what fails fails at every earlier step
 pub fails-before : (test : ℕ → Bool) → Rising test → (p k : ℕ) → test p ≡ false → k ≤ p → test k ≡ false
@@ -92,11 +85,15 @@ unfolding divided
 divided-most w springs n p q = omega arith
 
 -- the walks of the division, where the code has i + 1
-pub fall-none : (slopes : ℕ → ℕ) → FallIs slopes 0 0
-fall-none slopes = record { is = sym (sum-none slopes); most = omega arith }
+pub fall-none : (springs : ℕ → Spring) (p : ℕ) → FallIs springs 0 p 0
+unfolding slopeSum
+fall-none springs p = record { is = sym (sum-none _); most = omega arith }
 
-pub fall-more : (slopes : ℕ → ℕ) (i fall x : ℕ) → FallIs slopes i fall → x ≡ slopes i → x ≤ greatestElasticity → FallIs slopes (i + 1) (fall + x)
-fall-more slopes i fall x f e h = record { is = omega (arith, sum-more slopes i, f .is); most = omega (arith, f .most) }
+pub fall-more : (springs : ℕ → Spring) (p i fall x : ℕ) → FallIs springs i p fall → x ≡ slope (springs i) p → x ≤ greatestElasticity
+    → FallIs springs (i + 1) p (fall + x)
+unfolding slopeSum
+fall-more springs p i fall x f e h =
+    record { is = omega (arith, sum-more (λ j. slope (springs j) p) i, f .is); most = omega (arith, f .most) }
 
 pub need-none : (w : Weights) (springs : ℕ → Spring) (p sum fall : ℕ) → needTo w springs p sum fall 0 ≡ need w sum fall 0 0
 unfolding needTo
@@ -113,14 +110,6 @@ pub need-more : (w : Weights) (springs : ℕ → Spring) (p sum fall i : ℕ)
     → needTo w springs p sum fall (i + 1) ≡ max (needTo w springs p sum fall i) (need w sum fall (shareOn (springs i) p) (slope (springs i) p))
 unfolding needTo
 need-more w springs p sum fall i = rw (add-one i)
-
--- the sum of the slopes by columns is that of the springs
-pub slopes-are : (springs : ℕ → Spring) (elasticity saturation : List ℕ) (n p : ℕ)
-    → ((i : ℕ) → getD elasticity i 0 ≡ springs i .elasticity) → Saturates springs saturation n
-    → sumTo (slopesIn elasticity saturation p) n ≡ slopeSum springs n p
-unfolding slopeSum
-slopes-are springs elasticity saturation n p e s =
-    sum-cong (slopesIn elasticity saturation p) (λ i. slope (springs i) p) n (λ i l. ap₂ (λ (x y : ℕ). slopeOf x y p) (e i) (s i l))
 
 -- the division as the code works it out
 pub divided-worked-out : (w : Weights) (springs : ℕ → Spring) (n p q sum fall more : ℕ)

@@ -1,9 +1,7 @@
 -- The division of a stretch: from the step p on each share falls by its slope, as far as the next saturation step.
 -- Assumes nothing.
 use Prim.Native.Nat.{ℕ, zero, suc, _+_, _-_, max, min}
-use mathlib.Core.List.{List}
 use lib.Dec.{ltb}
-use lib.ListN.{getD}
 use Rattle.ground.specs.Choice.{pick}
 use Rattle.ground.specs.Folds.{sumTo}
 use Rattle.ground.specs.Rounding.{ceilDiv}
@@ -12,16 +10,9 @@ use Rattle.policy.specs.Sides.{left}
 use Rattle.springs.specs.declared.Spring.{Spring}
 use Rattle.springs.specs.Spring.{shareOn, saturationOn, sharesOn}
 
--- by how much a share falls at each step after p, before the next saturation step
-unfoldable pub slopeOf : ℕ → ℕ → ℕ → ℕ
-slopeOf elasticity saturation p = pick (ltb p saturation) elasticity 0
-
-abbrev pub slope : Spring → ℕ → ℕ
-slope s p = slopeOf (s .elasticity) (saturationOn s) p
-
--- by columns
-abbrev pub slopesIn : List ℕ → List ℕ → ℕ → ℕ → ℕ
-slopesIn elasticity saturation p i = slopeOf (getD elasticity i 0) (getD saturation i 0) p
+-- by how much the share of a spring falls at each step after p, before the next saturation step
+unfoldable pub slope : Spring → ℕ → ℕ
+slope s p = pick (ltb p (saturationOn s)) (s .elasticity) 0
 
 unfoldable pub slopeSum : (ℕ → Spring) → ℕ → ℕ → ℕ
 slopeSum springs n p = sumTo (λ i. slope (springs i) p) n

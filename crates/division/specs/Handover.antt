@@ -3,19 +3,20 @@
 use Prim.Native.Nat.{ℕ, _-_, _*_, _≤_}
 use mathlib.Core.List.{List}
 use mathlib.Core.Path.{_≡_}
-use Rattle.ground.specs.Folds.{sumTo}
-use Rattle.kinds.specs.Limits.{greatestElasticity, mostTasks}
+use Rattle.kinds.specs.Limits.{scale, greatestElasticity, mostTasks}
 use Rattle.policy.specs.declared.Weights.{Weights}
 use Rattle.policy.specs.Sides.{left}
 use Rattle.springs.specs.declared.Spring.{Spring}
 use Rattle.springs.specs.Spring.{saturations}
-use Rattle.springs.specs.Handover.{AllWithin, Saturates}
+use Rattle.springs.specs.Columns.{springIn}
+use Rattle.springs.specs.Handover.{Springy}
 use Rattle.division.specs.declared.Line.{Line}
 use Rattle.division.specs.Next.{Next}
+use Rattle.division.specs.Division.{slopeSum}
 
 -- by how much the sum of the shares falls
-pub record FallIs (slopes : ℕ → ℕ) (n r : ℕ) : Type 0 where
-  pub is : r ≡ sumTo slopes n
+pub record FallIs (springs : ℕ → Spring) (n p r : ℕ) : Type 0 where
+  pub is : r ≡ slopeSum springs n p
   pub most : r ≤ greatestElasticity * n
 
 -- a line whose division is safe
@@ -36,17 +37,13 @@ pub record NeedIs (steps r : ℕ) : Type 0 where
   pub most : r ≤ 1000000000
 
 -- what the walk over the tasks relies on: the springs, their sum, and by how much it falls
-pub record Falls (springs : ℕ → Spring) (saturation : List ℕ) (n sum fall : ℕ) : Type 0 where
-  pub few : n ≤ mostTasks
-  pub within : AllWithin springs n
-  pub saturates : Saturates springs saturation n
-  pub sum-most : sum ≤ 32000000
+pub record Falls (block : List ℕ) (n sum fall : ℕ) : Type 0 where
+  pub springy : Springy block n
+  pub sum-most : sum ≤ scale * mostTasks
   pub fall-some : 1 ≤ fall
-  pub fall-most : fall ≤ 32000000
+  pub fall-most : fall ≤ greatestElasticity * mostTasks
 
 -- q is the next saturation step after p
-pub record Stretches (springs : ℕ → Spring) (saturation : List ℕ) (n p q : ℕ) : Type 0 where
-  pub few : n ≤ mostTasks
-  pub within : AllWithin springs n
-  pub saturates : Saturates springs saturation n
-  pub next : Next (saturations springs) n p q
+pub record Stretches (block : List ℕ) (n p q : ℕ) : Type 0 where
+  pub springy : Springy block n
+  pub next : Next (saturations (springIn block)) n p q

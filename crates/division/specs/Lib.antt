@@ -1,4 +1,3 @@
-pub mod Weighed
 pub mod Next
 pub mod Division
 pub mod Handover

@@ -1,2 +1,4 @@
 pub mod Values
 pub mod Bridge
+pub mod Facts
+pub mod Imports

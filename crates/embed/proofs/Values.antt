@@ -1,6 +1,6 @@
 -- The types that an exported walk passes by value or returns.
 -- Assumes nothing.
-use mathlib.Core.Path.{refl}
+use Rattle.ground.proofs.Kit.{refl}
 use Rattle.walk.proofs.Thin.{Valued, of-struct}
 use Rattle.told_numbers.proofs.Station as S
 use Rattle.told_numbers.proofs.Station.Laws as S′

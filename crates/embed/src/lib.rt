@@ -1,6 +1,7 @@
-// The library for C and Rust: the calls of the rooms that tell (`told`, `told_kept`, `told_clock`, `told_sheets`, `told_texts`), exported,
-// those on a table over lent records. A slice is a pointer and then a length. Contracts cite the definitions of those rooms and of
-// `told_numbers`, which read the numbers that cross as the calls' own promises.
+// The library for C and Rust: the calls of the rooms that tell (`told`, `told_kept`, `told_clock`, `told_sheets`, `told_texts`), exported.
+// Those on a table are document 01's thin calls over a lent slice of records: `lent_rows` copies the rows, and the covered call is made. A
+// slice is a pointer and then a length. Contracts cite the definitions of those rooms and of `told_numbers`, which read the numbers that
+// cross as the calls' own promises; the laws of `proofs/Bridge` tie what is told of a table to the lent records.
 mod clocked;
 mod kept;
 mod sheets;
@@ -34,7 +35,7 @@ pub extern "C" fn eelbasket_plain(
         (outcome true (settingsOf station) (now (rows .entry)) (length (now (rows .entry))) (now (periods .entry)) (now (processors .entry)))
         r (now (periods .exit)) (now (processors .exit)) ⌝ }
 {
-    told::plain_told(rows::gather(rows), station, periods, processors)
+    told::plain_told(lent_rows::gather(rows), station, periods, processors)
 }
 
 // The quick finder over lent records, with its looks.
@@ -48,7 +49,7 @@ pub extern "C" fn eelbasket_quick(
     ensures { λ r. ⌜ ToldLooked (settingsOf station) (now (rows .entry)) (length (now (rows .entry))) (now (periods .entry)) (now (processors .entry))
         r (now (periods .exit)) (now (processors .exit)) ⌝ }
 {
-    told::quick_told(rows::gather(rows), station, periods, processors)
+    told::quick_told(lent_rows::gather(rows), station, periods, processors)
 }
 
 // The margin over lent records, at any step.
@@ -56,7 +57,7 @@ pub extern "C" fn eelbasket_quick(
 pub extern "C" fn eelbasket_margin(rows: &[Task], station: Station, step: u32) -> ToldMargin
     ensures { λ r. ⌜ toldMargin r ≡ marginHanded (settingsOf station) (now (rows .entry)) (length (now (rows .entry))) step ⌝ }
 {
-    told::margin_told(rows::gather(rows), station, step)
+    told::margin_told(lent_rows::gather(rows), station, step)
 }
 
 // The checker of a proposal over lent records, at any step.
@@ -72,7 +73,7 @@ pub extern "C" fn eelbasket_check_proposal(
         (checker.outcome (settingsOf station) (now (rows .entry)) (length (now (rows .entry))) step (now (proposal .entry)) (now (loads .entry)))
         r (now (loads .exit)) ⌝ }
 {
-    told::check_proposal_told(rows::gather(rows), station, step, proposal, loads)
+    told::check_proposal_told(lent_rows::gather(rows), station, step, proposal, loads)
 }
 
 // The finder for tasks that need several cores, over lent records.
@@ -86,5 +87,5 @@ pub extern "C" fn eelbasket_wide(
     ensures { λ r. ⌜ ToldMeets (wide.outcome m (now (rows .entry)) (length (now (rows .entry))) (now (periods .entry)) (now (cores .entry)))
         r (now (periods .exit)) (now (cores .exit)) ⌝ }
 {
-    told::wide_told(wide_rows::gather(rows), m, periods, cores)
+    told::wide_told(lent_rows::gather_wide(rows), m, periods, cores)
 }

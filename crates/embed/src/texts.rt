@@ -9,7 +9,7 @@ ghost use Rattle.told_texts.specs.Texts.{ToldImports, ToldExports};
 pub extern "C" fn eelbasket_export(rows: &[Task], out: &mut [u8]) -> ToldCount
     ensures { λ r. ⌜ ToldExports (now (rows .entry)) (length (now (rows .entry))) (now (out .entry)) r (now (out .exit)) ⌝ }
 {
-    told_texts::export_told(rows::gather(rows), out)
+    told_texts::export_told(lent_rows::gather(rows), out)
 }
 
 // The table of a text, into lent records.
@@ -17,5 +17,7 @@ pub extern "C" fn eelbasket_export(rows: &[Task], out: &mut [u8]) -> ToldCount
 pub extern "C" fn eelbasket_import(text: &[u8], rows: &mut [Task]) -> ToldCount
     ensures { λ r. ⌜ ToldImports (now (text .entry)) (now (rows .entry)) r (now (rows .exit)) ⌝ }
 {
-    told_numbers::tell_count(office_rows::import(text, rows))
+    let imported = told_texts::import_told(text, rows.len());
+    lent_rows::scatter(imported.table, rows);
+    imported.told
 }

@@ -23,10 +23,8 @@ pub enum Field32 {
 pub fn all_bytes(s: &[u8])
     ensures { λ _. ⌜ Bytes (now (s .entry)) ⌝ }
 {
-    let mut i: usize = 0;
-    while i < s.len() {
+    for i in 0..s.len() {
         wide16(s[i]);
-        i += 1;
     }
 }
 

@@ -27,13 +27,11 @@ fn results_of(
     ensures { λ r. ⌜ r ≡ resultsOf periods processors n ⌝ }
 {
     let mut rows = [Granted::NONE; Table::MOST_TASKS];
-    let mut i: usize = 0;
-    while i < n {
+    for i in 0..n {
         rows[i] = Granted {
             period: periods[i],
             processor: processors[i],
         };
-        i += 1;
     }
     Results { rows, n }
 }

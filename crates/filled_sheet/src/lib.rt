@@ -36,8 +36,7 @@ fn first_unlike(
     requires { ⌜ n ≤ mostTasks ⌝ }
     ensures { λ r. ⌜ r ≡ firstBelow (unlike (results .rows) periods processors) n ⌝ }
 {
-    let mut i: usize = 0;
-    while i < n {
+    for i in 0..n {
         let planned = Granted {
             period: periods[i],
             processor: processors[i],
@@ -45,9 +44,8 @@ fn first_unlike(
         if differ(results.rows[i], planned) {
             return i;
         }
-        i += 1;
     }
-    i
+    n
 }
 
 // Asks the plain finder, and compares what it gives with the results that stand there.

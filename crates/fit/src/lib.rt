@@ -4,6 +4,7 @@ use kinds::Settings;
 use kinds::Share;
 use kinds::Table;
 ghost use Prim.Native.Nat.{_≤_};
+ghost use lib.ListN.{length};
 ghost use Rattle.kinds.specs.Limits.{mostProcessors};
 ghost use Rattle.fit.specs.Fit.{loadIn};
 ghost use Rattle.fit.specs.Handover.{Loads, FitIs};
@@ -14,9 +15,9 @@ pub struct Fit {
     pub processors: [u16; Table::MOST_TASKS],
 }
 
-// The trial of n tasks with these loads on m processors. Document 01: "The first task that fits nowhere ends the whole trial at once."
-pub fn first_fit(loads: &[u32; Table::MOST_TASKS], n: usize, m: usize) -> Fit
-    requires { ⌜ Loads (now loads) n × (m ≤ mostProcessors) ⌝ }
+// The trial of n tasks with the first of these loads on m processors. Document 01: "The first task that fits nowhere ends the whole trial at once."
+pub fn first_fit(loads: &[u32], n: usize, m: usize) -> Fit
+    requires { ⌜ Loads (now loads) n × (n ≤ length (now loads)) × (m ≤ mostProcessors) ⌝ }
     ensures { λ r. ⌜ FitIs m (loadIn (now (loads .entry))) n r ⌝ }
 {
     let most = Share::SCALE as u32;

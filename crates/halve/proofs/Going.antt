@@ -1,19 +1,21 @@
--- The loop that halves: one look more.
+-- The loop that halves: one look more, and its end.
 -- Assumes nothing.
-use Rattle.ground.proofs.Kit.{ℕ, _-_, _≤_, _<_, Bool, List, arith, le-leb, leb-true}
+use Rattle.ground.proofs.Kit.{ℕ, _-_, _≤_, _<_, Bool, List, arith}
+use Rattle.ground.specs.declared.Step.the-variants.{At, Nothing}
 use Rattle.ground.specs.Least.{Rising}
 use Rattle.ground.specs.Halving.{middle}
 use Rattle.ground.proofs.Cases.{by-bool}
-use Rattle.ground.proofs.Folds.{sum-le, max-falls}
-use Rattle.ground.proofs.Halving.{Counted, middle-in, made-few, counted-pass, counted-fail, counted-few}
-use Rattle.springs.specs.Columns.{springIn, chargesOn}
+use Rattle.ground.proofs.Halving.{Counted, middle-in, made-few, counted-pass, counted-fail, counted-few, counted-done}
+use Rattle.ground.proofs.Halving.{halved-found, halved-none}
+use Rattle.springs.specs.Spring.{chargesOn}
+use Rattle.springs.specs.Columns.{springIn}
 use Rattle.springs.specs.Handover.{Chargeable}
-use Rattle.springs.proofs.Charged.{charges-fall}
+use Rattle.springs.proofs.Springs.{charge-falls}
 use Rattle.policy.specs.declared.Weights.{Weights}
-use Rattle.policy.proofs.Tests.{test-stays}
-use Rattle.division.specs.Weighed.{weighed}
+use Rattle.policy.specs.Weighed.{chargedAt}
+use Rattle.policy.proofs.Weighing.{weighed-stays}
 use Rattle.halve.specs.declared.Range.{Range}
-use Rattle.halve.specs.Halves.{chargedAt, half}
+use Rattle.halve.specs.Halves.{half, HalvingEnds}
 
 abbrev pub Going : (ℕ → Bool) → ℕ → Range → Type 0
 Going test K r = Counted test K (r .from) (r .to) (r .looks)
@@ -34,11 +36,16 @@ module _ (test : ℕ → Bool) (r : Range) (l : r .from < r .to) where
       let m = middle-in (r .from) (r .to) l in
       by-bool (test (middle (r .from) (r .to))) (λ p. rw p (omega (arith, m .0, m .1))) (λ p. rw p (omega (arith, m .0, m .1)))
 
+-- nothing is left
+module _ (test : ℕ → Bool) (K : ℕ) (r : Range) (g : Going test K r) (d : r .to ≤ r .from) where
+  pub going-found : r .from ≤ K → HalvingEnds test K (record { step = At (r .from); looks = r .looks })
+  going-found h = record { least = halved-found test K (r .from) (r .to) (g .halved) d h; count = counted-done test K (r .from) (r .to) (r .looks) g d }
+
+  pub going-none : K < r .from → HalvingEnds test K (record { step = Nothing; looks = r .looks })
+  going-none h = record { least = halved-none test K (r .from) (r .to) (g .halved) d h; count = counted-done test K (r .from) (r .to) (r .looks) g d }
+
 -- the test on charges stays once it holds
-pub charged-rising : (w : Weights) (q : ℕ) (largest least elasticity cost tmin : List ℕ) (n : ℕ) → Chargeable q largest least elasticity cost tmin n
-    → Rising (chargedAt w q cost tmin (springIn largest least elasticity) n)
-unfolding weighed
-charged-rising w q largest least elasticity cost tmin n h j k g t =
-    let charges = chargesOn q cost tmin (springIn largest least elasticity) in
-    let falls : (i : ℕ) → i < n → charges k i ≤ charges j i = λ i l. charges-fall q largest least elasticity cost tmin n h i l j k g in
-    le-leb _ _ (test-stays w _ _ _ _ (sum-le _ _ n falls) (max-falls _ _ n falls) (leb-true _ _ t))
+pub charged-rising : (w : Weights) (q : ℕ) (block : List ℕ) (n : ℕ) → Chargeable q block n → Rising (chargedAt w q (springIn block) n)
+charged-rising w q block n h j k g t =
+    let charges = chargesOn q (springIn block) in
+    weighed-stays w (charges j) (charges k) n (λ i l. charge-falls q (springIn block i) (h .allowed i l) k j g) t

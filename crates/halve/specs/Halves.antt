@@ -2,21 +2,12 @@
 -- Assumes nothing.
 use Prim.Native.Nat.{ℕ, _+_}
 use mathlib.Core.Bool.{Bool}
-use mathlib.Core.List.{List}
 use mathlib.Core.Path.{_≡_}
 use Rattle.ground.specs.declared.Ended.{Ended}
 use Rattle.ground.specs.Choice.{pick}
 use Rattle.ground.specs.Halving.{middle, testsMade}
 use Rattle.ground.specs.Least.{leastUpTo}
-use Rattle.springs.specs.declared.Spring.{Spring}
-use Rattle.springs.specs.Columns.{chargesOn}
-use Rattle.policy.specs.declared.Weights.{Weights}
-use Rattle.division.specs.Weighed.{weighed}
 use Rattle.halve.specs.declared.Range.{Range}
-
--- the test of step k, of weights, on the charges of springs beside columns of costs and shortest periods
-abbrev pub chargedAt : Weights → ℕ → List ℕ → List ℕ → (ℕ → Spring) → ℕ → ℕ → Bool
-chargedAt w q cost tmin springs n k = weighed w (chargesOn q cost tmin springs k) n
 
 -- "testing the middle rounded down (a pass keeps it and below, a failure what is above)"; the looks are one more
 abbrev pub half : (ℕ → Bool) → Range → Range

@@ -1,5 +1,5 @@
 pub mod Rows
-pub mod Columns
+pub mod Blocks
 pub mod Changes
 pub mod Examples
 pub mod Exactly

@@ -12,28 +12,9 @@ use Rattle.kinds.specs.Limits.{mostTasks}
 use Rattle.kinds.specs.Task.{at, noTask, priced, isGood}
 use Rattle.share.specs.Table.{firstBad, pricedRows}
 use Rattle.share.proofs.Tables.{priced-at, first-bad-is}
-use Rattle.keep.specs.Keep.{joinedRow, leftFrom, leftRow, joinedRows, leftRows}
-
--- where a record comes from once one has left
-module _ (place i : ℕ) where
-  pub from-before : i < place → i ≡ leftFrom place i
-  from-before h = rw (lt-ltb i place h)
-
-  pub from-after : place ≤ i → i + 1 ≡ leftFrom place i
-  from-after h = rw (le-ltb i place h)
-
--- it is one of the records that there are
-pub from-within : (place i n : ℕ) → i < n → n ≤ mostTasks → (place < n → n < mostTasks) → leftFrom place i < mostTasks
-from-within place i n l few more =
-    by-le place i
-    (λ h. omega (arith, from-after place i h, more (omega arith)))
-    (λ h. omega (arith, from-before place i h))
-
-pub from-low : (place i n : ℕ) → i < n - 1 → leftFrom place i < n
-from-low place i n l =
-    by-le place i
-    (λ h. omega (arith, from-after place i h))
-    (λ h. omega (arith, from-before place i h))
+use Rattle.order.specs.Gone.{leftFrom}
+use Rattle.order.proofs.Gone.{from-before, from-after, from-low}
+use Rattle.keep.specs.Keep.{joinedRow, leftRow, joinedRows, leftRows}
 
 -- rows with zeros past them are their own first n, with zeros past them
 padded-again : (f : ℕ → Task) (n : ℕ) → n ≤ mostTasks

@@ -16,6 +16,7 @@ use Rattle.kinds.specs.Answer.{Handed, accepted, refused, check, handedWith}
 use Rattle.kinds.specs.Limits.{mostTasks}
 use Rattle.kinds.specs.Task.{at, noTask, table}
 use Rattle.admission.specs.Admission.{andThen, recordsGood}
+use Rattle.order.specs.Gone.{leftFrom}
 use Rattle.order.specs.Index.{indexUnder}
 use Rattle.keep.specs.declared.Kept.{Kept}
 use Rattle.keep.specs.declared.Changed.{Changed}
@@ -31,10 +32,7 @@ fresh w rows n = kept (table rows n) (indexUnder w rows n)
 abbrev pub joinedRow : List Task → ℕ → Task → ℕ → Task
 joinedRow rows n t i = pick (ltb i n) (at rows i) t
 
--- "or leaves from any place, and later records move down by one": where record i comes from, and which it is
-abbrev pub leftFrom : ℕ → ℕ → ℕ
-leftFrom place i = pick (ltb i place) i (i + 1)
-
+-- "or leaves from any place, and later records move down by one": record i afterwards
 abbrev pub leftRow : List Task → ℕ → ℕ → Task
 leftRow rows place i = at rows (leftFrom place i)
 

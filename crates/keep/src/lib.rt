@@ -1,19 +1,18 @@
 // Ask 6: tasks join and leave a table, beside which the index by saturation step is kept. The promises of `join` and `leave` are `joined`
-// and `left` of `specs/Keep`; what the functions hand each other is in `specs/Handover`.
+// and `left` of `specs/Keep`.
 use kinds::Index;
 use kinds::Refusal;
 use kinds::Table;
 use kinds::Task;
 use kinds::Verdict;
+use springs::Columns;
 ghost use mathlib.Core.Path.{_≡_};
 ghost use Prim.Native.Nat.{_+_, _≤_, _<_};
-ghost use lib.ListN.{length};
 ghost use Rattle.ground.specs.Folds.{listTo};
 ghost use Rattle.kinds.specs.Limits.{mostTasks};
 ghost use Rattle.kinds.specs.Task.{table, tableWith};
 ghost use Rattle.kinds.specs.Answer.{accepted, refused};
-ghost use Rattle.keep.specs.Keep.{kept, leftFrom, leftRow, joinedRows, joined, left, handedChange};
-ghost use Rattle.keep.specs.Handover.{JudgedUntil, ClosedUp};
+ghost use Rattle.keep.specs.Keep.{kept, leftRow, joinedRows, joined, left, handedChange};
 
 // A table, and beside it the index of its tasks. It is laid out as C lays it out.
 #[repr(C)]
@@ -48,14 +47,6 @@ fn accept(table: Table, index: Index) -> Changed
     }
 }
 
-// Where record i comes from once the record at a place has left.
-fn left_from(place: usize, i: usize) -> usize
-    requires { ⌜ i < mostTasks ⌝ }
-    ensures { λ r. ⌜ r ≡ leftFrom place i ⌝ }
-{
-    if i < place { i } else { i + 1 }
-}
-
 // The first n records of a table without the one at a place, and zeros past them.
 fn without(old: Table, place: usize, n: usize) -> Table
     requires { ⌜ (n ≤ mostTasks) × (place < n → n < mostTasks) ⌝ }
@@ -63,7 +54,7 @@ fn without(old: Table, place: usize, n: usize) -> Table
 {
     let mut rows = [Task::NONE; Table::MOST_TASKS];
     for i in 0..n {
-        let from = left_from(place, i);
+        let from = order::left_from(place, i);
         let row = old.rows[from];
         rows[i] = row;
     }
@@ -82,46 +73,6 @@ fn with(old: Table, task: Task) -> Table
     after
 }
 
-// The elasticities and saturation steps of a table, worked out once for a call into two lent columns, up to the first record that is not
-// good. Returns the number of that record, or how many there are.
-fn judge(
-    table: Table,
-    swap: u16,
-    notch: u16,
-    elasticity: &mut [u32; Table::MOST_TASKS],
-    saturation: &mut [u32; Table::MOST_TASKS],
-) -> usize
-    requires { ⌜ (table .n ≤ mostTasks) × (1 ≤ notch) × (length (now elasticity) ≡ mostTasks) × (length (now saturation) ≡ mostTasks) ⌝ }
-    ensures { λ r. ⌜ JudgedUntil swap notch (table .rows) (table .n) r (now (elasticity .exit)) (now (saturation .exit)) ⌝ }
-{
-    let mut largest = [0u32; Table::MOST_TASKS];
-    let mut least = [0u32; Table::MOST_TASKS];
-    let mut cost = [0u32; Table::MOST_TASKS];
-    let mut tmin = [0u32; Table::MOST_TASKS];
-    springs::springs_of(
-        table,
-        swap,
-        notch,
-        &mut largest,
-        &mut least,
-        elasticity,
-        saturation,
-        &mut cost,
-        &mut tmin,
-    )
-}
-
-// Moves the entries of a column that stand after a place down by one.
-fn close_up(column: &mut [u32; Table::MOST_TASKS], place: usize, n: usize)
-    requires { ⌜ (n ≤ mostTasks) × (place < n) × (length (now column) ≡ mostTasks) ⌝ }
-    ensures { λ _. ⌜ ClosedUp (now (column .entry)) place n (now (column .exit)) ⌝ }
-{
-    let last = n - 1;
-    for i in place..last {
-        column[i] = column[i + 1];
-    }
-}
-
 // Joins a task at the end of a table, where a swap costs so much and a notch is so wide.
 pub fn join(kept: Kept, swap: u16, notch: u16, task: Task) -> Changed
     ensures { λ r. ⌜ handedChange r ≡ joined swap notch kept task ⌝ }
@@ -135,13 +86,12 @@ pub fn join(kept: Kept, swap: u16, notch: u16, task: Task) -> Changed
         return refuse(kept, Refusal::TooManyTasks(n));
     }
     let after = with(old, task);
-    let mut elasticity = [0u32; Table::MOST_TASKS];
-    let mut saturation = [0u32; Table::MOST_TASKS];
-    let bad = judge(after, swap, notch, &mut elasticity, &mut saturation);
+    let mut block = [0u32; Columns::ROOM];
+    let bad = springs::springs_of(after, swap, notch, &mut block);
     if bad <= n {
         return refuse(kept, Refusal::BadRecord(bad));
     }
-    let index = order::index_of(&elasticity, &saturation, n + 1);
+    let index = order::index_of(&block, n + 1, n + 1);
     accept(after, index)
 }
 
@@ -157,18 +107,15 @@ pub fn leave(kept: Kept, swap: u16, notch: u16, place: usize) -> Changed
     if Table::MOST_TASKS < n {
         return refuse(kept, Refusal::TooManyTasks(n));
     }
-    let mut elasticity = [0u32; Table::MOST_TASKS];
-    let mut saturation = [0u32; Table::MOST_TASKS];
-    let bad = judge(old, swap, notch, &mut elasticity, &mut saturation);
+    let mut block = [0u32; Columns::ROOM];
+    let bad = springs::springs_of(old, swap, notch, &mut block);
     if bad < n {
         return refuse(kept, Refusal::BadRecord(bad));
     }
     if n <= place {
         return refuse(kept, Refusal::NoSuchRecord(place));
     }
-    close_up(&mut elasticity, place, n);
-    close_up(&mut saturation, place, n);
-    let index = order::index_of(&elasticity, &saturation, n - 1);
+    let index = order::index_of(&block, place, n - 1);
     let rest = without(old, place, n - 1);
     accept(rest, index)
 }

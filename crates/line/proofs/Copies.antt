@@ -1,6 +1,6 @@
 -- Bytes copied one by one to a place of a buffer, as `put_bytes` goes.
 -- Assumes nothing.
-use Rattle.ground.proofs.Kit.{ℕ, _+_, _≤_, _<_, List, _≡_, _∙_, ap, add-one, arith, length, getD, set, take}
+use Rattle.ground.proofs.Kit.{ℕ, _+_, _<_, List, _≡_, _∙_, ap, add-one, arith, length, getD, set, take}
 use native.Mathlib.Nat.{add-zero}
 use lib.Seq.{take-suc, take-all}
 use Rattle.field.specs.Handover.{Put}
@@ -18,7 +18,5 @@ module _ (old bytes : List ℕ) (at : ℕ) where
         let place : at + (i + 1) ≡ at + i + 1 = omega arith in
         rw (front, place) (put-then p (put-byte out (at + i) (getD bytes i 0)))
 
-    pub copied-all : i ≤ length bytes → length bytes ≤ i → Put old at (length bytes) bytes (at + i) out
-    copied-all a b =
-        let e : i ≡ length bytes = omega arith in
-        rw (← e) (rw (take-all i bytes b) at p)
+    pub copied-all : i ≡ length bytes → Put old at (length bytes) bytes (at + length bytes) out
+    copied-all e = rw (← e) (rw (take-all i bytes (omega arith)) at p)

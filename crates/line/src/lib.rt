@@ -12,12 +12,10 @@ pub fn put_bytes(out: &mut [u8], at: usize, bytes: &[u8]) -> usize
     requires { ⌜ at + length (now bytes) ≤ length (now out) ⌝ }
     ensures { λ r. ⌜ Put (now (out .entry)) at (length (now (bytes .entry))) (now (bytes .entry)) r (now (out .exit)) ⌝ }
 {
-    let mut i: usize = 0;
-    while i < bytes.len() {
+    for i in 0..bytes.len() {
         out[at + i] = bytes[i];
-        i += 1;
     }
-    at + i
+    at + bytes.len()
 }
 
 // Writes `refused N at P` and a newline; returns their length.

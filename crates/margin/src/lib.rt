@@ -3,6 +3,7 @@ use kinds::Margin;
 use kinds::Settings;
 use kinds::Table;
 use kinds::Verdict;
+use springs::Columns;
 ghost use mathlib.Core.Path.{_≡_};
 ghost use Rattle.kinds.specs.Answer.{handedMargin};
 ghost use Rattle.margin.specs.Margin.{marginHanded};
@@ -12,29 +13,17 @@ pub fn margin_at(table: Table, settings: Settings, step: u32) -> Margin
     ensures { λ r. ⌜ handedMargin r ≡ marginHanded settings (table .rows) (table .n) step ⌝ }
 {
     let n = table.n;
-    let mut shares = [0u32; Table::MOST_TASKS];
-    let mut least = [0u32; Table::MOST_TASKS];
-    let mut elasticity = [0u32; Table::MOST_TASKS];
-    let mut saturation = [0u32; Table::MOST_TASKS];
-    let mut cost = [0u32; Table::MOST_TASKS];
-    let mut tmin = [0u32; Table::MOST_TASKS];
-    let admission = admission::admit(
-        table,
-        settings,
-        false,
-        n,
-        &mut shares,
-        &mut least,
-        &mut elasticity,
-        &mut saturation,
-        &mut cost,
-        &mut tmin,
-    );
+    let mut block = [0u32; Columns::ROOM];
+    let gate = admission::gate_of(settings, false, n, n);
+    if let Verdict::Refused(refusal) = gate {
+        return Margin::Refused(refusal);
+    }
+    let bad = springs::springs_of(table, settings.swap, settings.notch, &mut block);
+    let admission = admission::judge(bad, n);
     let Verdict::Refused(refusal) = admission else {
         let asked = settings.policy;
-        springs::shares_at(&mut shares, &least, &elasticity, n, step);
-        springs::loads_of(settings, &cost, &tmin, &mut shares, n);
-        return Margin::Is(policy::margin_of(asked.meant(), settings.m, &shares, n));
+        springs::loads_at(settings, &mut block, n, step);
+        return Margin::Is(policy::margin_of(asked.meant(), settings.m, &block, n));
     };
     Margin::Refused(refusal)
 }

@@ -54,7 +54,7 @@ value-held v w (d ∷ ds) h = value-held (10 * v + (d - 48)) (10 * w + (d - 48))
 pub record Going (s : List ℕ) (at v i : ℕ) : Type 0 where
   pub place : pastDigits s i ≡ pastDigits s at
   pub value : held (valueFrom v (digitsAt s i)) ≡ held (valueAt s at)
-  pub low : v ≤ 4294967296
+  pub low : v ≤ mostNumber + 1
 
 module _ (s : List ℕ) (at : ℕ) where
   pub going-none : Going s at 0 at

@@ -70,7 +70,7 @@ fn is_digit(byte: u8) -> bool
 
 // The value with one digit more, held down, so that no run of digits is too long for it.
 fn grown(value: u64, byte: u8) -> u64
-    requires { ⌜ (value ≤ 4294967296) × (isDigit byte ≡ true) ⌝ }
+    requires { ⌜ (value ≤ mostNumber + 1) × (isDigit byte ≡ true) ⌝ }
     ensures { λ r. ⌜ r ≡ held (10 * value + (byte - 48)) ⌝ }
 {
     let next = 10 * value + (byte - 48) as u64;

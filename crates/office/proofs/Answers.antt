@@ -160,6 +160,3 @@ module _ (rows other : List Task) (n : ℕ) (agree : n ≤ mostTasks → (i : �
       let x = many-of rows n (length old) h in
       let y = many-of other n (length old) h in
       rw (x, y) (after-refused (TooManyTasks n) (textTo rows n) old ∙ sym (after-refused (TooManyTasks n) (textTo other n) old)))
-
-  pub exports-same : (old : List ℕ) (r : Counted) (new : List ℕ) → Exports rows n old r new → Exports other n old r new
-  exports-same old r new x = record { answer = x .answer ∙ handed-same (length old); output = x .output ∙ after-same old }

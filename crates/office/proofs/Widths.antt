@@ -14,6 +14,11 @@ pub number-long : (v end : ℕ) → length (numberThen v end) ≡ length (decima
 unfolding numberThen
 number-long v end = length-append (decimal v) (end ∷ [])
 
+pub line-sum : (t : Task) → length (lineOf t)
+    ≡ length (numberThen (t .c) comma) + length (numberThen (t .tmin) comma) + length (numberThen (t .tmax) comma) + length (numberThen (t .e) newline)
+unfolding lineOf
+line-sum t = simp length-append (omega arith)
+
 pub line-long : (t : Task) → length (lineOf t) ≡ length (decimal (t .c)) + length (decimal (t .tmin)) + length (decimal (t .tmax)) + length (decimal (t .e)) + 4
 unfolding lineOf
 line-long t = simp (length-append, number-long) (omega arith)

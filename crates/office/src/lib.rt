@@ -1,5 +1,5 @@
 // Task tables as the office keeps them: comma-separated text, a line for each task. `import` and `export` work on a table by value; the
-// calls over lent rows are those of `office_rows`. Contracts cite `specs/Text`, `specs/Reading` and `specs/Carrying`; the last laws of
+// calls over lent rows are those of `embed`. Contracts cite `specs/Text`, `specs/Reading` and `specs/Carrying`; the last laws of
 // `proofs/RoundTrip` are the two round trips.
 use kinds::Counted;
 use kinds::Refusal;
@@ -117,10 +117,8 @@ fn text_width(rows: [Task; Table::MOST_TASKS], n: usize) -> usize
     ensures { λ r. ⌜ Sized (textTo rows n) longestText r ⌝ }
 {
     let mut width: usize = 0;
-    let mut i: usize = 0;
-    while i < n {
+    for i in 0..n {
         width += line_width(rows[i]);
-        i += 1;
     }
     width
 }
@@ -152,10 +150,8 @@ fn put_text(out: &mut [u8], rows: [Task; Table::MOST_TASKS], n: usize) -> usize
     ensures { λ r. ⌜ Put (now (out .entry)) 0 (length (textTo rows n)) (textTo rows n) r (now (out .exit)) ⌝ }
 {
     let mut at: usize = 0;
-    let mut i: usize = 0;
-    while i < n {
+    for i in 0..n {
         at = put_line(out, at, rows[i]);
-        i += 1;
     }
     at
 }

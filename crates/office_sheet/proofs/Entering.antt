@@ -1,6 +1,6 @@
 -- What is written for the arguments and a text: the line of the first refusal, or the sheet.
 -- Assumes nothing.
-use Rattle.ground.proofs.Kit.{ℕ, _≤_, _<_, List, _++_, _≡_, refl, sym, _∙_, ap, arith, length, drop, le-leb, lt-leb}
+use Rattle.ground.proofs.Kit.{ℕ, _≤_, _<_, List, _++_, _≡_, refl, sym, _∙_, ap, arith, length, drop, lt-ltb, le-ltb}
 use Rattle.kinds.specs.declared.Refusal.{Refusal}
 use Rattle.kinds.specs.declared.Refusal.the-variants.{NoSuchPolicy, Misset}
 use Rattle.kinds.specs.declared.Sheet.{Sheet}
@@ -29,7 +29,7 @@ use Rattle.line.proofs.Fronts.{fronts}
 use Rattle.line.proofs.Lines.{line-of}
 use Rattle.office_sheet.specs.declared.Setting.{Setting}
 use Rattle.office_sheet.specs.declared.Setting.the-variants.{Is, Bad}
-use Rattle.office_sheet.specs.Written.{settingOf, handedSetting, sheetWith, enteredText, entered}
+use Rattle.office_sheet.specs.Written.{greatestSetting, settingOf, handedSetting, sheetWith, enteredText, entered}
 
 -- the cases of a setting
 module _ (argument : List ℕ) where
@@ -38,13 +38,13 @@ module _ (argument : List ℕ) where
   setting-bad e = rw e
 
   module _ (v next : ℕ) (e : numeralIn argument ≡ numeral.Is v next) where
-    pub setting-large : 65536 ≤ v → settingOf argument ≡ Bad
+    pub setting-large : greatestSetting < v → settingOf argument ≡ Bad
     unfolding settingOf
-    setting-large h = rw (e, le-leb 65536 v h)
+    setting-large h = rw (e, lt-ltb greatestSetting v h)
 
-    pub setting-is : v < 65536 → settingOf argument ≡ Is v
+    pub setting-is : v ≤ greatestSetting → settingOf argument ≡ Is v
     unfolding settingOf
-    setting-is h = rw (e, lt-leb 65536 v h)
+    setting-is h = rw (e, le-ltb greatestSetting v h)
 
 -- the arguments, one after the other
 module _ (policy processors text : List ℕ) where

@@ -2,7 +2,7 @@
 -- Assumes nothing.
 use Prim.Native.Nat.{ℕ}
 use mathlib.Core.List.{List}
-use lib.Dec.{leb}
+use lib.Dec.{ltb}
 use lib.ListN.{replicate}
 use Rattle.ground.specs.Choice.{pick}
 use Rattle.kinds.specs.declared.Refusal.{Refusal}
@@ -27,9 +27,13 @@ use Rattle.line.specs.Line.{orLine}
 use Rattle.office_sheet.specs.declared.Setting.{Setting}
 use Rattle.office_sheet.specs.declared.Setting.the-variants.{Is, Bad}
 
--- a number that a field of 2 bytes holds
+-- the greatest number that a field of 2 bytes holds
+abbrev pub greatestSetting : ℕ
+greatestSetting = 65535
+
+-- a number that such a field holds
 abbrev pub settingBy : Numeral → Setting
-settingBy (numeral.Is v next) = pick (leb 65536 v) Bad (Is v)
+settingBy (numeral.Is v next) = pick (ltb greatestSetting v) Bad (Is v)
 settingBy numeral.Bad = Bad
 
 unfoldable pub settingOf : List ℕ → Setting

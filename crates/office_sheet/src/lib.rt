@@ -25,6 +25,11 @@ pub enum Setting {
     Bad,
 }
 
+impl Setting {
+    // The greatest number that a field of 2 bytes holds.
+    pub const GREATEST: u32 = 65_535;
+}
+
 // The setting whose number is an argument's whole text.
 pub fn setting_of(argument: &[u8]) -> Setting
     ensures { λ r. ⌜ r ≡ settingOf (now (argument .entry)) ⌝ }
@@ -32,7 +37,7 @@ pub fn setting_of(argument: &[u8]) -> Setting
     let Numeral::Is(number, _) = numeral::numeral_in(argument) else {
         return Setting::Bad;
     };
-    if 65_536 <= number {
+    if Setting::GREATEST < number {
         return Setting::Bad;
     }
     Setting::Is(number as u16)

@@ -1,3 +1,4 @@
 pub mod Order
 pub mod Index
+pub mod Gone
 pub mod Handover

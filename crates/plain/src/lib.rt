@@ -1,59 +1,42 @@
 // The plain finder: it tests the policy at step 0, 1, 2, … to full compression, on the loads of the settings' edition. The springs are worked
-// out once for a call, and under edition 1 the shares stand in a column that is let down from step to step. Contracts cite `specs/Handover`;
-// the promise of `find` is `outcome true` of `plan`.
+// out once for a call, and under edition 1 the shares are let down from step to step. Contracts cite `specs/Handover`; the promise of `find` is
+// `outcome true` of `plan`.
 use ground::Step;
 use kinds::Answer;
 use kinds::Policy;
 use kinds::Settings;
 use kinds::Table;
 use kinds::Verdict;
+use springs::Columns;
 ghost use mathlib.Core.Bool.{true};
 ghost use mathlib.Core.Path.{_≡_};
 ghost use Prim.Native.Nat.{_≤_};
-ghost use lib.ListN.{length};
 ghost use Rattle.kinds.specs.Answer.{handed};
-ghost use Rattle.kinds.specs.Limits.{mostTasks, mostProcessors};
+ghost use Rattle.kinds.specs.Limits.{mostProcessors};
 ghost use Rattle.kinds.specs.Policy.{meant, Served};
-ghost use Rattle.springs.specs.Spring.{sharesOn};
-ghost use Rattle.springs.specs.Columns.{columns, springIn, chargesOn, loadsOn};
-ghost use Rattle.springs.specs.Handover.{Roomy, Chargeable};
+ghost use Rattle.springs.specs.Spring.{sharesOn, chargesOn, loadsOn};
+ghost use Rattle.springs.specs.Columns.{springIn};
+ghost use Rattle.springs.specs.Handover.{Springy, Chargeable};
 ghost use Rattle.plan.specs.Plan.{found, outcome, Meets};
-ghost use Rattle.plan.specs.Handover.{FoundHeld};
-ghost use Rattle.plain.specs.Handover.{Searchable, leastOf, StepHeld};
+ghost use Rattle.plain.specs.Handover.{Searchable, MaySearch, Searched, SearchedIn};
 
 // The periods and processors of the least passing step, written to the two lent outputs, or the refusal, which writes nothing.
 pub fn find(table: Table, settings: Settings, periods: &mut [u32], processors: &mut [u16]) -> Answer
     ensures { λ r. ⌜ Meets (outcome true settings (table .rows) (table .n) (now (periods .entry)) (now (processors .entry))) r
         (now (periods .exit)) (now (processors .exit)) ⌝ }
 {
-    let mut shares = [0u32; Table::MOST_TASKS];
-    let mut least = [0u32; Table::MOST_TASKS];
-    let mut elasticity = [0u32; Table::MOST_TASKS];
-    let mut saturation = [0u32; Table::MOST_TASKS];
-    let mut cost = [0u32; Table::MOST_TASKS];
-    let mut tmin = [0u32; Table::MOST_TASKS];
     let n = table.n;
-    let answer = decide_in(
-        table,
-        settings,
-        ground::shorter(periods.len(), processors.len()),
-        &mut shares,
-        &mut least,
-        &mut elasticity,
-        &mut saturation,
-        &mut cost,
-        &mut tmin,
-    );
-    plan::grant(
-        answer,
-        settings,
-        &cost,
-        &tmin,
-        &mut shares,
-        n,
-        periods,
-        processors,
-    );
+    let room = ground::shorter(periods.len(), processors.len());
+    let mut block = [0u32; Columns::ROOM];
+    let gate = admission::gate_of(settings, true, n, room);
+    let Verdict::Accepted = gate else {
+        return plan::decide(gate, Step::Nothing);
+    };
+    let bad = springs::springs_of(table, settings.swap, settings.notch, &mut block);
+    let admission = admission::judge(bad, n);
+    let step = step_in(admission, settings, &mut block, n);
+    let answer = plan::decide(admission, step);
+    plan::grant(answer, settings, &mut block, n, periods, processors);
     answer
 }
 
@@ -61,105 +44,45 @@ pub fn find(table: Table, settings: Settings, periods: &mut [u32], processors: &
 pub fn decide(table: Table, settings: Settings, room: usize) -> Answer
     ensures { λ r. ⌜ handed r ≡ found true settings (table .rows) (table .n) room ⌝ }
 {
-    let mut shares = [0u32; Table::MOST_TASKS];
-    let mut least = [0u32; Table::MOST_TASKS];
-    let mut elasticity = [0u32; Table::MOST_TASKS];
-    let mut saturation = [0u32; Table::MOST_TASKS];
-    let mut cost = [0u32; Table::MOST_TASKS];
-    let mut tmin = [0u32; Table::MOST_TASKS];
-    decide_in(
-        table,
-        settings,
-        room,
-        &mut shares,
-        &mut least,
-        &mut elasticity,
-        &mut saturation,
-        &mut cost,
-        &mut tmin,
-    )
-}
-
-// The same in lent columns: of an acceptance the first holds the shares of its step, the last two the costs and the shortest periods.
-fn decide_in(
-    table: Table,
-    settings: Settings,
-    room: usize,
-    shares: &mut [u32; Table::MOST_TASKS],
-    least: &mut [u32; Table::MOST_TASKS],
-    elasticity: &mut [u32; Table::MOST_TASKS],
-    saturation: &mut [u32; Table::MOST_TASKS],
-    cost: &mut [u32; Table::MOST_TASKS],
-    tmin: &mut [u32; Table::MOST_TASKS],
-) -> Answer
-    requires { ⌜ Roomy (columns (now shares) (now least) (now elasticity) (now saturation) (now cost) (now tmin)) ⌝ }
-    ensures { λ r. ⌜ FoundHeld true settings (table .rows) (table .n) room r (now (cost .exit)) (now (tmin .exit)) (now (shares .exit)) ⌝ }
-{
-    let admission = admission::admit(
-        table,
-        settings,
-        true,
-        room,
-        shares,
-        least,
-        elasticity,
-        saturation,
-        cost,
-        tmin,
-    );
-    let Verdict::Accepted = admission else {
-        return plan::decide(admission, Step::Nothing);
+    let n = table.n;
+    let mut block = [0u32; Columns::ROOM];
+    let gate = admission::gate_of(settings, true, n, room);
+    let Verdict::Accepted = gate else {
+        return plan::decide(gate, Step::Nothing);
     };
-    let step = least_step(
-        settings,
-        shares,
-        least,
-        elasticity,
-        saturation,
-        cost,
-        tmin,
-        table.n,
-    );
-    plan::decide(admission, step)
+    let bad = springs::springs_of(table, settings.swap, settings.notch, &mut block);
+    let admission = admission::judge(bad, n);
+    plan::decide(admission, step_in(admission, settings, &mut block, n))
 }
 
-// The least step from 0 to full compression that passes on the loads of the settings' edition. The column of the largest shares is let down
-// to those of that step.
-fn least_step(
+// The least step of an admitted call, on the springs in the block. A refused one has none.
+fn step_in(
+    admission: Verdict,
     settings: Settings,
-    shares: &mut [u32; Table::MOST_TASKS],
-    least: &[u32; Table::MOST_TASKS],
-    elasticity: &[u32; Table::MOST_TASKS],
-    saturation: &[u32; Table::MOST_TASKS],
-    cost: &[u32; Table::MOST_TASKS],
-    tmin: &[u32; Table::MOST_TASKS],
+    block: &mut [u32; Columns::ROOM],
     n: usize,
 ) -> Step
-    requires { ⌜ (length (now shares) ≡ mostTasks) × Chargeable (settings .notch) (now shares) (now least) (now elasticity) (now cost) (now tmin) n
-        × (1 ≤ settings .m) × (settings .m ≤ mostProcessors) × Served (meant (settings .policy)) ⌝ }
-    ensures { λ r. ⌜ StepHeld (meant (settings .policy)) (settings .m) (loadsOn settings (now (cost .entry)) (now (tmin .entry))
-        (springIn (now (shares .entry)) (now (least .entry)) (now (elasticity .entry))))
-        (springIn (now (shares .entry)) (now (least .entry)) (now (elasticity .entry))) (now (saturation .entry)) n r (now (shares .exit)) ⌝ }
+    requires { ⌜ MaySearch admission settings (now block) n ⌝ }
+    ensures { λ r. ⌜ SearchedIn admission settings n r (now (block .entry)) (now (block .exit)) ⌝ }
+{
+    let Verdict::Accepted = admission else {
+        return Step::Nothing;
+    };
+    least_step(settings, block, n)
+}
+
+// The least step from 0 to full compression that passes on the loads of the settings' edition.
+fn least_step(settings: Settings, block: &mut [u32; Columns::ROOM], n: usize) -> Step
+    requires { ⌜ Searchable settings (now block) n ⌝ }
+    ensures { λ r. ⌜ Searched (meant (settings .policy)) (settings .m) (loadsOn settings (springIn (now (block .entry)))) n r
+        (now (block .entry)) (now (block .exit)) ⌝ }
 {
     let asked = settings.policy;
     let policy = asked.meant();
     if settings.tests_charge() {
-        let step = least_charged(
-            policy,
-            settings.m,
-            settings.notch,
-            shares,
-            least,
-            elasticity,
-            saturation,
-            cost,
-            tmin,
-            n,
-        );
-        springs::let_down_to(step, shares, least, elasticity, n);
-        return step;
+        return least_charged(policy, settings.m, settings.notch, block, n);
     }
-    least_shared(policy, settings.m, shares, least, elasticity, saturation, n)
+    least_shared(policy, settings.m, block, n)
 }
 
 // Edition 2: the least step that passes on the charges.
@@ -167,35 +90,16 @@ fn least_charged(
     policy: Policy,
     m: u16,
     notch: u16,
-    largest: &[u32; Table::MOST_TASKS],
-    least: &[u32; Table::MOST_TASKS],
-    elasticity: &[u32; Table::MOST_TASKS],
-    saturation: &[u32; Table::MOST_TASKS],
-    cost: &[u32; Table::MOST_TASKS],
-    tmin: &[u32; Table::MOST_TASKS],
+    block: &mut [u32; Columns::ROOM],
     n: usize,
 ) -> Step
-    requires { ⌜ Chargeable notch (now largest) (now least) (now elasticity) (now cost) (now tmin) n × (1 ≤ m) × (m ≤ mostProcessors) × Served policy ⌝ }
-    ensures { λ r. ⌜ r ≡ leastOf policy m (chargesOn notch (now (cost .entry)) (now (tmin .entry))
-        (springIn (now (largest .entry)) (now (least .entry)) (now (elasticity .entry)))) (now (saturation .entry)) n ⌝ }
+    requires { ⌜ Chargeable notch (now block) n × (1 ≤ m) × (m ≤ mostProcessors) × Served policy ⌝ }
+    ensures { λ r. ⌜ Searched policy m (chargesOn notch (springIn (now (block .entry)))) n r (now (block .entry)) (now (block .exit)) ⌝ }
 {
-    let last = springs::full_compression(saturation, n);
-    let mut charges = [0u32; Table::MOST_TASKS];
+    let last = springs::full_compression(block, n);
     let mut step: u32 = 0;
     loop {
-        if policy::passes_charged(
-            policy,
-            m,
-            notch,
-            largest,
-            least,
-            elasticity,
-            cost,
-            tmin,
-            n,
-            step,
-            &mut charges,
-        ) {
+        if policy::passes_charged(policy, m, notch, block, n, step) {
             return Step::At(step);
         }
         if last <= step {
@@ -205,32 +109,23 @@ fn least_charged(
     }
 }
 
-// Edition 1: the least step that passes on the shares, to which the column of the largest shares is let down from step to step.
-fn least_shared(
-    policy: Policy,
-    m: u16,
-    shares: &mut [u32; Table::MOST_TASKS],
-    least: &[u32; Table::MOST_TASKS],
-    elasticity: &[u32; Table::MOST_TASKS],
-    saturation: &[u32; Table::MOST_TASKS],
-    n: usize,
-) -> Step
-    requires { ⌜ Searchable (now shares) (now least) (now elasticity) n × (1 ≤ m) × (m ≤ mostProcessors) × Served policy ⌝ }
-    ensures { λ r. ⌜ StepHeld policy m (sharesOn (springIn (now (shares .entry)) (now (least .entry)) (now (elasticity .entry))))
-        (springIn (now (shares .entry)) (now (least .entry)) (now (elasticity .entry))) (now (saturation .entry)) n r (now (shares .exit)) ⌝ }
+// Edition 1: the least step that passes on the shares, which are let down from step to step.
+fn least_shared(policy: Policy, m: u16, block: &mut [u32; Columns::ROOM], n: usize) -> Step
+    requires { ⌜ Springy (now block) n × (1 ≤ m) × (m ≤ mostProcessors) × Served policy ⌝ }
+    ensures { λ r. ⌜ Searched policy m (sharesOn (springIn (now (block .entry)))) n r (now (block .entry)) (now (block .exit)) ⌝ }
 {
-    let full = springs::full_compression(saturation, n);
-    let total = policy::total_of(shares, n);
-    let mut sum = total.sum;
+    let full = springs::full_compression(block, n);
+    let most = policy::most_sum(policy, m, n);
+    let mut sum = springs::shares_at(block, n, 0);
     let mut k: u32 = 0;
     loop {
-        if policy::passes_summed(policy, m, shares, n, sum) {
+        if policy::passes_summed(policy, m, block, n, sum, most) {
             return Step::At(k);
         }
         if full <= k {
             return Step::Nothing;
         }
-        sum = springs::next_shares(shares, least, elasticity, n);
+        sum = springs::next_shares(block, n);
         k += 1;
     }
 }

@@ -14,21 +14,21 @@ use Rattle.kinds.specs.declared.Refusal.the-variants.{NoStepPasses}
 use Rattle.kinds.specs.Answer.{Handed, accepted, handed, isAccepted, stepOf, after}
 use Rattle.kinds.specs.Policy.{meant}
 use Rattle.kinds.proofs.Answers.{not-refused}
-use Rattle.kinds.specs.Task.{at}
-use Rattle.share.proofs.Charges.{load-most}
 use Rattle.share.proofs.Tables.{all-good, all-on}
-use Rattle.springs.specs.Columns.{periodIn, loadBy}
-use Rattle.springs.proofs.Columns.{held-allowed, held-periods}
-use Rattle.springs.proofs.Charged.{held-loads}
+use Rattle.springs.specs.Spring.{periodsOn, loadsOn}
+use Rattle.springs.specs.Columns.{springIn}
+use Rattle.springs.proofs.Blocks.{loads-are, periods-are, sprung-chargeable}
 use Rattle.policy.specs.Under.{rowsUnder, loadsUnder, leastUnder}
 use Rattle.policy.proofs.Demand.{step-at}
+use Rattle.policy.proofs.Tests.{passes-same}
 use Rattle.kinds.specs.declared.Verdict as verdict
-use Rattle.admission.specs.Admission.{admission}
+use Rattle.admission.specs.Admission.{gateOf, admission}
+use Rattle.admission.proofs.Opened.{refused-gate}
 use Rattle.admission.proofs.Chain.{Ready, admitted, not-admitted, Unlike, admission-unlike}
 use Rattle.plan.specs.Plan.{processorOn, processorsAt, periodsUnder, processorsUnder, decided, periodsAfter, processorsAfter, found, outcome, Meets}
-use Rattle.plan.specs.Handover.{FoundHeld, Leaves, MayGrant}
-use Rattle.plan.proofs.Processors.{processors-same, placeable-same}
-use Rattle.plan.proofs.Writing.{written-same, step-handed}
+use Rattle.plan.specs.Handover.{FoundSprung, Leaves, MayGrant}
+use Rattle.plan.proofs.Processors.{processors-same}
+use Rattle.plan.proofs.Writing.{written-kept, written-same}
 
 -- an acceptance was admitted, and its step is the least that passes
 pub decided-accepted : (a : verdict.Verdict) (step : Step) (k : ℕ) → accepted k ≡ decided a step → (a ≡ verdict.the-variants.Accepted) × (step ≡ At k)
@@ -43,10 +43,10 @@ answered-at (Accepted k) a step e t = decided-accepted a step k e .1
 answered-at (Refused r) a step e t = true-false t refl
 
 -- a refused admission is no acceptance
-pub refused-held : {A : Type 0} (answer : Answer) (a : verdict.Verdict) (step : Step) (r : Refusal) → handed answer ≡ decided a step
+pub refused-sprung : {A : Type 0} (answer : Answer) (a : verdict.Verdict) (step : Step) (r : Refusal) → handed answer ≡ decided a step
     → a ≡ verdict.the-variants.Refused r → isAccepted answer ≡ true → A
-refused-held (Accepted k) a step r e q t = not-admitted a q (decided-accepted a step k e .0)
-refused-held (Refused x) a step r e q t = true-false t refl
+refused-sprung (Accepted k) a step r e q t = not-admitted a q (decided-accepted a step k e .0)
+refused-sprung (Refused x) a step r e q t = true-false t refl
 
 -- no admission refuses by 7, so 7 comes from the search for a step
 pub decided-seven : (a : verdict.Verdict) (step : Step) → Unlike 7 a → decided a step .number ≡ 7
@@ -71,10 +71,10 @@ accepting serves s rows n room k e =
     record { ready = admitted serves s rows n room (d .0); step = d .1 }
 
 -- what the writing of a plan relies on, for outputs of which the shorter has the room
-pub may-grant : (serves : Bool) (answer : Answer) (s : Settings) (rows : List Task) (n a b : ℕ) (cost tmin shares : List ℕ)
-    → FoundHeld serves s rows n (min a b) answer cost tmin shares → MayGrant answer s cost tmin shares n a b
-may-grant serves (Refused r) s rows n a b cost tmin shares f t = true-false t refl
-may-grant serves (Accepted k) s rows n a b cost tmin shares f t =
+pub may-grant : (serves : Bool) (answer : Answer) (s : Settings) (rows : List Task) (n a b : ℕ) (block : List ℕ)
+    → FoundSprung serves s rows n (min a b) answer block → MayGrant answer s block n a b
+may-grant serves (Refused r) s rows n a b block f t = true-false t refl
+may-grant serves (Accepted k) s rows n a b block f t =
     let g = accepting serves s rows n (min a b) k (f .answers) in
     let p = g .ready .passed in
     let paid = rowsUnder s rows n in
@@ -82,18 +82,14 @@ may-grant serves (Accepted k) s rows n a b cost tmin shares f t =
     let on = all-on (s .swap) (s .notch) rows n (g .ready .none-bad) (g .ready .notched) in
     let passing = step-at (meant (s .policy)) (s .m) (loadsUnder s rows n) n _ k (g .step) .passes in
     record {
-      allowed = held-allowed paid n k cost tmin shares (f .held t) (s .notch) (g .ready .notched) good on;
-      long = f .long t;
-      roomy = omega (arith, p .roomy);
+      periods-roomy = omega (arith, p .roomy);
+      processors-roomy = omega (arith, p .roomy);
       placeable =
-          placeable-same (meant (s .policy)) (s .m) (loadBy s cost tmin shares) (loadsUnder s rows n k) n (held-loads s paid n k cost tmin shares (f .held t)) b
-          (record {
-            few = p .few;
-            most = λ i l. load-most s (at paid i) (good i l) (on i l) k;
+          record {
+            chargeable = sprung-chargeable paid n block (f .sprung t) (p .few) good (s .notch) on;
             m-most = p .m-most;
-            roomy = omega (arith, p .roomy);
-            passing = passing;
-          });
+            passing = passes-same (meant (s .policy)) (s .m) _ (loadsUnder s rows n k) n (loads-are paid n block (f .sprung t) s k) ∙ passing;
+          };
     }
 
 -- as a finder works it out: without a step where the admission refuses, else with the least one
@@ -106,28 +102,48 @@ module _ (serves : Bool) (s : Settings) (rows : List Task) (n room : ℕ) (a : v
   unfolding found
   admitted-found step e = rw (is, e)
 
--- an answer that is found, with what it leaves in the outputs, meets the outcome
-module _ (serves : Bool) (answer : Answer) (s : Settings) (rows : List Task) (n : ℕ) (cost tmin shares periods processors : List ℕ)
-    (f : FoundHeld serves s rows n (min (length periods) (length processors)) answer cost tmin shares) where
-  periods-left : after (handed answer) (listTo (periodIn (s .notch) cost tmin shares) n) n periods ≡ periodsAfter (handed answer) s rows n periods
-  periods-left =
-      written-same answer _ _ n periods
-      (λ t. held-periods (rowsUnder s rows n) n (stepOf answer) cost tmin shares (f .held t) (s .notch)
-      ∙ ap (periodsUnder s rows n) (step-handed answer))
+-- a call that is refused at the gate is found refused, and leaves the outputs as they are
+module _ (serves : Bool) (s : Settings) (rows : List Task) (n room : ℕ) (answer : Answer) (r : Refusal) (g : gateOf serves s n room ≡ verdict.the-variants.Refused r)
+    (e : handed answer ≡ decided (verdict.the-variants.Refused r) Nothing) where
+  pub gate-found : handed answer ≡ found serves s rows n room
+  gate-found = e ∙ refused-found serves s rows n room (verdict.the-variants.Refused r) (refused-gate serves s rows n room r g) r Nothing refl
 
-  processors-left : after (handed answer) (listTo (processorOn (meant (s .policy)) (s .m) (loadBy s cost tmin shares)) n) n processors
+  pub gate-refused : isAccepted answer ≡ true → ⊥
+  gate-refused t = refused-sprung answer (verdict.the-variants.Refused r) Nothing r e refl t
+
+pub meets-refused : (serves : Bool) (s : Settings) (rows : List Task) (n : ℕ) (periods processors : List ℕ) (answer : Answer)
+    → handed answer ≡ found serves s rows n (min (length periods) (length processors)) → (isAccepted answer ≡ true → ⊥)
+    → Meets (outcome serves s rows n periods processors) answer periods processors
+unfolding outcome
+meets-refused serves s rows n periods processors (Accepted k) e no-plan = absurd (no-plan refl)
+meets-refused serves s rows n periods processors (Refused r) e no-plan =
+    record {
+      answers = e;
+      grants = rw (← e) (sym (written-kept (Refused r) (periodsUnder s rows n 0) n periods refl));
+      places = rw (← e) (sym (written-kept (Refused r) (processorsUnder s rows n 0) n processors refl));
+    }
+
+-- an answer that is found, with what it leaves in the outputs, meets the outcome
+module _ (serves : Bool) (answer : Answer) (s : Settings) (rows : List Task) (n : ℕ) (block periods processors : List ℕ)
+    (f : FoundSprung serves s rows n (min (length periods) (length processors)) answer block) where
+  k : ℕ
+  k = handed answer .value
+
+  periods-left : after (handed answer) (listTo (periodsOn (s .notch) (springIn block) k) n) n periods ≡ periodsAfter (handed answer) s rows n periods
+  unfolding k
+  periods-left = written-same answer _ _ n periods (λ t. periods-are (rowsUnder s rows n) n block (f .sprung t) (s .notch) k)
+
+  processors-left : after (handed answer) (listTo (processorOn (meant (s .policy)) (s .m) (loadsOn s (springIn block) k)) n) n processors
       ≡ processorsAfter (handed answer) s rows n processors
-  unfolding processorsAt
+  unfolding k processorsAt
   processors-left =
       written-same answer _ _ n processors
-      (λ t. processors-same (meant (s .policy)) (s .m) (loadBy s cost tmin shares) (loadsUnder s rows n (stepOf answer)) n
-      (held-loads s (rowsUnder s rows n) n (stepOf answer) cost tmin shares (f .held t))
-      ∙ ap (processorsUnder s rows n) (step-handed answer))
+      (λ t. processors-same (meant (s .policy)) (s .m) _ (loadsUnder s rows n k) n (loads-are (rowsUnder s rows n) n block (f .sprung t) s k))
 
   pub meets : (new-periods new-processors : List ℕ)
-      → Leaves (handed answer) s cost tmin shares n periods processors new-periods new-processors
+      → Leaves (handed answer) s (springIn block) n periods processors new-periods new-processors
       → Meets (outcome serves s rows n periods processors) answer new-periods new-processors
-  unfolding outcome
+  unfolding k outcome
   meets new-periods new-processors l =
       let e = f .answers in
       let grants = l .periods-are ∙ periods-left in

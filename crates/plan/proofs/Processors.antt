@@ -12,9 +12,8 @@ use Rattle.fit.specs.Fit.{placeAt, stuckAt, fits, placesTo}
 use Rattle.fit.specs.Handover.{FitIs}
 use Rattle.fit.proofs.Placing.{place-same}
 use Rattle.policy.specs.Passing.{passes}
-use Rattle.policy.proofs.Tests.{first-fit-passes, passes-same}
+use Rattle.policy.proofs.Tests.{first-fit-passes}
 use Rattle.plan.specs.Plan.{processorOn}
-use Rattle.plan.specs.Handover.{Placeable}
 
 module _ (p : Policy) (m : ℕ) (load : ℕ → ℕ) (n : ℕ) where
   pub trial-processors : (trial : Fit) → isFirstFit p ≡ true → passes p m load n ≡ true → FitIs m load n trial
@@ -36,14 +35,3 @@ module _ (p : Policy) (m : ℕ) (f g : ℕ → ℕ) (n : ℕ) (same : (i : ℕ) 
   pub processors-same : listTo (processorOn p m f) n ≡ listTo (processorOn p m g) n
   processors-same =
       list-cong (processorOn p m f) (processorOn p m g) n (λ i l. ap (λ (x : ℕ). pick (isFirstFit p) (x + 1) 0) (place-same m f g n same i l))
-
-  -- and so does whether they may be written
-  pub placeable-same : (room : ℕ) → Placeable p m g n room → Placeable p m f n room
-  placeable-same room x =
-      record {
-        few = x .few;
-        most = λ i l. omega (arith, same i l, x .most i l);
-        m-most = x .m-most;
-        roomy = x .roomy;
-        passing = passes-same p m f g n same ∙ x .passing;
-      }

@@ -6,23 +6,20 @@ use Rattle.ground.proofs.Cases.{by-bool, true-false}
 use Rattle.kinds.specs.declared.Settings.{Settings}
 use Rattle.kinds.specs.declared.Answer.{Answer}
 use Rattle.kinds.specs.declared.Answer.the-variants.{Accepted, Refused}
-use Rattle.kinds.specs.Answer.{handed, isAccepted, stepOf, after}
+use Rattle.kinds.specs.declared.Refusal.{Refusal}
+use Rattle.kinds.specs.Answer.{handed, isAccepted, after}
 use Rattle.kinds.specs.Policy.{meant}
 use Rattle.kinds.specs.Refusal.{numberOf}
 use Rattle.kinds.proofs.Refusals.{refusal-numbered}
-use Rattle.springs.specs.Columns.{periodIn, loadBy}
+use Rattle.springs.specs.declared.Spring.{Spring}
+use Rattle.springs.specs.Spring.{periodsOn, loadsOn}
 use Rattle.plan.specs.Plan.{processorOn}
-use Rattle.plan.specs.Handover.{Leaves}
+use Rattle.plan.specs.Handover.{MayGrant, Grantable, Leaves}
 
 -- a refused call writes nothing
 pub written-kept : (a : Answer) (front : List ℕ) (n : ℕ) (old : List ℕ) → isAccepted a ≡ false → after (handed a) front n old ≡ old
 written-kept (Accepted k) front n old e = true-false refl e
 written-kept (Refused r) front n old e = rw (ne-eqb (numberOf r) 0 (λ z. omega (arith, refusal-numbered r)))
-
--- an accepted one writes the front
-pub written-front : (a : Answer) (front : List ℕ) (n : ℕ) (old : List ℕ) → isAccepted a ≡ true → after (handed a) front n old ≡ front ++ drop n old
-written-front (Accepted k) front n old t = refl
-written-front (Refused r) front n old t = true-false t refl
 
 -- so what stands there depends on the front of an acceptance only
 pub written-same : (a : Answer) (f g : List ℕ) (n : ℕ) (old : List ℕ) → (isAccepted a ≡ true → f ≡ g) → after (handed a) f n old ≡ after (handed a) g n old
@@ -31,30 +28,25 @@ written-same a f g n old h =
     (λ t. ap (λ (l : List ℕ). after (handed a) l n old) (h t))
     (λ e. written-kept a f n old e ∙ sym (written-kept a g n old e))
 
--- the step of an acceptance is what is handed back; that of a refusal is 0
-pub step-handed : (a : Answer) → stepOf a ≡ handed a .value
-step-handed (Accepted k) = refl
-step-handed (Refused r) = refl
+module _ (answer : Answer) (s : Settings) (n : ℕ) where
+  -- an acceptance of step k may be granted there
+  pub granted-at : (block : List ℕ) (k a b : ℕ) → answer ≡ Accepted k → MayGrant answer s block n a b → Grantable s block n k a b
+  granted-at block k a b e may =
+      let at-step : MayGrant (Accepted k) s block n a b = rw e at may in
+      at-step refl
 
-module _ (a : Answer) (s : Settings) (cost tmin shares : List ℕ) (n : ℕ) (periods processors : List ℕ) where
-  abbrev periods-front : List ℕ
-  periods-front = listTo (periodIn (s .notch) cost tmin shares) n
+  module _ (springs : ℕ → Spring) (periods processors : List ℕ) where
+    pub leaves-refused : (r : Refusal) → answer ≡ Refused r → Leaves (handed answer) s springs n periods processors periods processors
+    leaves-refused r e =
+        let placed = listTo (processorOn (meant (s .policy)) (s .m) (loadsOn s springs 0)) n in
+        rw e
+        (record {
+          periods-are = sym (written-kept (Refused r) (listTo (periodsOn (s .notch) springs 0) n) n periods refl);
+          processors-are = sym (written-kept (Refused r) placed n processors refl);
+        })
 
-  abbrev processors-front : List ℕ
-  processors-front = listTo (processorOn (meant (s .policy)) (s .m) (loadBy s cost tmin shares)) n
-
-  pub leaves-refused : isAccepted a ≡ false → Leaves (handed a) s cost tmin shares n periods processors periods processors
-  leaves-refused e =
-      record {
-        periods-are = sym (written-kept a periods-front n periods e);
-        processors-are = sym (written-kept a processors-front n processors e);
-      }
-
-  pub leaves-accepted : (new-periods new-processors : List ℕ) → isAccepted a ≡ true
-      → new-periods ≡ periods-front ++ drop n periods → new-processors ≡ processors-front ++ drop n processors
-      → Leaves (handed a) s cost tmin shares n periods processors new-periods new-processors
-  leaves-accepted new-periods new-processors t f g =
-      record {
-        periods-are = f ∙ sym (written-front a periods-front n periods t);
-        processors-are = g ∙ sym (written-front a processors-front n processors t);
-      }
+    pub leaves-accepted : (k : ℕ) (new-periods new-processors : List ℕ) → answer ≡ Accepted k
+        → new-periods ≡ listTo (periodsOn (s .notch) springs k) n ++ drop n periods
+        → new-processors ≡ listTo (processorOn (meant (s .policy)) (s .m) (loadsOn s springs k)) n ++ drop n processors
+        → Leaves (handed answer) s springs n periods processors new-periods new-processors
+    leaves-accepted k new-periods new-processors e f g = rw e (record { periods-are = f; processors-are = g })

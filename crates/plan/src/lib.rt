@@ -2,11 +2,11 @@
 // settles a finder's call whole, and `specs/Handover`.
 use ground::Step;
 use kinds::Answer;
-use kinds::Policy;
 use kinds::Refusal;
 use kinds::Settings;
 use kinds::Table;
 use kinds::Verdict;
+use springs::Columns;
 ghost use mathlib.Core.List.{_++_};
 ghost use mathlib.Core.Path.{_≡_};
 ghost use Prim.Native.Nat.{ℕ, _≤_};
@@ -14,9 +14,10 @@ ghost use lib.ListN.{length, getD, drop};
 ghost use Rattle.ground.specs.Folds.{listTo};
 ghost use Rattle.kinds.specs.Answer.{handed};
 ghost use Rattle.kinds.specs.Limits.{mostTasks};
-ghost use Rattle.springs.specs.Columns.{periodIn};
-ghost use Rattle.springs.specs.Handover.{Allowed};
-ghost use Rattle.fit.specs.Fit.{loadIn};
+ghost use Rattle.kinds.specs.Policy.{meant};
+ghost use Rattle.springs.specs.Spring.{periodsOn, loadsOn};
+ghost use Rattle.springs.specs.Columns.{springIn};
+ghost use Rattle.springs.specs.Handover.{Chargeable};
 ghost use Rattle.plan.specs.Plan.{decided, processorOn};
 ghost use Rattle.plan.specs.Handover.{Placeable, MayGrant, Leaves};
 
@@ -40,21 +41,13 @@ fn stepped(step: Step) -> Answer
     }
 }
 
-// Writes the period, on a notch, that its share allows each of n tasks with these costs and shortest periods, and nothing past them.
-fn write_periods(
-    notch: u16,
-    cost: &[u32; Table::MOST_TASKS],
-    tmin: &[u32; Table::MOST_TASKS],
-    shares: &[u32; Table::MOST_TASKS],
-    n: usize,
-    out: &mut [u32],
-)
-    requires { ⌜ (n ≤ mostTasks) × (n ≤ length (now out)) × Allowed notch (now cost) (now tmin) (now shares) n ⌝ }
-    ensures { λ _. ⌜ now (out .exit)
-        ≡ listTo (periodIn notch (now (cost .entry)) (now (tmin .entry)) (now (shares .entry))) n ++ drop n (now (out .entry)) ⌝ }
+// Writes the period of step k of each of n tasks, and nothing past them.
+fn write_periods(notch: u16, block: &[u32; Columns::ROOM], n: usize, k: u32, out: &mut [u32])
+    requires { ⌜ Chargeable notch (now block) n × (n ≤ length (now out)) ⌝ }
+    ensures { λ _. ⌜ now (out .exit) ≡ listTo (periodsOn notch (springIn (now (block .entry))) k) n ++ drop n (now (out .entry)) ⌝ }
 {
     for i in 0..n {
-        out[i] = springs::period_on(notch, cost[i], tmin[i], shares[i]);
+        out[i] = springs::period_at(notch, springs::spring_in(block, i), k);
     }
 }
 
@@ -68,46 +61,43 @@ pub fn write_front(from: [u16; Table::MOST_TASKS], n: usize, out: &mut [u16])
     }
 }
 
-// Writes the processor of each of n tasks with these loads, which pass, and nothing past them.
-fn write_processors(
-    policy: Policy,
-    m: u16,
-    loads: &[u32; Table::MOST_TASKS],
+// The processor of each of n tasks, which pass at step k: 1 to m under policy 4, else 0.
+fn processors_at(
+    settings: Settings,
+    block: &mut [u32; Columns::ROOM],
     n: usize,
-    out: &mut [u16],
-)
-    requires { ⌜ Placeable policy m (loadIn (now loads)) n (length (now out)) ⌝ }
-    ensures { λ _. ⌜ now (out .exit) ≡ listTo (processorOn policy m (loadIn (now (loads .entry)))) n ++ drop n (now (out .entry)) ⌝ }
+    k: u32,
+) -> [u16; Table::MOST_TASKS]
+    requires { ⌜ Placeable settings (now block) n k ⌝ }
+    ensures { λ r. ⌜ listTo (λ (i : ℕ). getD r i 0) n
+        ≡ listTo (processorOn (meant (settings .policy)) (settings .m) (loadsOn settings (springIn (now (block .entry))) k)) n ⌝ }
 {
+    let asked = settings.policy;
+    let policy = asked.meant();
     if policy.is_first_fit() {
-        let trial = fit::first_fit(loads, n, m as usize);
-        let processors = trial.processors;
-        write_front(processors, n, out);
-    } else {
-        write_front([0u16; Table::MOST_TASKS], n, out);
+        springs::loads_at(settings, block, n, k);
+        let trial = fit::first_fit(block, n, settings.m as usize);
+        return trial.processors;
     }
+    [0u16; Table::MOST_TASKS]
 }
 
-// Writes what an answer grants to the two lent outputs: an accepted plan, or nothing. Costs, shortest periods and the shares of the
-// answer's step are at hand; once the periods are written, the column of the shares serves for the loads.
+// Writes what an answer grants to the two lent outputs: an accepted plan, worked out of the springs in the block, or nothing.
 pub fn grant(
     answer: Answer,
     settings: Settings,
-    cost: &[u32; Table::MOST_TASKS],
-    tmin: &[u32; Table::MOST_TASKS],
-    shares: &mut [u32; Table::MOST_TASKS],
+    block: &mut [u32; Columns::ROOM],
     n: usize,
     periods: &mut [u32],
     processors: &mut [u16],
 )
-    requires { ⌜ MayGrant answer settings (now cost) (now tmin) (now shares) n (length (now periods)) (length (now processors)) ⌝ }
-    ensures { λ _. ⌜ Leaves (handed answer) settings (now (cost .entry)) (now (tmin .entry)) (now (shares .entry)) n
-        (now (periods .entry)) (now (processors .entry)) (now (periods .exit)) (now (processors .exit)) ⌝ }
+    requires { ⌜ MayGrant answer settings (now block) n (length (now periods)) (length (now processors)) ⌝ }
+    ensures { λ _. ⌜ Leaves (handed answer) settings (springIn (now (block .entry))) n (now (periods .entry)) (now (processors .entry))
+        (now (periods .exit)) (now (processors .exit)) ⌝ }
 {
-    if answer.accepted() {
-        let asked = settings.policy;
-        write_periods(settings.notch, cost, tmin, shares, n, periods);
-        springs::loads_of(settings, cost, tmin, shares, n);
-        write_processors(asked.meant(), settings.m, shares, n, processors);
+    if let Answer::Accepted(k) = answer {
+        write_periods(settings.notch, block, n, k, periods);
+        let placed = processors_at(settings, block, n, k);
+        write_front(placed, n, processors);
     }
 }

@@ -6,6 +6,6 @@ use lib.ListN.{getD}
 use Rattle.kinds.specs.Limits.{scale}
 
 -- one of m processors, counted from 0, that has room for a load; or m, where none is found
-pub record Roomy (held : List ℕ) (load m j : ℕ) : Type 0 where
+pub record WithRoom (held : List ℕ) (load m j : ℕ) : Type 0 where
   pub last : j ≤ m
   pub room : j < m → getD held j 0 + load ≤ scale

@@ -4,27 +4,28 @@ use kinds::Settings;
 use kinds::Share;
 use kinds::Table;
 use kinds::Verdict;
+use springs::Columns;
 ghost use Prim.Native.Nat.{_≤_, _<_};
 ghost use Rattle.kinds.specs.Limits.{scale, mostTasks, mostProcessors};
 ghost use Rattle.fit.specs.Handover.{Loads};
-ghost use Rattle.planner.specs.Handover.{Roomy};
+ghost use Rattle.planner.specs.Handover.{WithRoom};
 
-// The heavier of two tasks, the first where they are as heavy.
-fn heavier(left: &[u32; Table::MOST_TASKS], a: usize, b: usize, n: usize) -> usize
+// The heavier of two tasks, the first where they are as heavy. Loads stand first in a block.
+fn heavier(block: &[u32; Columns::ROOM], a: usize, b: usize, n: usize) -> usize
     requires { ⌜ (a < n) × (b < n) × (n ≤ mostTasks) ⌝ }
     ensures { λ r. ⌜ r < n ⌝ }
 {
-    if left[a] < left[b] { b } else { a }
+    if block[a] < block[b] { b } else { a }
 }
 
-// The heaviest of n tasks; the load of one that has a processor is no longer left.
-fn heaviest(left: &[u32; Table::MOST_TASKS], n: usize) -> usize
+// The heaviest of n tasks.
+fn heaviest(block: &[u32; Columns::ROOM], n: usize) -> usize
     requires { ⌜ (1 ≤ n) × (n ≤ mostTasks) ⌝ }
     ensures { λ r. ⌜ r < n ⌝ }
 {
     let mut found: usize = 0;
     for i in 0..n {
-        found = heavier(left, found, i, n);
+        found = heavier(block, found, i, n);
     }
     found
 }
@@ -37,8 +38,8 @@ fn fuller(
     j: usize,
     m: usize,
 ) -> usize
-    requires { ⌜ (load ≤ scale) × (j < m) × (m ≤ mostProcessors) × Roomy (now held) load m found ⌝ }
-    ensures { λ r. ⌜ Roomy (now (held .entry)) load m r ⌝ }
+    requires { ⌜ (load ≤ scale) × (j < m) × (m ≤ mostProcessors) × WithRoom (now held) load m found ⌝ }
+    ensures { λ r. ⌜ WithRoom (now (held .entry)) load m r ⌝ }
 {
     let room = Share::SCALE as u32 - load;
     if room < held[j] {
@@ -56,7 +57,7 @@ fn fuller(
 // The fullest of m processors that has room for a load; m where none has.
 fn fullest(held: &[u32; Settings::MOST_PROCESSORS as usize], load: u32, m: usize) -> usize
     requires { ⌜ (load ≤ scale) × (m ≤ mostProcessors) ⌝ }
-    ensures { λ r. ⌜ Roomy (now (held .entry)) load m r ⌝ }
+    ensures { λ r. ⌜ WithRoom (now (held .entry)) load m r ⌝ }
 {
     let mut found = m;
     for j in 0..m {
@@ -65,23 +66,22 @@ fn fullest(held: &[u32; Settings::MOST_PROCESSORS as usize], load: u32, m: usize
     found
 }
 
-// Best fit in the order of falling load: each task goes to the fullest processor that has room for it. The first task that fits nowhere
-// ends the trial; it and those after it get 0.
-fn best_fit(loads: [u32; Table::MOST_TASKS], n: usize, m: usize) -> [u16; Table::MOST_TASKS]
-    requires { ⌜ Loads loads n × (m ≤ mostProcessors) ⌝ }
+// Best fit in the order of falling load: each task goes to the fullest processor that has room for it, and has then no load left in the block.
+// The first task that fits nowhere ends the trial; it and those after it get 0.
+fn best_fit(block: &mut [u32; Columns::ROOM], n: usize, m: usize) -> [u16; Table::MOST_TASKS]
+    requires { ⌜ Loads (now block) n × (m ≤ mostProcessors) ⌝ }
 {
     let mut held = [0u32; Settings::MOST_PROCESSORS as usize];
-    let mut left = loads;
     let mut processors = [0u16; Table::MOST_TASKS];
     for placed in 0..n {
-        let i = heaviest(&left, n);
-        let load = loads[i];
+        let i = heaviest(block, n);
+        let load = block[i];
         let j = fullest(&held, load, m);
         if m <= j {
             return processors;
         }
         held[j] = held[j] + load;
-        left[i] = 0;
+        block[i] = 0;
         processors[i] = (j + 1) as u16;
     }
     processors
@@ -92,14 +92,14 @@ fn best_fit(loads: [u32; Table::MOST_TASKS], n: usize, m: usize) -> [u16; Table:
 pub fn propose(table: Table, settings: Settings, step: u32) -> [u16; Table::MOST_TASKS] {
     let n = table.n;
     let m = settings.m as usize;
-    let mut loads = [0u32; Table::MOST_TASKS];
-    let admission = proposal::admit(table, settings, step, n, m, &mut loads);
+    let mut block = [0u32; Columns::ROOM];
+    let admission = proposal::admit(table, settings, step, n, m, &mut block);
     let Verdict::Accepted = admission else {
         return [0u16; Table::MOST_TASKS];
     };
-    let trial = fit::first_fit(&loads, n, m);
+    let trial = fit::first_fit(&block, n, m);
     if trial.placed {
         return trial.processors;
     }
-    best_fit(loads, n, m)
+    best_fit(&mut block, n, m)
 }

@@ -5,3 +5,4 @@ pub mod Tests
 pub mod Demand
 pub mod LookCount
 pub mod Under
+pub mod Weighing

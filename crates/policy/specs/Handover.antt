@@ -3,13 +3,13 @@
 use Prim.Native.Nat.{ℕ, _*_, _≤_}
 use mathlib.Core.Path.{_≡_}
 use Rattle.ground.specs.Folds.{sumTo, maxTo}
-use Rattle.kinds.specs.Limits.{scale}
+use Rattle.kinds.specs.Limits.{scale, mostProcessors}
 use Rattle.policy.specs.declared.Weights.{Weights}
 
 -- weights that are small enough that no side overflows
 pub record Light (w : Weights) : Type 0 where
-  pub b-most : w .b ≤ 16
-  pub r-most : w .r ≤ 16000000
+  pub b-most : w .b ≤ mostProcessors
+  pub r-most : w .r ≤ scale * mostProcessors
 
 -- a side, with the bound that its callers need
 pub record SideIs (side r : ℕ) : Type 0 where

@@ -3,3 +3,4 @@ pub mod Passing
 pub mod Looks
 pub mod Handover
 pub mod Under
+pub mod Weighed

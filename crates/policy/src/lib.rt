@@ -1,23 +1,25 @@
-// The five policies over any loads: their sum and max, the two sides of a policy's test, passing and the margin; and passing at a step on
-// charges. Contracts cite `specs/Sides` and `specs/Passing`.
+// The five policies over any loads: their sum and max, the two sides of a policy's test, passing and the margin; and the tests of a step on
+// springs. The loads stand first in a lent block. Contracts cite `specs/Sides`, `specs/Passing` and `specs/Weighed`.
 use kinds::Policy;
 use kinds::Share;
-use kinds::Table;
+use springs::Columns;
 ghost use mathlib.Core.Bool.{true};
 ghost use mathlib.Core.Path.{_≡_};
-ghost use Prim.Native.Nat.{_≤_};
+ghost use Prim.Native.Nat.{_*_, _≤_};
+ghost use lib.Dec.{leb};
 ghost use lib.IntN.{subℕ};
-ghost use lib.ListN.{length};
 ghost use Rattle.ground.specs.Folds.{sumTo};
 ghost use Rattle.kinds.specs.Limits.{scale, mostTasks, mostProcessors};
 ghost use Rattle.kinds.specs.Policy.{isWeighed, Served};
+ghost use Rattle.springs.specs.Spring.{sharesOn, chargesOn};
+ghost use Rattle.springs.specs.Columns.{springIn};
+ghost use Rattle.springs.specs.Handover.{Springy, Chargeable, Beside};
 ghost use Rattle.fit.specs.Fit.{loadIn};
 ghost use Rattle.fit.specs.Handover.{Loads};
 ghost use Rattle.policy.specs.Sides.{weightsOf, mostSum, left, marginOf};
-ghost use Rattle.policy.specs.Handover.{Light, SideIs, TotalIs};
-ghost use Rattle.springs.specs.Columns.{springIn, chargesOn};
-ghost use Rattle.springs.specs.Handover.{Chargeable};
 ghost use Rattle.policy.specs.Passing.{passes, passesAt};
+ghost use Rattle.policy.specs.Weighed.{chargedAt};
+ghost use Rattle.policy.specs.Handover.{Light, SideIs, TotalIs};
 
 // The test of a policy that is weighed is sum + b · max ≤ r.
 pub struct Weights {
@@ -47,7 +49,7 @@ pub fn weights_of(policy: Policy, m: u16, n: usize) -> Weights
 
 // The left side of the test, for a sum and a max.
 pub fn left_of(w: Weights, sum: u64, max: u64) -> u64
-    requires { ⌜ Light w × (sum ≤ 32000000) × (max ≤ scale) ⌝ }
+    requires { ⌜ Light w × (sum ≤ scale * mostTasks) × (max ≤ scale) ⌝ }
     ensures { λ r. ⌜ SideIs (left w sum max) r ⌝ }
 {
     sum + w.b * max
@@ -59,15 +61,23 @@ pub struct Total {
     pub max: u64,
 }
 
-// The total of n loads. 32 bits hold it, and are twice as fast as 64.
-pub fn total_of(loads: &[u32; Table::MOST_TASKS], n: usize) -> Total
-    requires { ⌜ Loads (now loads) n ⌝ }
-    ensures { λ r. ⌜ TotalIs (loadIn (now (loads .entry))) n (r .sum) (r .max) ⌝ }
+// Whether the test holds for a sum and a max.
+pub fn weighs(w: Weights, total: Total) -> bool
+    requires { ⌜ Light w × (total .sum ≤ scale * mostTasks) × (total .max ≤ scale) ⌝ }
+    ensures { λ r. ⌜ r ≡ leb (left w (total .sum) (total .max)) (w .r) ⌝ }
+{
+    left_of(w, total.sum, total.max) <= w.r
+}
+
+// The total of the first n loads. 32 bits hold it, and are twice as fast as 64.
+pub fn total_of(block: &[u32; Columns::ROOM], n: usize) -> Total
+    requires { ⌜ Loads (now block) n ⌝ }
+    ensures { λ r. ⌜ TotalIs (loadIn (now (block .entry))) n (r .sum) (r .max) ⌝ }
 {
     let mut sum: u32 = 0;
     let mut max: u32 = 0;
     for i in 0..n {
-        let load = loads[i];
+        let load = block[i];
         sum += load;
         max = ground::later(max, load);
     }
@@ -78,21 +88,20 @@ pub fn total_of(loads: &[u32; Table::MOST_TASKS], n: usize) -> Total
 }
 
 // Whether n tasks with these loads pass the test of a policy that is served on m processors.
-pub fn passes(policy: Policy, m: u16, loads: &[u32; Table::MOST_TASKS], n: usize) -> bool
-    requires { ⌜ Loads (now loads) n × (1 ≤ m) × (m ≤ mostProcessors) × Served policy ⌝ }
-    ensures { λ r. ⌜ r ≡ passes policy m (loadIn (now (loads .entry))) n ⌝ }
+pub fn passes(policy: Policy, m: u16, block: &[u32; Columns::ROOM], n: usize) -> bool
+    requires { ⌜ Loads (now block) n × (1 ≤ m) × (m ≤ mostProcessors) × Served policy ⌝ }
+    ensures { λ r. ⌜ r ≡ passes policy m (loadIn (now (block .entry))) n ⌝ }
 {
     if policy.is_first_fit() {
-        let trial = fit::first_fit(loads, n, m as usize);
+        let trial = fit::first_fit(block, n, m as usize);
         return trial.placed;
     }
     let w = weights_of(policy, m, n);
-    let total = total_of(loads, n);
-    left_of(w, total.sum, total.max) <= w.r
+    weighs(w, total_of(block, n))
 }
 
 // What the loads of n tasks that pass add up to at most.
-fn most_sum(policy: Policy, m: u16, n: usize) -> u64
+pub fn most_sum(policy: Policy, m: u16, n: usize) -> u64
     requires { ⌜ (1 ≤ m) × (m ≤ mostProcessors) × (n ≤ mostTasks) ⌝ }
     ensures { λ r. ⌜ r ≡ mostSum policy m n ⌝ }
 {
@@ -103,52 +112,68 @@ fn most_sum(policy: Policy, m: u16, n: usize) -> u64
     w.r
 }
 
-// The same with the sum of the loads at hand: where they add up to more than can pass, the policy is not tried.
+// The same with the sum of the loads at hand, and what it may be at most: where it is more, the policy is not tried.
 pub fn passes_summed(
     policy: Policy,
     m: u16,
-    loads: &[u32; Table::MOST_TASKS],
+    block: &[u32; Columns::ROOM],
     n: usize,
     sum: u64,
+    most: u64,
 ) -> bool
-    requires { ⌜ Loads (now loads) n × (1 ≤ m) × (m ≤ mostProcessors) × Served policy × (sum ≡ sumTo (loadIn (now loads)) n) ⌝ }
-    ensures { λ r. ⌜ r ≡ passes policy m (loadIn (now (loads .entry))) n ⌝ }
+    requires { ⌜ Loads (now block) n × (1 ≤ m) × (m ≤ mostProcessors) × Served policy
+        × (sum ≡ sumTo (loadIn (now block)) n) × (most ≡ mostSum policy m n) ⌝ }
+    ensures { λ r. ⌜ r ≡ passes policy m (loadIn (now (block .entry))) n ⌝ }
 {
-    if most_sum(policy, m, n) < sum {
+    if most < sum {
         return false;
     }
-    passes(policy, m, loads, n)
+    passes(policy, m, block, n)
 }
 
-// The total of the charges at step k of n tasks whose springs, costs and shortest periods are in lent columns.
-pub fn charged_total(
+// Whether the tasks of a block pass at step k on their charges, which it then holds.
+pub fn passes_charged(
+    policy: Policy,
+    m: u16,
     notch: u16,
-    largest: &[u32; Table::MOST_TASKS],
-    least: &[u32; Table::MOST_TASKS],
-    elasticity: &[u32; Table::MOST_TASKS],
-    cost: &[u32; Table::MOST_TASKS],
-    tmin: &[u32; Table::MOST_TASKS],
+    block: &mut [u32; Columns::ROOM],
     n: usize,
     k: u32,
-) -> Total
-    requires { ⌜ Chargeable notch (now largest) (now least) (now elasticity) (now cost) (now tmin) n ⌝ }
-    ensures { λ r. ⌜ TotalIs (chargesOn notch (now (cost .entry)) (now (tmin .entry))
-        (springIn (now (largest .entry)) (now (least .entry)) (now (elasticity .entry))) k) n (r .sum) (r .max) ⌝ }
+) -> bool
+    requires { ⌜ Chargeable notch (now block) n × (1 ≤ m) × (m ≤ mostProcessors) × Served policy ⌝ }
+    ensures { λ r. ⌜ (r ≡ passesAt policy m (chargesOn notch (springIn (now (block .entry)))) n k)
+        × Beside (now (block .entry)) (now (block .exit)) ⌝ }
+{
+    springs::charges_at(notch, block, n, k);
+    passes(policy, m, block, n)
+}
+
+// Whether the test of weights holds at step k on the charges, which the block then holds.
+pub fn weighs_charged(
+    w: Weights,
+    notch: u16,
+    block: &mut [u32; Columns::ROOM],
+    n: usize,
+    k: u32,
+) -> bool
+    requires { ⌜ Light w × Chargeable notch (now block) n ⌝ }
+    ensures { λ r. ⌜ (r ≡ chargedAt w notch (springIn (now (block .entry))) n k) × Beside (now (block .entry)) (now (block .exit)) ⌝ }
+{
+    springs::charges_at(notch, block, n, k);
+    weighs(w, total_of(block, n))
+}
+
+// The total of the shares at step k.
+pub fn total_at(block: &[u32; Columns::ROOM], n: usize, k: u32) -> Total
+    requires { ⌜ Springy (now block) n ⌝ }
+    ensures { λ r. ⌜ TotalIs (sharesOn (springIn (now (block .entry))) k) n (r .sum) (r .max) ⌝ }
 {
     let mut sum: u32 = 0;
     let mut max: u32 = 0;
     for i in 0..n {
-        let charge = springs::charge_at(
-            notch,
-            largest[i],
-            least[i],
-            elasticity[i],
-            cost[i],
-            tmin[i],
-            k,
-        );
-        sum += charge;
-        max = ground::later(max, charge);
+        let share = springs::share_on(springs::spring_in(block, i), k);
+        sum += share;
+        max = ground::later(max, share);
     }
     Total {
         sum: ground::widened(sum),
@@ -156,43 +181,13 @@ pub fn charged_total(
     }
 }
 
-// Whether these tasks pass at step k on their charges, for which first fit is lent a further column.
-pub fn passes_charged(
-    policy: Policy,
-    m: u16,
-    notch: u16,
-    largest: &[u32; Table::MOST_TASKS],
-    least: &[u32; Table::MOST_TASKS],
-    elasticity: &[u32; Table::MOST_TASKS],
-    cost: &[u32; Table::MOST_TASKS],
-    tmin: &[u32; Table::MOST_TASKS],
-    n: usize,
-    k: u32,
-    charges: &mut [u32; Table::MOST_TASKS],
-) -> bool
-    requires { ⌜ Chargeable notch (now largest) (now least) (now elasticity) (now cost) (now tmin) n × (length (now charges) ≡ mostTasks)
-        × (1 ≤ m) × (m ≤ mostProcessors) × Served policy ⌝ }
-    ensures { λ r. ⌜ (r ≡ passesAt policy m (chargesOn notch (now (cost .entry)) (now (tmin .entry))
-        (springIn (now (largest .entry)) (now (least .entry)) (now (elasticity .entry)))) n k)
-        × (length (now (charges .exit)) ≡ mostTasks) ⌝ }
-{
-    if policy.is_first_fit() {
-        springs::charges_at(notch, largest, least, elasticity, cost, tmin, n, k, charges);
-        let trial = fit::first_fit(charges, n, m as usize);
-        return trial.placed;
-    }
-    let w = weights_of(policy, m, n);
-    let total = charged_total(notch, largest, least, elasticity, cost, tmin, n, k);
-    left_of(w, total.sum, total.max) <= w.r
-}
-
 // The right side of the test minus the left, as a signed number, of a policy that is weighed.
-pub fn margin_of(policy: Policy, m: u16, loads: &[u32; Table::MOST_TASKS], n: usize) -> i64
-    requires { ⌜ Loads (now loads) n × (1 ≤ m) × (m ≤ mostProcessors) × (isWeighed policy ≡ true) ⌝ }
-    ensures { λ r. ⌜ r ≡ marginOf policy m (loadIn (now (loads .entry))) n ⌝ }
+pub fn margin_of(policy: Policy, m: u16, block: &[u32; Columns::ROOM], n: usize) -> i64
+    requires { ⌜ Loads (now block) n × (1 ≤ m) × (m ≤ mostProcessors) × (isWeighed policy ≡ true) ⌝ }
+    ensures { λ r. ⌜ r ≡ marginOf policy m (loadIn (now (block .entry))) n ⌝ }
 {
     let w = weights_of(policy, m, n);
-    let total = total_of(loads, n);
+    let total = total_of(block, n);
     difference(w.r, left_of(w, total.sum, total.max))
 }
 

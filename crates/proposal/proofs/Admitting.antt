@@ -1,24 +1,21 @@
--- What the admission of a proposal has checked, and the column of loads that it leaves.
+-- What the admission of a proposal has checked, and the loads that it leaves.
 -- Assumes nothing.
-use Rattle.ground.proofs.Kit.{ℕ, _≤_, _<_, List, _≡_, _∙_, arith, ltb-false}
+use Rattle.ground.proofs.Kit.{ℕ, _≤_, List, _≡_, _∙_, ltb-false}
 use Rattle.kinds.specs.declared.Task.{Task}
 use Rattle.kinds.specs.declared.Settings.{Settings}
 use Rattle.kinds.specs.declared.Verdict.the-variants.{Accepted}
-use Rattle.kinds.specs.Limits.{scale}
-use Rattle.kinds.specs.Task.{at, Good, OnNotch}
 use Rattle.share.specs.Table.{firstBad}
-use Rattle.share.proofs.Charges.{load-most}
 use Rattle.share.proofs.Tables.{all-good, all-on}
-use Rattle.springs.specs.Columns.{Columns, springsIn}
-use Rattle.springs.specs.Handover.{AllWithin, Sprung, SharesAre, Held, Allowed, LoadsBy}
-use Rattle.springs.proofs.Columns.{sprung-within, shares-of, held-columns, held-allowed}
-use Rattle.springs.proofs.Charged.{held-loads}
-use Rattle.fit.specs.Fit.{loadIn}
-use Rattle.policy.specs.Under.{rowsUnder, loadsUnder}
+use Rattle.springs.specs.Spring.{loadsOn}
+use Rattle.springs.specs.Columns.{springIn}
+use Rattle.springs.specs.Handover.{Chargeable, Loaded, Sprung}
+use Rattle.springs.proofs.Blocks.{loads-are, loads-most, sprung-chargeable}
+use Rattle.policy.specs.Under.{rowsUnder}
+use Rattle.policy.proofs.Weighing.{loaded-loads}
 use Rattle.admission.specs.Admission.{andThen, missetNumbers, gate, roomy, recordsGood}
 use Rattle.admission.proofs.Chain.{Few, unchecked, then-admitted, gate-opens, numbers-set, set-few, roomy-passed}
 use Rattle.proposal.specs.Proposal.{gateOf, admission}
-use Rattle.proposal.specs.Handover.{Loaded}
+use Rattle.proposal.specs.Handover.{LoadsHeld}
 
 -- what 2, 3 and 5 have checked
 pub record Passed (s : Settings) (n proposed room : ℕ) : Type 0 where
@@ -52,29 +49,20 @@ admitted s rows n proposed room e =
     let a = then-admitted (gateOf s n proposed room) (recordsGood (s .swap) (s .notch) rows n) e in
     record { passed = gate-passed s n proposed room (a .0); none-bad = ltb-false _ _ (unchecked _ _ _ (a .1) .0) }
 
--- the springs of good records are within their limits, a column of their shares at step k allows periods, and one of their loads is that
-module _ (s : Settings) (rows : List Task) (n k : ℕ) (few : Few (s .m) n) (notched : 1 ≤ s .notch)
-    (none-bad : n ≤ firstBad (s .swap) (s .notch) rows n) (springs : Columns) (sprung : Sprung (rowsUnder s rows n) n springs) where
-  good : (i : ℕ) → i < n → Good (at (rowsUnder s rows n) i)
-  good = all-good (s .swap) (s .notch) rows n none-bad
+-- the springs of good records may be charged, and the loads of step k that are worked out from them are the tasks'
+module _ (s : Settings) (rows : List Task) (n proposed room : ℕ) (ready : Ready s rows n proposed room)
+    (block : List ℕ) (sprung : Sprung (rowsUnder s rows n) n block) where
+  pub springs-chargeable : Chargeable (s .notch) block n
+  springs-chargeable =
+      let good = all-good (s .swap) (s .notch) rows n (ready .none-bad) in
+      let on = all-on (s .swap) (s .notch) rows n (ready .none-bad) (ready .passed .notched) in
+      sprung-chargeable (rowsUnder s rows n) n block sprung (ready .passed .few .few) good (s .notch) on
 
-  on : (i : ℕ) → i < n → OnNotch (s .notch) (at (rowsUnder s rows n) i)
-  on = all-on (s .swap) (s .notch) rows n none-bad notched
-
-  pub springs-within : AllWithin (springsIn springs) n
-  springs-within = sprung-within (rowsUnder s rows n) n springs sprung good
-
-  module _ (shares : List ℕ) (are : SharesAre (springsIn springs) n k shares) where
-    held : Held (rowsUnder s rows n) n k (springs .cost) (springs .tmin) shares
-    held = held-columns (rowsUnder s rows n) n k springs shares sprung (shares-of (rowsUnder s rows n) n springs sprung k shares are)
-
-    pub shares-allowed : Allowed (s .notch) (springs .cost) (springs .tmin) shares n
-    shares-allowed = held-allowed (rowsUnder s rows n) n k (springs .cost) (springs .tmin) shares held (s .notch) notched good on
-
-    pub loads-loaded : (column : List ℕ) → LoadsBy s (springs .cost) (springs .tmin) shares n column → Loaded s rows n k column
-    loads-loaded column by =
-        let each : (i : ℕ) → i < n → loadIn column i ≡ loadsUnder s rows n k i =
-        λ i l. by i l ∙ held-loads s (rowsUnder s rows n) n k (springs .cost) (springs .tmin) shares held i l in
-        let most : (i : ℕ) → i < n → loadIn column i ≤ scale =
-        λ i l. omega (arith, each i l, load-most s (at (rowsUnder s rows n) i) (good i l) (on i l) k) in
-        record { m-most = few .m-most; light = record { few = few .few; most = most }; are = each }
+  pub loads-held : (k : ℕ) (new : List ℕ) → Loaded (loadsOn s (springIn block) k) n block new → LoadsHeld s rows n k new
+  loads-held k new w =
+      record {
+        m-most = ready .passed .few .m-most;
+        long = w .long ∙ sprung .long;
+        light = loaded-loads _ n block new (ready .passed .few .few) (loads-most s block n springs-chargeable k) w;
+        are = λ i l. w .are i l ∙ loads-are (rowsUnder s rows n) n block sprung s k i l;
+      }

@@ -26,16 +26,16 @@ use Rattle.admission.specs.Admission.{missetNumbers, gate}
 use Rattle.admission.proofs.Chain.{gate-opens, then-admitted}
 use Rattle.proposal.specs.Loads.{loadOn, loadsTo, isOutOfRange, firstOutOfRange, isOverfull, beforeOverfull, Sound}
 use Rattle.proposal.specs.Proposal.{placeIn, gateOf, admission, placing, judged, Outcome, outcome, Meets}
-use Rattle.proposal.specs.Handover.{Loaded, Loadable}
+use Rattle.proposal.specs.Handover.{LoadsHeld, Loadable}
 use Rattle.proposal.proofs.Loading.{load-same}
 use Rattle.proposal.proofs.Adding.{loads-add-up}
 use Rattle.proposal.proofs.Judging.{placing-out-of-range, placing-overfull, placing-well, placing-refused, all-in-range, placed-sound, sound-placed}
 use Rattle.proposal.proofs.Admitting.{gate-passed}
 
 -- a proposal with an entry for each task, none of them out of range, may be loaded
-pub may-load : (s : Settings) (rows : List Task) (n k : ℕ) (column proposal : List ℕ) → Loaded s rows n k column → n ≤ length proposal
-    → n ≤ firstOutOfRange (s .m) (placeIn proposal) n → Loadable column n proposal
-may-load s rows n k column proposal w long h =
+pub may-load : (s : Settings) (rows : List Task) (n k : ℕ) (block proposal : List ℕ) → LoadsHeld s rows n k block → n ≤ length proposal
+    → n ≤ firstOutOfRange (s .m) (placeIn proposal) n → Loadable block n proposal
+may-load s rows n k block proposal w long h =
     record {
       light = w .light;
       long = long;
@@ -67,37 +67,37 @@ module _ (s : Settings) (rows : List Task) (n k : ℕ) (proposal old : List ℕ)
   meets-accepted e new w = record { answers = rw e; leaves = rw e w }
 
   -- a refusal before the proposal is looked at is the answer; where there is none, the placing is
-  module _ (a : Verdict) (is : a ≡ admission s rows n (length proposal) (length old)) where
-    refused-first : (r : Refusal) → a ≡ Refused r → judged s rows n k proposal (length old) ≡ Refused r
-    unfolding judged
-    refused-first r e = rw (← is, e)
+  refused-first : (r : Refusal) → admission s rows n (length proposal) (length old) ≡ Refused r → judged s rows n k proposal (length old) ≡ Refused r
+  unfolding judged
+  refused-first r e = rw e
 
-    pub refused-meets : (r : Refusal) → a ≡ Refused r → Meets (outcome s rows n k proposal old) a old
-    refused-meets r e = subst (λ (v : Verdict). Meets (outcome s rows n k proposal old) v old) (sym e) (meets-refused r (refused-first r e))
+  pub refused-meets : (a : Verdict) → a ≡ admission s rows n (length proposal) (length old) → (r : Refusal) → a ≡ Refused r
+      → Meets (outcome s rows n k proposal old) a old
+  refused-meets a is r e = subst (λ (v : Verdict). Meets (outcome s rows n k proposal old) v old) (sym e) (meets-refused r (refused-first r (sym is ∙ e)))
 
-    admitted-first : a ≡ Accepted → judged s rows n k proposal (length old) ≡ placing load place n (s .m)
-    unfolding judged
-    admitted-first e = rw (← is, e)
+  admitted-first : admission s rows n (length proposal) (length old) ≡ Accepted → judged s rows n k proposal (length old) ≡ placing load place n (s .m)
+  unfolding judged
+  admitted-first e = rw e
 
-    -- the three returns of an admitted call
-    module _ (e : a ≡ Accepted) where
-      pub out-of-range-meets : (x : ℕ) → x ≡ firstOutOfRange (s .m) (placeIn proposal) n → x < n
-          → Meets (outcome s rows n k proposal old) (Refused (ProcessorOutOfRange x)) old
-      out-of-range-meets x f l =
-          let first : firstOutOfRange (s .m) place n < n = omega arith in
-          meets-refused _ (admitted-first e ∙ (placing-out-of-range load place n (s .m) first ∙ rw f))
+  -- the three returns of an admitted call
+  module _ (e : admission s rows n (length proposal) (length old) ≡ Accepted) where
+    pub out-of-range-meets : (x : ℕ) → x ≡ firstOutOfRange (s .m) (placeIn proposal) n → x < n
+        → Meets (outcome s rows n k proposal old) (Refused (ProcessorOutOfRange x)) old
+    out-of-range-meets x f l =
+        let first : firstOutOfRange (s .m) place n < n = omega arith in
+        meets-refused _ (admitted-first e ∙ (placing-out-of-range load place n (s .m) first ∙ rw f))
 
-      module _ (each : n ≤ firstOutOfRange (s .m) (placeIn proposal) n) where
-        pub overfull-meets : (x : ℕ) → x ≡ beforeOverfull (loadsUnder s rows n k) (placeIn proposal) n (s .m) → x < s .m
-            → Meets (outcome s rows n k proposal old) (Refused (ProcessorOverfull (x + 1))) old
-        overfull-meets x f l =
-            let lowest : beforeOverfull load place n (s .m) < s .m = omega arith in
-            meets-refused _ (admitted-first e ∙ (placing-overfull load place n (s .m) each lowest ∙ rw f))
+    module _ (each : n ≤ firstOutOfRange (s .m) (placeIn proposal) n) where
+      pub overfull-meets : (x : ℕ) → x ≡ beforeOverfull (loadsUnder s rows n k) (placeIn proposal) n (s .m) → x < s .m
+          → Meets (outcome s rows n k proposal old) (Refused (ProcessorOverfull (x + 1))) old
+      overfull-meets x f l =
+          let lowest : beforeOverfull load place n (s .m) < s .m = omega arith in
+          meets-refused _ (admitted-first e ∙ (placing-overfull load place n (s .m) each lowest ∙ rw f))
 
-        pub well-meets : s .m ≤ beforeOverfull (loadsUnder s rows n k) (placeIn proposal) n (s .m) → (new : List ℕ)
-            → new ≡ loadsTo (loadsUnder s rows n k) (placeIn proposal) n (s .m) ++ drop (s .m) old
-            → Meets (outcome s rows n k proposal old) Accepted new
-        well-meets h new w = meets-accepted (admitted-first e ∙ placing-well load place n (s .m) each h) new w
+      pub well-meets : s .m ≤ beforeOverfull (loadsUnder s rows n k) (placeIn proposal) n (s .m) → (new : List ℕ)
+          → new ≡ loadsTo (loadsUnder s rows n k) (placeIn proposal) n (s .m) ++ drop (s .m) old
+          → Meets (outcome s rows n k proposal old) Accepted new
+      well-meets h new w = meets-accepted (admitted-first e ∙ placing-well load place n (s .m) each h) new w
 
   -- Ask 7: "accept exactly those proposals where each processor is from 1 to m and each load is at most S", once refusals 2 to 6 are past
   judged-sound : judged s rows n k proposal (length old) ≡ Accepted
@@ -107,7 +107,7 @@ module _ (s : Settings) (rows : List Task) (n k : ℕ) (proposal old : List ℕ)
 
   pub sound-judged : admission s rows n (length proposal) (length old) ≡ Accepted → Sound (loadsUnder s rows n k) (placeIn proposal) n (s .m)
       → judged s rows n k proposal (length old) ≡ Accepted
-  sound-judged a w = admitted-first _ refl a ∙ sound-placed load place n (s .m) w
+  sound-judged a w = admitted-first a ∙ sound-placed load place n (s .m) w
 
   handed-judged : outcome s rows n k proposal old .handed ≡ accepted tt → judged s rows n k proposal (length old) ≡ Accepted
   unfolding outcome
@@ -142,14 +142,14 @@ module _ (s : Settings) (rows : List Task) (n k : ℕ) (proposal old : List ℕ)
   pub first-refused : (r : Refusal) → admission s rows n (length proposal) (length old) ≡ Refused r → (v : Verdict) (loads : List ℕ)
       → Meets (outcome s rows n k proposal old) v loads → v ≡ Refused r
   unfolding outcome
-  first-refused r e v loads w = verdict-one v (Refused r) (w .answers ∙ ap handedVerdict (refused-first _ refl r e))
+  first-refused r e v loads w = verdict-one v (Refused r) (w .answers ∙ ap handedVerdict (refused-first r e))
 
   -- and where none of them is given, a refusal is by 13 or by 14
   pub last-refused : admission s rows n (length proposal) (length old) ≡ Accepted → (r : Refusal) (loads : List ℕ)
       → Meets (outcome s rows n k proposal old) (Refused r) loads → (numberOf r ≡ 13) ⊎ (numberOf r ≡ 14)
   unfolding outcome
   last-refused a r loads w =
-      placing-refused load place n (s .m) r (sym (verdict-one (Refused r) _ (w .answers ∙ ap handedVerdict (admitted-first _ refl a))))
+      placing-refused load place n (s .m) r (sym (verdict-one (Refused r) _ (w .answers ∙ ap handedVerdict (admitted-first a))))
 
 -- no second answer, nor a second content of the output
 pub no-second-answer : (o : Outcome) (v w : Verdict) (ls ls′ : List ℕ) → Meets o v ls → Meets o w ls′ → (v ≡ w) × (ls ≡ ls′)

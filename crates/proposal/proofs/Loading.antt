@@ -99,7 +99,7 @@ module _ (m p : ℕ) where
   pub range-in : InRange m p → isOutOfRange m p ≡ false
   range-in w = rw (le-ltb p 1 (w .some), le-ltb m p (w .most))
 
--- what was worked out of a column for every processor that there can be is what counts for the first m
+-- what was worked out of a block for every processor that there can be is what counts for the first m
 module _ (f load place : ℕ → ℕ) (n m : ℕ) (held : List ℕ) (w : LoadsAre f place n held) (same : (i : ℕ) → i < n → f i ≡ load i)
     (few : m ≤ mostProcessors) where
   held-are : (j : ℕ) → j < m → getD held j 0 ≡ loadOn load place n (j + 1)

@@ -9,26 +9,28 @@ use Rattle.kinds.specs.declared.Settings.{Settings}
 use Rattle.kinds.specs.declared.Verdict.{Verdict}
 use Rattle.kinds.specs.declared.Verdict.the-variants.{Accepted}
 use Rattle.kinds.specs.Limits.{mostProcessors}
+use Rattle.springs.specs.Handover.{Roomy}
 use Rattle.fit.specs.Fit.{loadIn}
 use Rattle.fit.specs.Handover.{Loads}
 use Rattle.policy.specs.Under.{loadsUnder}
 use Rattle.proposal.specs.Loads.{loadOn, InRange}
 use Rattle.proposal.specs.Proposal.{placeIn, admission}
 
--- what the admission has checked of the counts, and a column of the loads of the tasks at step k
-pub record Loaded (s : Settings) (rows : List Task) (n k : ℕ) (column : List ℕ) : Type 0 where
+-- what the admission has checked of the counts, and a block that has the loads of the tasks at step k first
+pub record LoadsHeld (s : Settings) (rows : List Task) (n k : ℕ) (block : List ℕ) : Type 0 where
   pub m-most : s .m ≤ mostProcessors
-  pub light : Loads column n
-  pub are : (i : ℕ) → i < n → loadIn column i ≡ loadsUnder s rows n k i
+  pub long : Roomy block
+  pub light : Loads block n
+  pub are : (i : ℕ) → i < n → loadIn block i ≡ loadsUnder s rows n k i
 
 -- the admission, and where it admits the loads of the tasks
-pub record AdmittedLoaded (s : Settings) (rows : List Task) (n k proposed room : ℕ) (a : Verdict) (column : List ℕ) : Type 0 where
+pub record AdmittedLoaded (s : Settings) (rows : List Task) (n k proposed room : ℕ) (a : Verdict) (block : List ℕ) : Type 0 where
   pub is : a ≡ admission s rows n proposed room
-  pub loaded : a ≡ Accepted → Loaded s rows n k column
+  pub loads : a ≡ Accepted → LoadsHeld s rows n k block
 
 -- what the loading relies on: loads of n tasks, and for each of them a processor that there can be
-pub record Loadable (column : List ℕ) (n : ℕ) (proposal : List ℕ) : Type 0 where
-  pub light : Loads column n
+pub record Loadable (block : List ℕ) (n : ℕ) (proposal : List ℕ) : Type 0 where
+  pub light : Loads block n
   pub long : n ≤ length proposal
   pub each : (i : ℕ) → i < n → InRange mostProcessors (placeIn proposal i)
 

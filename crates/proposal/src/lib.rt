@@ -5,14 +5,16 @@ use kinds::Settings;
 use kinds::Share;
 use kinds::Table;
 use kinds::Verdict;
+use springs::Columns;
 ghost use mathlib.Core.List.{_++_};
 ghost use mathlib.Core.Path.{_≡_};
 ghost use Prim.Native.Nat.{ℕ, _≤_};
 ghost use lib.ListN.{length, getD, drop};
 ghost use Rattle.ground.specs.First.{firstBelow};
 ghost use Rattle.ground.specs.Folds.{listTo};
-ghost use Rattle.kinds.specs.Limits.{mostTasks, mostProcessors};
+ghost use Rattle.kinds.specs.Limits.{mostProcessors};
 ghost use Rattle.fit.specs.Fit.{loadIn};
+ghost use Rattle.springs.specs.Handover.{Roomy};
 ghost use Rattle.proposal.specs.Loads.{isOutOfRange, firstOutOfRange, isOverfull};
 ghost use Rattle.proposal.specs.Proposal.{placeIn, gateOf, outcome, Meets};
 ghost use Rattle.proposal.specs.Handover.{AdmittedLoaded, Loadable, LoadsAre};
@@ -29,44 +31,28 @@ fn gate_of(settings: Settings, n: usize, proposed: usize, room: usize) -> Verdic
     )
 }
 
-// Refusals 2 to 6. Where none is given, the lent column has the load of each task at the step.
+// Refusals 2 to 6. Where none is given, the lent block has the loads of the tasks at the step first.
 pub fn admit(
     table: Table,
     settings: Settings,
     step: u32,
     proposed: usize,
     room: usize,
-    loads: &mut [u32; Table::MOST_TASKS],
+    block: &mut [u32; Columns::ROOM],
 ) -> Verdict
-    requires { ⌜ length (now loads) ≡ mostTasks ⌝ }
-    ensures { λ r. ⌜ AdmittedLoaded settings (table .rows) (table .n) step proposed room r (now (loads .exit)) ⌝ }
+    requires { ⌜ Roomy (now block) ⌝ }
+    ensures { λ r. ⌜ AdmittedLoaded settings (table .rows) (table .n) step proposed room r (now (block .exit)) ⌝ }
 {
     let n = table.n;
     let gate = gate_of(settings, n, proposed, room);
     let Verdict::Accepted = gate else {
         return gate;
     };
-    let mut least = [0u32; Table::MOST_TASKS];
-    let mut elasticity = [0u32; Table::MOST_TASKS];
-    let mut saturation = [0u32; Table::MOST_TASKS];
-    let mut cost = [0u32; Table::MOST_TASKS];
-    let mut tmin = [0u32; Table::MOST_TASKS];
-    let bad = springs::springs_of(
-        table,
-        settings.swap,
-        settings.notch,
-        loads,
-        &mut least,
-        &mut elasticity,
-        &mut saturation,
-        &mut cost,
-        &mut tmin,
-    );
+    let bad = springs::springs_of(table, settings.swap, settings.notch, block);
     if bad < n {
         return Verdict::Refused(Refusal::BadRecord(bad));
     }
-    springs::shares_at(loads, &least, &elasticity, n, step);
-    springs::loads_of(settings, &cost, &tmin, loads, n);
+    springs::loads_at(settings, block, n, step);
     Verdict::Accepted
 }
 
@@ -94,18 +80,18 @@ fn first_out_of_range(proposal: &[u16], n: usize, m: u16) -> usize
     n
 }
 
-// The loads that a proposal puts on the processors: that of each task on its own.
+// The loads that a proposal puts on the processors: that of each task, which stand first in the block, on its own.
 fn loads_of(
-    loads: &[u32; Table::MOST_TASKS],
+    block: &[u32; Columns::ROOM],
     proposal: &[u16],
     n: usize,
 ) -> [u32; Settings::MOST_PROCESSORS as usize]
-    requires { ⌜ Loadable (now loads) n (now proposal) ⌝ }
-    ensures { λ r. ⌜ LoadsAre (loadIn (now (loads .entry))) (placeIn (now (proposal .entry))) n r ⌝ }
+    requires { ⌜ Loadable (now block) n (now proposal) ⌝ }
+    ensures { λ r. ⌜ LoadsAre (loadIn (now (block .entry))) (placeIn (now (proposal .entry))) n r ⌝ }
 {
     let mut held = [0u32; Settings::MOST_PROCESSORS as usize];
     for i in 0..n {
-        let load = loads[i];
+        let load = block[i];
         let j = proposal[i] as usize - 1;
         held[j] = held[j] + load;
     }
@@ -149,14 +135,14 @@ pub fn check(
 {
     let n = table.n;
     let m = settings.m;
-    let mut tasks = [0u32; Table::MOST_TASKS];
+    let mut block = [0u32; Columns::ROOM];
     let admission = admit(
         table,
         settings,
         step,
         proposal.len(),
         loads.len(),
-        &mut tasks,
+        &mut block,
     );
     let Verdict::Accepted = admission else {
         return admission;
@@ -165,7 +151,7 @@ pub fn check(
     if first < n {
         return Verdict::Refused(Refusal::ProcessorOutOfRange(first));
     }
-    let held = loads_of(&tasks, proposal, n);
+    let held = loads_of(&block, proposal, n);
     let processors = m as usize;
     let below = before_overfull(held, processors);
     if below < processors {

@@ -9,9 +9,9 @@ use Rattle.ground.proofs.Folds.{le-max-to, max-to-le}
 use Rattle.ground.proofs.Least.{least-is, least-unique}
 use Rattle.policy.specs.declared.Weights.{Weights}
 use Rattle.policy.specs.Looks.{distinctBelow, looksFor}
+use Rattle.policy.specs.Weighed.{weighedAt}
 use Rattle.springs.specs.declared.Spring.{Spring}
 use Rattle.springs.specs.Spring.{saturations}
-use Rattle.division.specs.Weighed.{weighedAt}
 use Rattle.division.specs.Next.{Next}
 use Rattle.division.specs.Division.{divided}
 use Rattle.division.proofs.Stretches.{weighed-rising, fails-before, divided-least, divided-most}

@@ -1,20 +1,18 @@
 -- The loop of the quick finder, over the state that it carries.
 -- Assumes nothing.
-use Rattle.ground.proofs.Kit.{ℕ, _+_, _-_, _≤_, _<_, true, false, List, _≡_, sym, _∙_, arith, getD, eq-eqb, ne-eqb}
+use Rattle.ground.proofs.Kit.{ℕ, _+_, _-_, _≤_, _<_, true, false, _≡_, sym, _∙_, arith, eq-eqb, ne-eqb}
 use Rattle.ground.specs.declared.Step.the-variants.{At, Nothing}
 use Rattle.kinds.specs.Limits.{mostTasks}
 use Rattle.policy.specs.declared.Weights.{Weights}
+use Rattle.policy.specs.Weighed.{weighedAt}
 use Rattle.springs.specs.declared.Spring.{Spring}
 use Rattle.springs.specs.Spring.{saturations}
-use Rattle.springs.specs.Handover.{Saturates}
-use Rattle.division.specs.Weighed.{weighedAt}
 use Rattle.division.specs.Next.{Next, nextTo}
 use Rattle.division.specs.Division.{divided}
-use Rattle.division.specs.Handover.{Stretches}
-use Rattle.division.proofs.Nexts.{next-is, next-none, next-cong}
+use Rattle.division.proofs.Nexts.{next-is, next-none}
 use Rattle.quick.specs.declared.Search.{Search}
 use Rattle.quick.specs.Search.{dueAfter, OneLook}
-use Rattle.quick.specs.Handover.{Searchable, SearchEnds}
+use Rattle.quick.specs.Handover.{SearchEnds}
 use Rattle.quick.proofs.Looking.{Failed, ends-at-zero, failed-at-zero, ends-nowhere, failed-next, ends-divided, looks-left}
 
 pub due-first : (s : ℕ → ℕ) (n : ℕ) (before : Search) → before .looks ≡ 0 → dueAfter s n before ≡ 0
@@ -24,11 +22,6 @@ due-first s n before e = rw (eq-eqb (before .looks) 0 e)
 due-later : (s : ℕ → ℕ) (n : ℕ) (before : Search) → 0 < before .looks → dueAfter s n before ≡ nextTo s (before .step) n
 unfolding dueAfter
 due-later s n before h = rw (ne-eqb (before .looks) 0 (λ e. omega arith))
-
--- the next step due, from the column of saturation steps
-pub next-in : (springs : ℕ → Spring) (saturation : List ℕ) (n p r : ℕ) → Saturates springs saturation n
-    → r ≡ nextTo (λ i. getD saturation i 0) p n → r ≡ nextTo (saturations springs) p n
-next-in springs saturation n p r s e = e ∙ next-cong (λ i. getD saturation i 0) (saturations springs) p n s
 
 -- the search stands at a step that failed, and due is the next step due, 0 for none
 pub record Standing (w : Weights) (springs : ℕ → Spring) (n : ℕ) (s : Search) (due : ℕ) : Type 0 where
@@ -80,9 +73,9 @@ module _ (w : Weights) (springs : ℕ → Spring) (n : ℕ) where
       at-due : after .step ≡ due
       at-due = o .step ∙ (due-later (saturations springs) n before looked ∙ sym (k .next))
 
-      -- what the division relies on
-      pub divides : (saturation : List ℕ) → Searchable springs saturation n → Stretches springs saturation n (after .from) (after .step)
-      divides saturation s = record { few = s .few; within = s .within; saturates = s .saturates; next = rw (o .from, at-due) ahead }
+      -- and the division goes as far as it
+      pub stretch : Next (saturations springs) n (after .from) (after .step)
+      stretch = rw (o .from, at-due) ahead
 
       pub next-passes : (step : ℕ) → after .passed ≡ true → step ≡ divided w springs n (after .from) (after .step)
           → SearchEnds (weighedAt w springs n) (saturations springs) n (record { step = At step; looks = after .looks })

@@ -1,7 +1,7 @@
 -- One promise for every call: no second answer, looks included; the plain finder's outcome where policy 4 is not asked; and it depends on
 -- the first n records only.
 -- Assumes nothing.
-use Rattle.ground.proofs.Kit.{ℕ, _≤_, _<_, min, true, false, List, _≡_, refl, sym, _∙_, ap, ap₂, arith, length}
+use Rattle.ground.proofs.Kit.{ℕ, _≤_, _<_, true, false, List, _≡_, refl, sym, _∙_, ap, ap₂, arith}
 use Rattle.ground.proofs.Cases.{by-le}
 use Rattle.kinds.specs.declared.Task.{Task}
 use Rattle.kinds.specs.declared.Answer.{Answer}
@@ -9,25 +9,18 @@ use Rattle.kinds.specs.declared.Settings.{Settings}
 use Rattle.kinds.specs.Limits.{mostTasks}
 use Rattle.kinds.specs.Policy.{meant, isFirstFit}
 use Rattle.kinds.specs.Task.{at}
-use Rattle.kinds.proofs.Answers.{handed-one}
 use Rattle.policy.specs.Under.{looksUnder}
 use Rattle.policy.proofs.Under.{looks-under-same}
 use Rattle.kinds.specs.declared.Verdict as verdict
 use Rattle.admission.specs.Admission.{admission}
 use Rattle.admission.proofs.Chain.{admitted, admission-same, admission-many}
 use Rattle.plan.specs.Plan.{outcome, Meets}
-use Rattle.plan.proofs.Outcomes.{no-second-answer, outcome-same, outcome-serves}
+use Rattle.plan.proofs.Outcomes.{no-second-answer, outcome-serves}
 use Rattle.quick.specs.declared.Looked.{Looked}
-use Rattle.quick.specs.Looked.{looksAfter, looks, FoundLooked, MeetsLooked}
+use Rattle.quick.specs.Looked.{looksAfter, looks, MeetsLooked}
 
 looked : Answer → ℕ → Looked
 looked answer looks = record { answer = answer; looks = looks }
-
--- of a call that lends no outputs
-pub no-second-found : (s : Settings) (rows : List Task) (n room : ℕ) (r q : Looked) → FoundLooked s rows n room r → FoundLooked s rows n room q → r ≡ q
-unfolding looked
-no-second-found s rows n room r q x y =
-    ap₂ looked (handed-one (r .answer) (q .answer) (x .answers ∙ sym (y .answers))) (x .count ∙ sym (y .count))
 
 module _ (s : Settings) (rows : List Task) (n : ℕ) (periods processors : List ℕ) where
   pub no-second-look : (r q : Looked) (ps qs ps′ qs′ : List ℕ)
@@ -57,12 +50,3 @@ module _ (s : Settings) (xs ys : List Task) (n : ℕ) (same : n ≤ mostTasks �
       (λ many.
       ap (λ (a : verdict.Verdict). looksAfter a (looksUnder s xs n)) (admission-many false s xs ys n room many)
       ∙ after-apart (admission false s ys n room) _ _ (λ e. omega (arith, admitted false s ys n room e .passed .few)))
-
-  pub meets-looked-same : (periods processors : List ℕ) (r : Looked) (ps qs : List ℕ)
-      → MeetsLooked s xs n periods processors r ps qs → MeetsLooked s ys n periods processors r ps qs
-  meets-looked-same periods processors r ps qs x =
-      record {
-        meets = rw (← outcome-same false s xs ys n periods processors same) (x .meets);
-        count = x .count ∙ looks-agree (min (length periods) (length processors));
-        few = x .few;
-      }

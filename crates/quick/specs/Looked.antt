@@ -7,12 +7,11 @@ use mathlib.Core.Path.{_≡_}
 use lib.ListN.{length}
 use Rattle.kinds.specs.declared.Task.{Task}
 use Rattle.kinds.specs.declared.Settings.{Settings}
-use Rattle.kinds.specs.Answer.{handed}
 use Rattle.policy.specs.Under.{looksUnder, mostLooks}
 use Rattle.kinds.specs.declared.Verdict.{Verdict}
 use Rattle.kinds.specs.declared.Verdict.the-variants.{Accepted, Refused}
 use Rattle.admission.specs.Admission.{admission}
-use Rattle.plan.specs.Plan.{found, outcome, Meets}
+use Rattle.plan.specs.Plan.{outcome, Meets}
 use Rattle.quick.specs.declared.Looked.{Looked}
 
 -- "Refusals before 7 report 0."
@@ -23,10 +22,6 @@ looksAfter Accepted looks = looks
 -- the looks of a call on the first n of some records
 unfoldable pub looks : Settings → List Task → ℕ → ℕ → ℕ
 looks s rows n room = looksAfter (admission false s rows n room) (looksUnder s rows n)
-
-pub record FoundLooked (s : Settings) (rows : List Task) (n room : ℕ) (r : Looked) : Type 0 where
-  pub answers : handed (r .answer) ≡ found false s rows n room
-  pub count : r .looks ≡ looks s rows n room
 
 -- the whole promise: demand 2's outcome where policy 4 is not served, the looks, and their bound, n + 1 under edition 1 and 20 under edition 2
 pub record MeetsLooked (s : Settings) (rows : List Task) (n : ℕ) (oldPeriods oldProcessors : List ℕ) (r : Looked) (periods processors : List ℕ) : Type 0 where

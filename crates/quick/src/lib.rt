@@ -8,19 +8,18 @@ use kinds::Settings;
 use kinds::Table;
 use kinds::Verdict;
 use policy::Weights;
-ghost use mathlib.Core.Bool.{true};
+use springs::Columns;
 ghost use mathlib.Core.Path.{_≡_};
 ghost use Prim.Native.Nat.{_≤_, _<_};
-ghost use Rattle.kinds.specs.Limits.{mostTasks, mostProcessors};
-ghost use Rattle.kinds.specs.Policy.{meant, isWeighed};
-ghost use Rattle.policy.specs.Handover.{Light};
+ghost use Rattle.kinds.specs.Limits.{mostTasks};
 ghost use Rattle.springs.specs.Spring.{saturations};
-ghost use Rattle.springs.specs.Handover.{SumIs, AllWithin, Saturates, Chargeable, Roomy};
-ghost use Rattle.springs.specs.Columns.{columns, springIn};
-ghost use Rattle.division.specs.Weighed.{weighedAt};
+ghost use Rattle.springs.specs.Columns.{springIn};
+ghost use Rattle.springs.specs.Handover.{SumIs, Springy, Beside};
+ghost use Rattle.policy.specs.Weighed.{weighedAt};
+ghost use Rattle.policy.specs.Handover.{Light};
 ghost use Rattle.quick.specs.Search.{dueAfter, OneLook};
-ghost use Rattle.quick.specs.Handover.{Searchable, SearchEnds, SearchUnder, FoundLookedHeld};
-ghost use Rattle.quick.specs.Looked.{FoundLooked, MeetsLooked};
+ghost use Rattle.quick.specs.Handover.{Searchable, MaySearch, SearchEnds, SearchUnder, SearchedIn};
+ghost use Rattle.quick.specs.Looked.{MeetsLooked};
 
 // What the quick finder answers, and the looks that it made.
 pub struct Looked {
@@ -43,167 +42,70 @@ pub fn find(table: Table, settings: Settings, periods: &mut [u32], processors: &
     ensures { λ r. ⌜ MeetsLooked settings (table .rows) (table .n) (now (periods .entry)) (now (processors .entry)) r
         (now (periods .exit)) (now (processors .exit)) ⌝ }
 {
-    let mut largest = [0u32; Table::MOST_TASKS];
-    let mut least = [0u32; Table::MOST_TASKS];
-    let mut elasticity = [0u32; Table::MOST_TASKS];
-    let mut saturation = [0u32; Table::MOST_TASKS];
-    let mut cost = [0u32; Table::MOST_TASKS];
-    let mut tmin = [0u32; Table::MOST_TASKS];
     let n = table.n;
-    let found = decide_in(
-        table,
-        settings,
-        ground::shorter(periods.len(), processors.len()),
-        &mut largest,
-        &mut least,
-        &mut elasticity,
-        &mut saturation,
-        &mut cost,
-        &mut tmin,
-    );
-    let answer = found.answer;
-    plan::grant(
-        answer,
-        settings,
-        &cost,
-        &tmin,
-        &mut largest,
-        n,
-        periods,
-        processors,
-    );
-    found
-}
-
-// The answer and the looks, for outputs of which the shorter has so much room.
-pub fn decide(table: Table, settings: Settings, room: usize) -> Looked
-    ensures { λ r. ⌜ FoundLooked settings (table .rows) (table .n) room r ⌝ }
-{
-    let mut largest = [0u32; Table::MOST_TASKS];
-    let mut least = [0u32; Table::MOST_TASKS];
-    let mut elasticity = [0u32; Table::MOST_TASKS];
-    let mut saturation = [0u32; Table::MOST_TASKS];
-    let mut cost = [0u32; Table::MOST_TASKS];
-    let mut tmin = [0u32; Table::MOST_TASKS];
-    decide_in(
-        table,
-        settings,
-        room,
-        &mut largest,
-        &mut least,
-        &mut elasticity,
-        &mut saturation,
-        &mut cost,
-        &mut tmin,
-    )
-}
-
-// The same in lent columns: of an acceptance the first holds the shares of its step, the last two the costs and the shortest periods.
-fn decide_in(
-    table: Table,
-    settings: Settings,
-    room: usize,
-    largest: &mut [u32; Table::MOST_TASKS],
-    least: &mut [u32; Table::MOST_TASKS],
-    elasticity: &mut [u32; Table::MOST_TASKS],
-    saturation: &mut [u32; Table::MOST_TASKS],
-    cost: &mut [u32; Table::MOST_TASKS],
-    tmin: &mut [u32; Table::MOST_TASKS],
-) -> Looked
-    requires { ⌜ Roomy (columns (now largest) (now least) (now elasticity) (now saturation) (now cost) (now tmin)) ⌝ }
-    ensures { λ r. ⌜ FoundLookedHeld settings (table .rows) (table .n) room r (now (cost .exit)) (now (tmin .exit)) (now (largest .exit)) ⌝ }
-{
-    let admission = admission::admit(
-        table,
-        settings,
-        false,
-        room,
-        largest,
-        least,
-        elasticity,
-        saturation,
-        cost,
-        tmin,
-    );
-    let Verdict::Accepted = admission else {
+    let room = ground::shorter(periods.len(), processors.len());
+    let mut block = [0u32; Columns::ROOM];
+    let gate = admission::gate_of(settings, false, n, room);
+    let Verdict::Accepted = gate else {
         let looks = 0;
         return Looked {
-            answer: plan::decide(admission, Step::Nothing),
+            answer: plan::decide(gate, Step::Nothing),
             looks,
         };
     };
-    let ended = search_under(
-        settings,
-        largest,
-        least,
-        elasticity,
-        saturation,
-        cost,
-        tmin,
-        table.n,
-    );
+    let bad = springs::springs_of(table, settings.swap, settings.notch, &mut block);
+    let admission = admission::judge(bad, n);
+    let ended = search_in(admission, settings, &mut block, n);
     let step = ended.step;
-    springs::let_down_to(step, largest, least, elasticity, table.n);
+    let answer = plan::decide(admission, step);
+    plan::grant(answer, settings, &mut block, n, periods, processors);
     Looked {
-        answer: plan::decide(admission, step),
+        answer,
         looks: ended.looks,
     }
 }
 
-// The search of the settings' edition.
-fn search_under(
+// The search of an admitted call, on the springs in the block. A refused one has no step and makes no look.
+fn search_in(
+    admission: Verdict,
     settings: Settings,
-    largest: &[u32; Table::MOST_TASKS],
-    least: &[u32; Table::MOST_TASKS],
-    elasticity: &[u32; Table::MOST_TASKS],
-    saturation: &[u32; Table::MOST_TASKS],
-    cost: &[u32; Table::MOST_TASKS],
-    tmin: &[u32; Table::MOST_TASKS],
+    block: &mut [u32; Columns::ROOM],
     n: usize,
 ) -> Ended
-    requires { ⌜ Chargeable (settings .notch) (now largest) (now least) (now elasticity) (now cost) (now tmin) n
-        × Saturates (springIn (now largest) (now least) (now elasticity)) (now saturation) n
-        × (1 ≤ settings .m) × (settings .m ≤ mostProcessors) × (isWeighed (meant (settings .policy)) ≡ true) ⌝ }
-    ensures { λ r. ⌜ SearchUnder settings (springIn (now (largest .entry)) (now (least .entry)) (now (elasticity .entry)))
-        (now (saturation .entry)) (now (cost .entry)) (now (tmin .entry)) n r ⌝ }
+    requires { ⌜ MaySearch admission settings (now block) n ⌝ }
+    ensures { λ r. ⌜ SearchedIn admission settings n r (now (block .entry)) (now (block .exit)) ⌝ }
+{
+    let Verdict::Accepted = admission else {
+        return Ended {
+            step: Step::Nothing,
+            looks: 0,
+        };
+    };
+    search_under(settings, block, n)
+}
+
+// The search of the settings' edition.
+fn search_under(settings: Settings, block: &mut [u32; Columns::ROOM], n: usize) -> Ended
+    requires { ⌜ Searchable settings (now block) n ⌝ }
+    ensures { λ r. ⌜ SearchUnder settings (now (block .entry)) n r × Beside (now (block .entry)) (now (block .exit)) ⌝ }
 {
     let asked = settings.policy;
     let w = policy::weights_of(asked.meant(), settings.m, n);
     if settings.tests_charge() {
-        return halve::least_step(
-            w,
-            settings.notch,
-            largest,
-            least,
-            elasticity,
-            saturation,
-            cost,
-            tmin,
-            n,
-        );
+        return halve::least_step(w, settings.notch, block, n);
     }
-    search_columns(w, largest, least, elasticity, saturation, n)
+    search_columns(w, block, n)
 }
 
 // One look under edition 1: tests the policy at the step due, and raises the count by one.
-fn look(
-    w: Weights,
-    largest: &[u32; Table::MOST_TASKS],
-    least: &[u32; Table::MOST_TASKS],
-    elasticity: &[u32; Table::MOST_TASKS],
-    n: usize,
-    before: Search,
-    due: u32,
-) -> Search
-    requires { ⌜ Light w × (n ≤ mostTasks) × AllWithin (springIn (now largest) (now least) (now elasticity)) n × (before .looks ≤ mostTasks)
-        × (due ≡ dueAfter (saturations (springIn (now largest) (now least) (now elasticity))) n before)
-        × (0 < before .looks → before .step < due) ⌝ }
-    ensures { λ after. ⌜ OneLook (weighedAt w (springIn (now (largest .entry)) (now (least .entry)) (now (elasticity .entry))) n)
-        (saturations (springIn (now (largest .entry)) (now (least .entry)) (now (elasticity .entry)))) n before after
-        × SumIs (springIn (now (largest .entry)) (now (least .entry)) (now (elasticity .entry))) n (after .step) (after .sum) ⌝ }
+fn look(w: Weights, block: &[u32; Columns::ROOM], n: usize, before: Search, due: u32) -> Search
+    requires { ⌜ Light w × Springy (now block) n × (before .looks ≤ mostTasks)
+        × (due ≡ dueAfter (saturations (springIn (now block))) n before) × (0 < before .looks → before .step < due) ⌝ }
+    ensures { λ after. ⌜ OneLook (weighedAt w (springIn (now (block .entry))) n) (saturations (springIn (now (block .entry)))) n before after
+        × SumIs (springIn (now (block .entry))) n (after .step) (after .sum) ⌝ }
 {
-    let total = division::total_at(largest, least, elasticity, n, due);
-    let passed = division::weighs(w, total);
+    let total = policy::total_at(block, n, due);
+    let passed = policy::weighs(w, total);
     Search {
         looks: before.looks + 1,
         step: due,
@@ -214,17 +116,9 @@ fn look(
 }
 
 // The looks of edition 1, one after the other, and the division at the end.
-fn search_columns(
-    w: Weights,
-    largest: &[u32; Table::MOST_TASKS],
-    least: &[u32; Table::MOST_TASKS],
-    elasticity: &[u32; Table::MOST_TASKS],
-    saturation: &[u32; Table::MOST_TASKS],
-    n: usize,
-) -> Ended
-    requires { ⌜ Light w × Searchable (springIn (now largest) (now least) (now elasticity)) (now saturation) n ⌝ }
-    ensures { λ r. ⌜ SearchEnds (weighedAt w (springIn (now (largest .entry)) (now (least .entry)) (now (elasticity .entry))) n)
-        (saturations (springIn (now (largest .entry)) (now (least .entry)) (now (elasticity .entry)))) n r ⌝ }
+fn search_columns(w: Weights, block: &[u32; Columns::ROOM], n: usize) -> Ended
+    requires { ⌜ Light w × Springy (now block) n ⌝ }
+    ensures { λ r. ⌜ SearchEnds (weighedAt w (springIn (now (block .entry))) n) (saturations (springIn (now (block .entry)))) n r ⌝ }
 {
     let start = Search {
         looks: 0,
@@ -233,35 +127,25 @@ fn search_columns(
         passed: false,
         sum: 0,
     };
-    let mut search = look(w, largest, least, elasticity, n, start, 0);
+    let mut search = look(w, block, n, start, 0);
     if search.passed {
         return Ended {
             step: Step::At(0),
             looks: search.looks,
         };
     }
-    let mut due = division::next_due(saturation, n, 0);
+    let mut due = division::next_due(block, n, 0);
     while due != 0 {
         let sum = search.sum;
-        search = look(w, largest, least, elasticity, n, search, due);
+        search = look(w, block, n, search, due);
         if search.passed {
-            let step = division::divide(
-                w,
-                largest,
-                least,
-                elasticity,
-                saturation,
-                n,
-                search.from,
-                search.step,
-                sum,
-            );
+            let step = division::divide(w, block, n, search.from, search.step, sum);
             return Ended {
                 step: Step::At(step),
                 looks: search.looks,
             };
         }
-        due = division::next_due(saturation, n, search.step);
+        due = division::next_due(block, n, search.step);
     }
     Ended {
         step: Step::Nothing,

@@ -7,6 +7,13 @@ use Rattle.ground.specs.Choice.{pick}
 use Rattle.ground.specs.Rounding.{ceilDiv}
 use Rattle.kinds.specs.Limits.{scale}
 
+-- the greatest cost whose parts 64 bits hold, and how many parts that is
+abbrev pub mostCost : ℕ
+mostCost = 1000000000000
+
+abbrev pub mostParts : ℕ
+mostParts = mostCost * scale
+
 -- cost × S / period rounded up: the largest share at Tmin, the least share at Tmax
 abbrev pub partOf : ℕ → ℕ → ℕ
 partOf cost period = ceilDiv (cost * scale) period

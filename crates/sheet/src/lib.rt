@@ -156,8 +156,7 @@ fn read_settings(s: &[u8], from: usize, n: usize) -> SettingRows
 {
     let mut rows = Settings::FILL_INS;
     let mut at = from;
-    let mut i: usize = 0;
-    while i < n {
+    for i in 0..n {
         let Field16::Value(row, next) = field::read_u16(s, at) else {
             return SettingRows {
                 whole: false,
@@ -167,7 +166,6 @@ fn read_settings(s: &[u8], from: usize, n: usize) -> SettingRows
         };
         rows[i] = row;
         at = next;
-        i += 1;
     }
     SettingRows {
         whole: true,
@@ -183,8 +181,7 @@ fn read_tasks(s: &[u8], from: usize, n: usize) -> TaskRows
 {
     let mut rows = [Task::NONE; Table::MOST_TASKS];
     let mut at = from;
-    let mut i: usize = 0;
-    while i < n {
+    for i in 0..n {
         let TaskField::Value(row, next) = read_task(s, at) else {
             return TaskRows {
                 whole: false,
@@ -194,7 +191,6 @@ fn read_tasks(s: &[u8], from: usize, n: usize) -> TaskRows
         };
         rows[i] = row;
         at = next;
-        i += 1;
     }
     TaskRows {
         whole: true,
@@ -210,8 +206,7 @@ fn read_results(s: &[u8], from: usize, n: usize) -> GrantedRows
 {
     let mut rows = [Granted::NONE; Table::MOST_TASKS];
     let mut at = from;
-    let mut i: usize = 0;
-    while i < n {
+    for i in 0..n {
         let GrantedField::Value(row, next) = read_granted(s, at) else {
             return GrantedRows {
                 whole: false,
@@ -221,7 +216,6 @@ fn read_results(s: &[u8], from: usize, n: usize) -> GrantedRows
         };
         rows[i] = row;
         at = next;
-        i += 1;
     }
     GrantedRows {
         whole: true,

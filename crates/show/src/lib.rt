@@ -1,10 +1,11 @@
 // Printing for the programs that run tables: words, numbers, a finder's answer, and two lent outputs up to the entry after the last task,
 // which shows whether it was written.
 use kinds::Answer;
+use kinds::Table;
 use libc::STDOUT_FILENO;
 
 // How many entries the programs lend: one more than a table may have tasks.
-pub const LENT: usize = 33;
+pub const LENT: usize = Table::MOST_TASKS + 1;
 
 pub fn words(text: &[u8]) {
     io::write_all(STDOUT_FILENO, text);
@@ -38,26 +39,22 @@ pub fn answer(answer: Answer) {
 // Periods, or loads, after their name, up to entry n.
 pub fn amounts(name: &[u8], n: usize, amounts: &[u32; LENT]) {
     words(name);
-    let mut i: usize = 0;
-    while i < LENT {
+    for i in 0..LENT {
         if n < i {
             return;
         }
         number(amounts[i]);
-        i += 1;
     }
 }
 
 // Processors, or core counts, after their name, up to entry n.
 pub fn counts(name: &[u8], n: usize, counts: &[u16; LENT]) {
     words(name);
-    let mut i: usize = 0;
-    while i < LENT {
+    for i in 0..LENT {
         if n < i {
             return;
         }
         short_number(counts[i]);
-        i += 1;
     }
 }
 

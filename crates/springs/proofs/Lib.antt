@@ -1,3 +1,2 @@
-pub mod Columns
-pub mod Carried
-pub mod Charged
+pub mod Springs
+pub mod Blocks

@@ -1,27 +1,44 @@
-// The springs of a table in lent columns of numbers, worked out once for a call, with the costs and the shortest periods; the shares of a
-// step, the periods and the charges come from them.
-// Contracts cite `specs/Spring`, of one spring, `specs/Columns` and `specs/Handover`.
-use ground::Step;
+// The springs of a table, worked out once for a call into a lent block of columns; the loads of a step come from them and stand in the block's
+// first column. Contracts cite `specs/Spring`, of springs, `specs/Columns`, of where they stand, and `specs/Handover`.
 use kinds::Settings;
 use kinds::Table;
 use kinds::Task;
 ghost use mathlib.Core.Path.{_≡_};
-ghost use Prim.Native.Nat.{ℕ, _-_, _≤_, max};
-ghost use lib.ListN.{length, getD};
-ghost use Rattle.ground.specs.Folds.{maxTo};
+ghost use Prim.Native.Nat.{ℕ, _-_, _≤_, _<_, max};
+ghost use lib.ListN.{getD};
 ghost use Rattle.kinds.specs.Limits.{scale, greatestElasticity, longestPeriod, mostTasks};
 ghost use Rattle.kinds.specs.Task.{Good};
-ghost use Rattle.rule.specs.Rule.{shareOf, periodOf, notchedUp};
-ghost use Rattle.springs.specs.Spring.{springOf, saturationOn};
-ghost use Rattle.springs.specs.Handover.{Within, AllWithin, SumIs, Roomy, SprungUntil, SharesAre, HeldAt, ChargesBy, LoadsBy, ChargesAre};
-ghost use Rattle.springs.specs.Handover.{Allowed, Chargeable};
-ghost use Rattle.springs.specs.Columns.{columns, springIn, chargeOn};
+ghost use Rattle.springs.specs.Spring.{springOf, shareOn, letDown, sharesOn, periodFor, chargeFor, chargesOn, loadsOn};
+ghost use Rattle.springs.specs.Columns.{springIn, fullIn};
+ghost use Rattle.springs.specs.Handover.{Within, Allowed, Roomy, Springy, Chargeable, Loaded, Summed, Put, SprungUntil};
 
-// All that a task's shares depend on.
+// All that a task's shares, periods and charges depend on.
 pub struct Spring {
     pub largest: u32,
     pub least: u32,
     pub elasticity: u32,
+    pub saturation: u32,
+    pub cost: u32,
+    pub tmin: u32,
+}
+
+// The columns of a block, by their places in it. The first holds the loads of a step: the shares, or the charges.
+pub struct Columns {}
+
+impl Columns {
+    pub const LARGEST: usize = Table::MOST_TASKS;
+
+    pub const LEAST: usize = 2 * Table::MOST_TASKS;
+
+    pub const ELASTICITY: usize = 3 * Table::MOST_TASKS;
+
+    pub const SATURATION: usize = 4 * Table::MOST_TASKS;
+
+    pub const COST: usize = 5 * Table::MOST_TASKS;
+
+    pub const TMIN: usize = 6 * Table::MOST_TASKS;
+
+    pub const ROOM: usize = 7 * Table::MOST_TASKS;
 }
 
 // The spring of a task.
@@ -31,42 +48,50 @@ pub fn spring_of(task: Task) -> Spring
 {
     let largest = share::largest(task);
     let least = share::least(task);
+    let saturation = rule::saturation(largest.parts, least.parts, task.e);
     Spring {
         largest: largest.parts as u32,
         least: least.parts as u32,
         elasticity: task.e,
+        saturation: saturation as u32,
+        cost: task.c,
+        tmin: task.tmin,
     }
 }
 
-// The saturation step of a spring; 0 where the elasticity is 0.
-pub fn saturation_on(spring: Spring) -> u32
-    requires { ⌜ Within spring ⌝ }
-    ensures { λ r. ⌜ r ≡ saturationOn spring ⌝ }
+// The spring number i of a block.
+pub fn spring_in(block: &[u32; Columns::ROOM], i: usize) -> Spring
+    requires { ⌜ i < mostTasks ⌝ }
+    ensures { λ r. ⌜ r ≡ springIn (now (block .entry)) i ⌝ }
 {
-    let largest = ground::widened(spring.largest);
-    let least = ground::widened(spring.least);
-    rule::saturation(largest, least, spring.elasticity) as u32
+    Spring {
+        largest: block[Columns::LARGEST + i],
+        least: block[Columns::LEAST + i],
+        elasticity: block[Columns::ELASTICITY + i],
+        saturation: block[Columns::SATURATION + i],
+        cost: block[Columns::COST + i],
+        tmin: block[Columns::TMIN + i],
+    }
 }
 
-// The springs of a table, their saturation steps, the costs and the shortest periods, worked out once for a call into six lent columns, up
-// to the first record that is not good where a swap costs so much and a notch is so wide. Returns the number of that record, or how many
-// there are.
-pub fn springs_of(
-    table: Table,
-    swap: u16,
-    notch: u16,
-    largest: &mut [u32; Table::MOST_TASKS],
-    least: &mut [u32; Table::MOST_TASKS],
-    elasticity: &mut [u32; Table::MOST_TASKS],
-    saturation: &mut [u32; Table::MOST_TASKS],
-    cost: &mut [u32; Table::MOST_TASKS],
-    tmin: &mut [u32; Table::MOST_TASKS],
-) -> usize
-    requires { ⌜ (table .n ≤ mostTasks) × (1 ≤ notch)
-        × Roomy (columns (now largest) (now least) (now elasticity) (now saturation) (now cost) (now tmin)) ⌝ }
-    ensures { λ r. ⌜ SprungUntil swap notch (table .rows) (table .n) r
-        (columns (now (largest .exit)) (now (least .exit)) (now (elasticity .exit)) (now (saturation .exit))
-        (now (cost .exit)) (now (tmin .exit))) ⌝ }
+// Puts a spring into a block as number i.
+pub fn put_spring(block: &mut [u32; Columns::ROOM], i: usize, spring: Spring)
+    requires { ⌜ (i < mostTasks) × Roomy (now block) ⌝ }
+    ensures { λ _. ⌜ Put i spring (now (block .entry)) (now (block .exit)) ⌝ }
+{
+    block[Columns::LARGEST + i] = spring.largest;
+    block[Columns::LEAST + i] = spring.least;
+    block[Columns::ELASTICITY + i] = spring.elasticity;
+    block[Columns::SATURATION + i] = spring.saturation;
+    block[Columns::COST + i] = spring.cost;
+    block[Columns::TMIN + i] = spring.tmin;
+}
+
+// The springs of a table, worked out once for a call into a lent block, up to the first record that is not good where a swap costs so much and
+// a notch is so wide. Returns the number of that record, or how many there are.
+pub fn springs_of(table: Table, swap: u16, notch: u16, block: &mut [u32; Columns::ROOM]) -> usize
+    requires { ⌜ (table .n ≤ mostTasks) × (1 ≤ notch) × Roomy (now block) ⌝ }
+    ensures { λ r. ⌜ SprungUntil swap notch (table .rows) (table .n) r (now (block .exit)) ⌝ }
 {
     let n = table.n;
     for i in 0..n {
@@ -74,17 +99,34 @@ pub fn springs_of(
         if !task.good(swap, notch) {
             return i;
         }
-        let priced = task.priced(swap);
-        let spring = spring_of(priced);
-        largest[i] = spring.largest;
-        least[i] = spring.least;
-        elasticity[i] = spring.elasticity;
-        saturation[i] = saturation_on(spring);
-        let whole = priced.c;
-        cost[i] = whole;
-        tmin[i] = priced.tmin;
+        let spring = spring_of(task.priced(swap));
+        put_spring(block, i, spring);
     }
     n
+}
+
+// The share at step k of a spring.
+pub fn share_on(spring: Spring, k: u32) -> u32
+    requires { ⌜ Within spring ⌝ }
+    ensures { λ r. ⌜ (r ≡ shareOn spring k) × (r ≤ scale) ⌝ }
+{
+    let largest = ground::widened(spring.largest);
+    let least = ground::widened(spring.least);
+    rule::share_at(largest, least, spring.elasticity, k) as u32
+}
+
+// Writes the shares of step k, and returns their sum. 32 bits hold it, and are twice as fast as 64.
+pub fn shares_at(block: &mut [u32; Columns::ROOM], n: usize, k: u32) -> u64
+    requires { ⌜ Springy (now block) n ⌝ }
+    ensures { λ r. ⌜ Summed (sharesOn (springIn (now (block .entry))) k) n (now (block .entry)) (now (block .exit)) r ⌝ }
+{
+    let mut sum: u32 = 0;
+    for i in 0..n {
+        let share = share_on(spring_in(block, i), k);
+        block[i] = share;
+        sum += share;
+    }
+    ground::widened(sum)
 }
 
 // What a share comes to one step later.
@@ -99,180 +141,89 @@ pub fn let_down(share: u32, least: u32, elasticity: u32) -> u32
     }
 }
 
-// Lets a column of shares down by one step, and returns the sum of what they then are. 32 bits hold it, and are twice as fast as 64.
-pub fn next_shares(
-    shares: &mut [u32; Table::MOST_TASKS],
-    least: &[u32; Table::MOST_TASKS],
-    elasticity: &[u32; Table::MOST_TASKS],
-    n: usize,
-) -> u64
-    requires { ⌜ (n ≤ mostTasks) × (length (now shares) ≡ mostTasks) × AllWithin (springIn (now shares) (now least) (now elasticity)) n ⌝ }
-    ensures { λ r. ⌜ SharesAre (springIn (now (shares .entry)) (now (least .entry)) (now (elasticity .entry))) n 1 (now (shares .exit))
-        × SumIs (springIn (now (shares .entry)) (now (least .entry)) (now (elasticity .entry))) n 1 r ⌝ }
+// Lets the shares of a step down to those of the next, and returns their sum.
+pub fn next_shares(block: &mut [u32; Columns::ROOM], n: usize) -> u64
+    requires { ⌜ Springy (now block) n × ((i : ℕ) → i < n → getD (now block) i 0 ≤ scale) ⌝ }
+    ensures { λ r. ⌜ Summed (λ (i : ℕ). letDown (springIn (now (block .entry)) i) (getD (now (block .entry)) i 0)) n
+        (now (block .entry)) (now (block .exit)) r ⌝ }
 {
     let mut sum: u32 = 0;
     for i in 0..n {
-        let share = let_down(shares[i], least[i], elasticity[i]);
-        shares[i] = share;
+        let share = let_down(
+            block[i],
+            block[Columns::LEAST + i],
+            block[Columns::ELASTICITY + i],
+        );
+        block[i] = share;
         sum += share;
     }
     ground::widened(sum)
 }
 
-// The share at step k of a spring.
-pub fn share_on(largest: u32, least: u32, elasticity: u32, k: u32) -> u32
-    requires { ⌜ (largest ≤ scale) × (least ≤ largest) ⌝ }
-    ensures { λ r. ⌜ r ≡ shareOf largest least elasticity k ⌝ }
+// The period on a notch that a share allows.
+pub fn period_for(notch: u16, spring: Spring, share: u32) -> u32
+    requires { ⌜ (1 ≤ notch) × (1 ≤ share) × (periodFor notch spring share ≤ longestPeriod) ⌝ }
+    ensures { λ r. ⌜ r ≡ periodFor notch spring share ⌝ }
 {
-    rule::share_at(
-        ground::widened(largest),
-        ground::widened(least),
-        elasticity,
-        k,
-    ) as u32
-}
-
-// Lets a column of largest shares down to those of step k.
-pub fn shares_at(
-    shares: &mut [u32; Table::MOST_TASKS],
-    least: &[u32; Table::MOST_TASKS],
-    elasticity: &[u32; Table::MOST_TASKS],
-    n: usize,
-    k: u32,
-)
-    requires { ⌜ (n ≤ mostTasks) × (length (now shares) ≡ mostTasks) × AllWithin (springIn (now shares) (now least) (now elasticity)) n ⌝ }
-    ensures { λ _. ⌜ SharesAre (springIn (now (shares .entry)) (now (least .entry)) (now (elasticity .entry))) n k (now (shares .exit)) ⌝ }
-{
-    for i in 0..n {
-        shares[i] = share_on(shares[i], least[i], elasticity[i], k);
-    }
-}
-
-// Lets a column of largest shares down to those of a step, if there is one.
-pub fn let_down_to(
-    step: Step,
-    shares: &mut [u32; Table::MOST_TASKS],
-    least: &[u32; Table::MOST_TASKS],
-    elasticity: &[u32; Table::MOST_TASKS],
-    n: usize,
-)
-    requires { ⌜ (n ≤ mostTasks) × (length (now shares) ≡ mostTasks) × AllWithin (springIn (now shares) (now least) (now elasticity)) n ⌝ }
-    ensures { λ _. ⌜ HeldAt step (springIn (now (shares .entry)) (now (least .entry)) (now (elasticity .entry))) n (now (shares .exit)) ⌝ }
-{
-    if let Step::At(k) = step {
-        shares_at(shares, least, elasticity, n, k);
-    }
-}
-
-// The period that a share allows a task with this cost and this shortest period, on a notch.
-pub fn period_on(notch: u16, cost: u32, tmin: u32, share: u32) -> u32
-    requires { ⌜ (1 ≤ notch) × (1 ≤ share) × (notchedUp notch (periodOf cost tmin share) ≤ longestPeriod) ⌝ }
-    ensures { λ r. ⌜ r ≡ notchedUp notch (periodOf cost tmin share) ⌝ }
-{
-    let period = rule::period(ground::widened(cost), tmin, ground::widened(share));
+    let period = rule::period(
+        ground::widened(spring.cost),
+        spring.tmin,
+        ground::widened(share),
+    );
     rule::notched_up(notch, period) as u32
 }
 
-// The charge of a task with this cost and this shortest period, at the period on a notch that a share allows.
-pub fn charge_on(notch: u16, cost: u32, tmin: u32, share: u32) -> u32
-    requires { ⌜ (1 ≤ notch) × (1 ≤ tmin) × (1 ≤ share) × (notchedUp notch (periodOf cost tmin share) ≤ longestPeriod) ⌝ }
-    ensures { λ r. ⌜ r ≡ chargeOn notch cost tmin share ⌝ }
+// The period of step k.
+pub fn period_at(notch: u16, spring: Spring, k: u32) -> u32
+    requires { ⌜ Allowed notch spring ⌝ }
+    ensures { λ r. ⌜ r ≡ periodFor notch spring (shareOn spring k) ⌝ }
 {
-    let period = period_on(notch, cost, tmin, share);
-    rule::part(ground::widened(cost), period) as u32
+    period_for(notch, spring, share_on(spring, k))
 }
 
-// The charge at step k of a task with this spring, cost and shortest period. The largest share is charged whole, at Tmin, which spares a
-// rigid task its divisions.
-pub fn charge_at(
-    notch: u16,
-    largest: u32,
-    least: u32,
-    elasticity: u32,
-    cost: u32,
-    tmin: u32,
-    k: u32,
-) -> u32
-    requires { ⌜ (1 ≤ notch) × (1 ≤ tmin) × (1 ≤ least) × (least ≤ largest) × (largest ≤ scale)
-        × (notchedUp notch (periodOf cost tmin least) ≤ longestPeriod) × (chargeOn notch cost tmin largest ≡ largest) ⌝ }
-    ensures { λ r. ⌜ (r ≡ chargeOn notch cost tmin (shareOf largest least elasticity k)) × (r ≤ scale) ⌝ }
+// The charge of step k. The largest share is charged whole, at Tmin, which spares a rigid task its divisions.
+pub fn charge_at(notch: u16, spring: Spring, k: u32) -> u32
+    requires { ⌜ Allowed notch spring ⌝ }
+    ensures { λ r. ⌜ (r ≡ chargeFor notch spring (shareOn spring k)) × (r ≤ scale) ⌝ }
 {
-    let share = share_on(largest, least, elasticity, k);
-    if share == largest {
+    let share = share_on(spring, k);
+    if share == spring.largest {
         return share;
     }
-    charge_on(notch, cost, tmin, share)
+    let period = period_for(notch, spring, share);
+    rule::part(ground::widened(spring.cost), period) as u32
 }
 
-// Turns a column of shares into one of the charges at the periods that they allow.
-fn charges_of(
-    notch: u16,
-    cost: &[u32; Table::MOST_TASKS],
-    tmin: &[u32; Table::MOST_TASKS],
-    shares: &mut [u32; Table::MOST_TASKS],
-    n: usize,
-)
-    requires { ⌜ (n ≤ mostTasks) × (length (now shares) ≡ mostTasks) × Allowed notch (now cost) (now tmin) (now shares) n ⌝ }
-    ensures { λ _. ⌜ ChargesBy notch (now (cost .entry)) (now (tmin .entry)) (now (shares .entry)) n (now (shares .exit)) ⌝ }
+// Writes the charges of step k.
+pub fn charges_at(notch: u16, block: &mut [u32; Columns::ROOM], n: usize, k: u32)
+    requires { ⌜ Chargeable notch (now block) n ⌝ }
+    ensures { λ _. ⌜ Loaded (chargesOn notch (springIn (now (block .entry))) k) n (now (block .entry)) (now (block .exit)) ⌝ }
 {
     for i in 0..n {
-        shares[i] = charge_on(notch, cost[i], tmin[i], shares[i]);
+        block[i] = charge_at(notch, spring_in(block, i), k);
     }
 }
 
-// Turns a column of shares into one of what the settings' edition tests and places: the charges under edition 2, else the shares.
-pub fn loads_of(
-    settings: Settings,
-    cost: &[u32; Table::MOST_TASKS],
-    tmin: &[u32; Table::MOST_TASKS],
-    shares: &mut [u32; Table::MOST_TASKS],
-    n: usize,
-)
-    requires { ⌜ (n ≤ mostTasks) × (length (now shares) ≡ mostTasks) × Allowed (settings .notch) (now cost) (now tmin) (now shares) n ⌝ }
-    ensures { λ _. ⌜ LoadsBy settings (now (cost .entry)) (now (tmin .entry)) (now (shares .entry)) n (now (shares .exit)) ⌝ }
+// Writes what the settings' edition tests and places at step k: the charges under edition 2, else the shares.
+pub fn loads_at(settings: Settings, block: &mut [u32; Columns::ROOM], n: usize, k: u32)
+    requires { ⌜ Chargeable (settings .notch) (now block) n ⌝ }
+    ensures { λ _. ⌜ Loaded (loadsOn settings (springIn (now (block .entry))) k) n (now (block .entry)) (now (block .exit)) ⌝ }
 {
     if settings.tests_charge() {
-        charges_of(settings.notch, cost, tmin, shares, n);
-    }
-}
-
-// Writes the charges of step k, worked out of springs, costs and shortest periods, to a column of their own.
-pub fn charges_at(
-    notch: u16,
-    largest: &[u32; Table::MOST_TASKS],
-    least: &[u32; Table::MOST_TASKS],
-    elasticity: &[u32; Table::MOST_TASKS],
-    cost: &[u32; Table::MOST_TASKS],
-    tmin: &[u32; Table::MOST_TASKS],
-    n: usize,
-    k: u32,
-    charges: &mut [u32; Table::MOST_TASKS],
-)
-    requires { ⌜ Chargeable notch (now largest) (now least) (now elasticity) (now cost) (now tmin) n × (length (now charges) ≡ mostTasks) ⌝ }
-    ensures { λ _. ⌜ ChargesAre notch (now (cost .entry)) (now (tmin .entry))
-        (springIn (now (largest .entry)) (now (least .entry)) (now (elasticity .entry))) n k (now (charges .exit)) ⌝ }
-{
-    for i in 0..n {
-        charges[i] = charge_at(
-            notch,
-            largest[i],
-            least[i],
-            elasticity[i],
-            cost[i],
-            tmin[i],
-            k,
-        );
+        charges_at(settings.notch, block, n, k);
+    } else {
+        shares_at(block, n, k);
     }
 }
 
 // Document 01: "Full compression K: the greatest saturation step, 0 if there is none."
-pub fn full_compression(saturation: &[u32; Table::MOST_TASKS], n: usize) -> u32
+pub fn full_compression(block: &[u32; Columns::ROOM], n: usize) -> u32
     requires { ⌜ n ≤ mostTasks ⌝ }
-    ensures { λ r. ⌜ r ≡ maxTo (λ (i : ℕ). getD (now (saturation .entry)) i 0) n ⌝ }
+    ensures { λ r. ⌜ r ≡ fullIn (now (block .entry)) n ⌝ }
 {
     let mut greatest: u32 = 0;
     for i in 0..n {
-        greatest = ground::later(greatest, saturation[i]);
+        greatest = ground::later(greatest, block[Columns::SATURATION + i]);
     }
     greatest
 }

@@ -1,8 +1,6 @@
 -- Station sheets in numbers that cross to C.
 -- Assumes nothing.
 use Prim.Native.Nat.{ℕ}
-use mathlib.Core.List.{List}
-use mathlib.Core.Path.{_≡_}
 use Rattle.kinds.specs.declared.Sheet.{Sheet}
 use Rattle.kinds.specs.Policy.{policyNumber}
 use Rattle.kinds.specs.Answer.{Handed}

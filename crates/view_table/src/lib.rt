@@ -144,22 +144,29 @@ pub fn put_records(out: &mut [u8], at: usize, table: Table) -> usize {
     next
 }
 
+// What a plan is shown of: a table, its settings and the plan's step.
+pub struct Shown {
+    pub table: Table,
+    pub settings: Settings,
+    pub step: u32,
+}
+
 // The records of a table with what the plan of a step grants them.
 pub fn put_plan(
     out: &mut [u8],
     at: usize,
-    table: Table,
-    settings: Settings,
-    step: u32,
+    shown: Shown,
     periods: &[u32; Table::MOST_TASKS],
     processors: &[u16; Table::MOST_TASKS],
 ) -> usize {
+    let table = shown.table;
+    let settings = shown.settings;
     let n = ground::shorter(table.n, Table::MOST_TASKS);
     let mut next = put_head(out, at, true);
     for i in 0..n {
         let task = table.rows[i];
         let record = put_record(out, next, i, task);
-        let share = share_of(task, settings, step);
+        let share = share_of(task, settings, shown.step);
         let granted = put_granted(out, record, share, task, periods[i], processors[i]);
         next = text::byte(out, granted, b'\n');
     }

@@ -10,9 +10,13 @@ use kinds::Sheet;
 use kinds::Table;
 use kinds::Task;
 use kinds::Verdict;
+use view_table::Shown;
 
 // Room for every view: 32 tasks, 16 processors and ten lines besides, of 80 columns.
 pub const LONGEST: usize = 4_800;
+
+// A load for each of the most processors.
+const MOST_LOADS: usize = Settings::MOST_PROCESSORS as usize;
 
 // A line with the load of a processor.
 fn put_load(out: &mut [u8], at: usize, processor: usize, load: u32) -> usize {
@@ -25,21 +29,9 @@ fn put_load(out: &mut [u8], at: usize, processor: usize, load: u32) -> usize {
     text::byte(out, gauged, b'\n')
 }
 
-// The load of each processor at a step.
-fn put_loads(
-    out: &mut [u8],
-    at: usize,
-    table: Table,
-    settings: Settings,
-    step: u32,
-    processors: &[u16; Table::MOST_TASKS],
-) -> usize {
-    let mut loads = [0u32; Settings::MOST_PROCESSORS as usize];
-    let verdict = proposal::check(table, settings, step, processors, &mut loads);
-    let Verdict::Accepted = verdict else {
-        return at;
-    };
-    let m = ground::shorter(settings.m as usize, Settings::MOST_PROCESSORS as usize);
+// The load of each of so many processors.
+fn put_loads(out: &mut [u8], at: usize, processors: u16, loads: &[u32; MOST_LOADS]) -> usize {
+    let m = ground::shorter(processors as usize, MOST_LOADS);
     let mut next = text::byte(out, at, b'\n');
     for j in 0..m {
         let load = loads[j];
@@ -84,7 +76,12 @@ fn put_room(
     let policy = settings.policy;
     let asked = policy.meant();
     if asked.is_first_fit() {
-        return put_loads(out, at, table, settings, step, processors);
+        let mut loads = [0u32; MOST_LOADS];
+        let verdict = proposal::check(table, settings, step, processors, &mut loads);
+        let Verdict::Accepted = verdict else {
+            return at;
+        };
+        return put_loads(out, at, settings.m, &loads);
     }
     let margined = put_margin(out, at, margin::margin_at(table, settings, step), step);
     put_kernel(out, margined, asked, settings.m)
@@ -169,7 +166,12 @@ fn put_accepted(
     let fits = text::words(out, set, b"the tasks fit at step ");
     let stepped = text::number(out, fits, step as u64, 0);
     let ended = text::byte(out, stepped, b'\n');
-    let planned = view_table::put_plan(out, ended, table, settings, step, periods, processors);
+    let shown = Shown {
+        table,
+        settings,
+        step,
+    };
+    let planned = view_table::put_plan(out, ended, shown, periods, processors);
     put_room(out, planned, table, settings, step, processors)
 }
 

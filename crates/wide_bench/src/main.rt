@@ -78,6 +78,10 @@ fn limits() {
         same(WideTask::new(30, 5, 10, 29, 1000), 1),
     );
     run(b"Tmax = C", 4, same(WideTask::new(30, 5, 10, 30, 1000), 1));
+}
+
+// The greatest numbers.
+fn greatest() {
     run(
         b"E = 1000001",
         16,
@@ -113,4 +117,5 @@ fn main() {
     vision();
     widest();
     limits();
+    greatest();
 }

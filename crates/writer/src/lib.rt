@@ -42,10 +42,8 @@ fn put_tasks(out: &mut [u8], from: usize, rows: [Task; Table::MOST_TASKS], n: us
     ensures { λ r. ⌜ Put (now (out .entry)) from (taskSize * n) (tasksBytes rows n) r (now (out .exit)) ⌝ }
 {
     let mut at = from;
-    let mut i: usize = 0;
-    while i < n {
+    for i in 0..n {
         at = put_task(out, at, rows[i]);
-        i += 1;
     }
     at
 }
@@ -56,10 +54,8 @@ fn put_results(out: &mut [u8], from: usize, rows: [Granted; Table::MOST_TASKS], 
     ensures { λ r. ⌜ Put (now (out .entry)) from (grantedSize * n) (resultsBytes rows n) r (now (out .exit)) ⌝ }
 {
     let mut at = from;
-    let mut i: usize = 0;
-    while i < n {
+    for i in 0..n {
         at = put_granted(out, at, rows[i]);
-        i += 1;
     }
     at
 }
@@ -70,10 +66,8 @@ fn put_numbers(out: &mut [u8], from: usize, rows: [u16; Settings::MOST], n: usiz
     ensures { λ r. ⌜ Put (now (out .entry)) from (settingSize * n) (numbersBytes rows n) r (now (out .exit)) ⌝ }
 {
     let mut at = from;
-    let mut i: usize = 0;
-    while i < n {
+    for i in 0..n {
         at = field::put_u16(out, at, rows[i]);
-        i += 1;
     }
     at
 }

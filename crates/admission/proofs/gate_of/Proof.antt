@@ -7,7 +7,7 @@ returns : tie.Need-returns
 returns c =
     let two = c .before .before in
     let last = two .before .before .before in
-    let p = last .before .before .before in
+    let meaning = last .before .before .before in
     rw (
       c .and-then3 .ensures,
       c .before .knows .ensures,
@@ -17,11 +17,9 @@ returns c =
       last .and-then .ensures,
       last .before .roomy .ensures,
       last .before .before .served .ensures,
-      p .meant .ensures,
+      meaning .meant .ensures,
     )
 
 pub gate-of-spec : {M : Type 1} → statement M
-gate-of-spec =
-    tie.close
-    (tie.spec (λ c κs. search needs) (λ c κs. search needs) (λ c κs. search needs) (λ c κs. search needs) (λ c κs. search needs)
+gate-of-spec = tie.close (tie.spec (λ c κs. search needs) (λ c κs. search needs) (λ c κs. search needs) (λ c κs. search needs) (λ c κs. search needs)
     (λ c κs. search needs) (λ c κs. search needs) (λ c κs. search needs) (λ c κs. search needs) returns)

@@ -15,7 +15,7 @@ returns-2 : tie.Need-returns-2
 returns-2 c = rw (set (c .before .before), eq-eqb _ _ (c .if2 .taken))
 
 returns-3 : tie.Need-returns-3
-returns-3 c = let i = c .before in rw (set (i .before .before), ne-eqb _ _ (i .if2 .left)) (c .no-edition .ensures)
+returns-3 c = let left = c .before in rw (set (left .before .before), ne-eqb _ _ (left .if2 .left)) (c .no-edition .ensures)
 
 pub misset-numbers-spec : {M : Type 1} → statement M
 misset-numbers-spec = tie.close (tie.spec (λ c κs. search needs) returns returns-2 (λ c κs. search needs) returns-3)

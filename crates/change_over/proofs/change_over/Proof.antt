@@ -22,18 +22,16 @@ part-result-end-2 c =
 
 returns : tie.Need-returns
 returns c =
-    let entry = c .before .before .before .before .before .before .before in
-    lent _ _ (entry .args .standing .ptr) (entry .args .proposed .ptr) _ (c .before .before .before .before .part-of .ensures) Standing
-    (c .before .enum-told .given .1) _ refl
+    let named = c .before .before .before .before in
+    let entry = named .before .before .before in
+    lent _ _ (entry .args .standing .ptr) (entry .args .proposed .ptr) _ (named .part-of .ensures) Standing (c .before .enum-told .given .1) _ refl
 
 returns-2 : tie.Need-returns-2
 returns-2 c =
-    let entry = c .before .before .before .before .before .before .before in
-    lent _ _ (entry .args .standing .ptr) (entry .args .proposed .ptr) _ (c .before .before .before .before .part-of .ensures) Proposed
-    (c .before .enum-told2 .given .1) _ refl
+    let named = c .before .before .before .before in
+    let entry = named .before .before .before in
+    lent _ _ (entry .args .standing .ptr) (entry .args .proposed .ptr) _ (named .part-of .ensures) Proposed (c .before .enum-told2 .given .1) _ refl
 
 pub change-over-spec : {M : Type 1} → statement M
-change-over-spec =
-    tie.close
-    (tie.spec (λ c κs. search needs) add-end (λ c. search needs) (λ c. search needs) (λ c. search needs) part-result-end (λ c. search needs)
-    (λ c. search needs) (λ c. search needs) part-result-end-2 returns returns-2)
+change-over-spec = tie.close (tie.spec (λ c κs. search needs) add-end (λ c. search needs) (λ c. search needs) (λ c. search needs) part-result-end
+    (λ c. search needs) (λ c. search needs) (λ c. search needs) part-result-end-2 returns returns-2)

@@ -35,7 +35,5 @@ returns-3 c =
     (sym (c .before .before .section-of2 .ensures) ∙ c .enum-told2 .given .1)
 
 pub part-of-spec : {M : Type 1} → statement M
-part-of-spec =
-    tie.close
-    (tie.spec (λ c κs. search needs) (λ c. search needs) tasks-of-requires returns (λ c. search needs) (λ c κs. search needs) (λ c. search needs)
-    tasks-of-requires-2 returns-2 (λ c. search needs) returns-3)
+part-of-spec = tie.close (tie.spec (λ c κs. search needs) (λ c. search needs) tasks-of-requires returns (λ c. search needs) (λ c κs. search needs)
+    (λ c. search needs) tasks-of-requires-2 returns-2 (λ c. search needs) returns-3)

@@ -25,7 +25,5 @@ returns-3 c =
     (decided .decide .result) (decided .decide .ensures) _ (c .before .accepted .ensures) (c .if1 .left)
 
 pub section-of-spec : {M : Type 1} → statement M
-section-of-spec =
-    tie.close
-    (tie.spec (λ c κs. search needs) (λ c. search needs) (λ c. search needs) returns (λ c κs. search needs) (λ c κs. search needs) returns-2
-    returns-3)
+section-of-spec = tie.close (tie.spec (λ c κs. search needs) (λ c. search needs) (λ c. search needs) returns (λ c κs. search needs) (λ c κs. search needs)
+    returns-2 returns-3)

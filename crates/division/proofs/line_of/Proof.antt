@@ -6,16 +6,16 @@ use Rattle.division.proofs.line_of.Tie as tie
 returns : tie.Need-returns
 returns c =
     let less = c .before in
-    let l = less .before in
+    let lefted = less .before in
     let over = less .less-or-zero .ensures in
     let by = c .left-of2 .ensures in
     record {
-      over-is = rw (← l .left-of .ensures .is) over;
+      over-is = rw (← lefted .left-of .ensures .is) over;
       by-is = by .is;
       falling =
           record {
-            over-most = omega (arith, over, l .left-of .ensures .most);
-            by-some = omega (arith, by .is, l .before .pre .3);
+            over-most = omega (arith, over, lefted .left-of .ensures .most);
+            by-some = omega (arith, by .is, lefted .before .pre .3);
             by-most = by .most;
           };
     }

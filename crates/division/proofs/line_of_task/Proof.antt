@@ -1,29 +1,33 @@
 -- `division::line_of_task` meets its contract. Assumes nothing.
-use Rattle.ground.proofs.Kit.{_≡_, _∙_, arith, needs}
-use Rattle.rule.specs.Rule.{shareOf}
-use Rattle.division.proofs.Lines.{slope-most}
+use Rattle.ground.proofs.Kit.{arith, needs}
 use Rattle.division.proofs.line_of_task.Statement.{statement}
 use Rattle.division.proofs.line_of_task.Tie as tie
 
--- the share at p
-shared : (c : tie.After-share-at) → let a = c .before .before .before .args in c .share-at .result ≡ shareOf (a .largest) (a .least) (a .elasticity) (a .p)
-shared c = rw (c .before .before .widened .ensures, c .before .widened2 .ensures) at (c .share-at .ensures)
-
 line-of-requires : tie.Need-line-of-requires
 line-of-requires c κs =
-    let s = c .before .before .before .before .before in
-    let p = s .pre in
-    let e = c .widened3 .ensures ∙ c .before .slope-of .ensures in
-    let most = slope-most (s .args .elasticity) (s .args .saturation) (s .args .p) in
-    (p .0, p .4, omega (arith, shared (c .before .before), p .1, p .2), p .5, p .6, omega (arith, e, most, p .3))
+    let sloped = c .before in
+    let widened = sloped .before in
+    let shared = widened .before in
+    let pre = shared .before .pre in (
+      pre .0,
+      pre .2,
+      omega (arith, widened .widened .ensures, shared .share-on .ensures .1),
+      pre .3,
+      pre .4,
+      omega (arith, c .widened2 .ensures, sloped .slope-of .ensures .1),
+    )
 
 returns : tie.Need-returns
 returns c =
-    let d = c .before in
-    rw (← shared (d .before .before), ← d .before .slope-of .ensures, ← d .widened3 .ensures) (c .line-of .ensures)
+    let widened = c .before in
+    let sloped = widened .before in
+    let shared = sloped .before in
+    rw (
+      ← shared .before .share-on .ensures .0,
+      ← shared .widened .ensures,
+      ← sloped .slope-of .ensures .0,
+      ← widened .widened2 .ensures,
+    ) (c .line-of .ensures)
 
 pub line-of-task-spec : {M : Type 1} → statement M
-line-of-task-spec =
-    tie.close
-    (tie.spec (λ c κs. search needs) (λ c κs. search needs) (λ c κs. search needs) (λ c κs. search needs) (λ c κs. search needs) line-of-requires
-    returns)
+line-of-task-spec = tie.close (tie.spec (λ c κs. search needs) (λ c κs. search needs) (λ c κs. search needs) (λ c κs. search needs) line-of-requires returns)

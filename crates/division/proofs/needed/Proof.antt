@@ -8,21 +8,17 @@ use Rattle.division.proofs.needed.Tie as tie
 
 line-of-requires : tie.Need-line-of-requires
 line-of-requires c κs =
-    let p = c .before .before .pre in
-    let f = p .1 in
-    (p .0, f .sum-most, omega arith, f .fall-some, f .fall-most, omega arith)
-
-need-of-requires : tie.Need-need-of-requires
-need-of-requires c κs = c .line-of .ensures .falling
+    let pre = c .before .before .pre in
+    let falls = pre .1 in
+    (pre .0, falls .sum-most, omega arith, falls .fall-some, falls .fall-most, omega arith)
 
 returns : tie.Need-returns
 returns c =
-    let l = c .before in
-    let flat = l .before in
-    let a = flat .before .before .args in
-    let springs = springIn (a .largest .now) (a .least .now) (a .elasticity .now) in
-    c .need-of .ensures .is
-    ∙ (need-line _ _ _ _ _ _ (l .line-of .ensures) ∙ sym (need-flatly (a .w) springs (a .p) (a .sum) (a .fall) (a .n) (flat .if1 .taken)))
+    let lined = c .before in
+    let flat = lined .before in
+    let args = flat .before .before .args in
+    let same = need-flatly (args .w) (springIn (args .block .now)) (args .p) (args .sum) (args .fall) (args .n) (flat .if1 .taken) in
+    c .need-of .ensures .is ∙ (need-line _ _ _ _ _ _ (lined .line-of .ensures) ∙ sym same)
 
 pub needed-spec : {M : Type 1} → statement M
-needed-spec = tie.close (tie.spec line-of-requires need-of-requires returns (λ c κs. search needs) (λ c. search needs))
+needed-spec = tie.close (tie.spec line-of-requires (λ c κs. c .line-of .ensures .falling) returns (λ c κs. search needs) (λ c. search needs))

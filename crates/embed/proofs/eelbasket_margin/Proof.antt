@@ -1,11 +1,11 @@
 -- `embed::eelbasket_margin` meets its contract: the law of shape vv, at the core `told::margin_told`, the station, and a step.
 -- Assumes nothing.
-use mathlib.Core.Path.{_∙_}
+use Rattle.ground.proofs.Kit.{_∙_}
 use Rattle.walk.proofs.Thin.{id⊢, w32, of-uint, fact-to}
 use Rattle.walk.proofs.ThinVv.{thin}
 use Rattle.told_numbers.specs.Numbers.{settingsOf}
-use Rattle.rows.proofs.Bridge.{margin-over}
-use Rattle.rows.proofs.Lent.{gathered}
+use Rattle.embed.proofs.Bridge.{margin-over}
+use Rattle.lent_rows.proofs.Lent.{gathered}
 use Rattle.embed.proofs.Values as values
 use Rattle.told.proofs.margin_told as core
 use Rattle.told.proofs.margin_told.Symbol as core-def
@@ -20,7 +20,7 @@ unfolding code.routine
 eelbasket-margin-spec 𝓤 H 𝓜 𝓖 𝓡 =
     thin (gathered 𝓤 H 𝓜 𝓖 𝓡) values.told-margin values.station (of-uint w32)
     core-def.name core-def.routine (core.clauses 𝓤 H (𝓖 .A) (𝓜 .mem) (𝓡 .run)) (core-thm.met 𝓤 H 𝓜 𝓖 𝓡)
-    code.env key.name (code.unfolded 𝓤 H 𝓜 𝓡) code.calls-rows·gather code.calls-told·margin-told (eelbasket-margin.clauses 𝓤 H (𝓖 .A) (𝓜 .mem) (𝓡 .run))
+    code.env key.name (code.unfolded 𝓤 H 𝓜 𝓡) code.calls-lent-rows·gather code.calls-told·margin-told (eelbasket-margin.clauses 𝓤 H (𝓖 .A) (𝓜 .mem) (𝓡 .run))
     (record {
       ghost = λ κ x s k g. tt;
       asks = λ κ x s k g. id⊢ 𝓤 _;

@@ -5,15 +5,10 @@ use Rattle.field.specs.Handover.{stored}
 use Rattle.field.proofs.put_u16.Statement.{statement}
 use Rattle.field.proofs.put_u16.Tie as tie
 
-slice-write-out-2 : tie.Need-slice-write-out-2
-slice-write-out-2 c = simp length-set (omega arith)
-
 returns : tie.Need-returns
 unfolding stored bytesOf
 returns c = record { next-is = refl; run-long = refl; new-is = simp (add-one) }
 
 pub put-u16-spec : {M : Type 1} → statement M
-put-u16-spec =
-    tie.close
-    (tie.spec (λ c. search needs) (λ c. search needs) (λ c. search needs) (λ c. search needs) slice-write-out-2 (λ c. search needs)
-    (λ c. search needs) returns)
+put-u16-spec = tie.close (tie.spec (λ c. search needs) (λ c. search needs) (λ c. search needs) (λ c. search needs) (λ c. simp length-set (omega arith))
+    (λ c. search needs) (λ c. search needs) returns)

@@ -10,11 +10,10 @@ returns c = sym (missing16 _ _ (omega arith))
 
 returns-2 : tie.Need-returns-2
 returns-2 c =
-    let a = c .before .before .before .before .before .before .before .args in
-    cc (there16 (a .s .now) (a .at) (omega arith), number-two (a .s .now) (a .at))
+    let there = c .before .before .before .before in
+    let args = there .before .before .before .args in
+    cc (there16 (args .s .now) (args .at) (omega arith), number-two (args .s .now) (args .at))
 
 pub read-u16-spec : {M : Type 1} → statement M
-read-u16-spec =
-    tie.close
-    (tie.spec (λ c κs. search needs) returns (λ c. search needs) (λ c κs. search needs) (λ c. search needs) (λ c. search needs)
+read-u16-spec = tie.close (tie.spec (λ c κs. search needs) returns (λ c. search needs) (λ c κs. search needs) (λ c. search needs) (λ c. search needs)
     (λ c κs. search needs) (λ c. search needs) (λ c. search needs) (λ c. search needs) returns-2)

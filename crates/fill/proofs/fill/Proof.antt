@@ -7,8 +7,8 @@ use Rattle.fill.proofs.fill.Tie as tie
 returns : tie.Need-returns
 returns c =
     let told = c .before .before .before in
-    let p = rw (told .written .given .1) at (told .before .before .fill-in .ensures) in
-    rw (tells-line _ _ _ _ p) (rw (kept _ _ _ _ p) at (c .put-refusal .ensures))
+    let fills = rw (told .written .given .1) at (told .before .before .fill-in .ensures) in
+    rw (tells-line _ _ _ _ fills) (rw (kept _ _ _ _ fills) at (c .put-refusal .ensures))
 
 returns-2 : tie.Need-returns-2
 returns-2 c = tells-sheet _ _ _ _ (rw (c .before .written2 .given .1) at (c .before .before .before .fill-in .ensures))

@@ -1,4 +1,5 @@
--- `fill::results_of` meets its contract: the rows so far are the first entries, and the rest are unused places. Assumes nothing.
+-- `fill::results_of` meets its contract. Assumes nothing.
+-- The loop: the first i rows are the entries of the two outputs, the rest are unused; n − i falls.
 use Rattle.ground.proofs.Kit.{_-_, _≤_, _≡_, refl, sym, arith, length, length-set, needs}
 use Rattle.kinds.specs.Limits.{mostTasks}
 use Rattle.sheet.specs.Rows.{noGranted, noResults, paddedRows}
@@ -20,18 +21,13 @@ loop-holds c = (search needs, (refl, sym (over-none noResults (entryAt (c .args 
 
 loop-again : tie.Need-loop-again Inv-loop μ-loop
 loop-again c =
-    let l = c .before .loop in
-    let a = c .before .before .args in
-    (search needs, (simp length-set (l .inv .1 .0), rows-more (a .t1) (a .t2) (l .rows) (l .i) (l .inv .1 .1)))
+    let so-far = c .before .loop .inv in
+    let args = c .before .before .args in
+    (search needs, (simp length-set (so-far .1 .0), rows-more (args .t1) (args .t2) _ _ (so-far .1 .1)))
 
 returns : tie.Need-returns Inv-loop μ-loop
-returns c =
-    let l = c .before .loop in
-    let a = c .before .before .args in
-    rows-done (a .t1) (a .t2) (l .rows) (l .i) (l .inv .1 .1) (a .n) (omega arith)
+returns c = rows-done _ _ _ _ (c .before .loop .inv .1 .1) _ (omega arith)
 
 pub results-of-spec : {M : Type 1} → statement M
-results-of-spec =
-    tie.close
-    (tie.spec Inv-loop μ-loop loop-holds (λ c. search needs) (λ c. search needs) (λ c. search needs) (λ c. search needs) (λ c. search needs)
-    (λ c. search needs) (λ c. search needs) (λ c. search needs) loop-again returns)
+results-of-spec = tie.close (tie.spec Inv-loop μ-loop loop-holds (λ c. search needs) (λ c. search needs) (λ c. search needs) (λ c. search needs)
+    (λ c. search needs) (λ c. search needs) (λ c. search needs) (λ c. search needs) loop-again returns)

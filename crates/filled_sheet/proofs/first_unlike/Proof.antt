@@ -1,4 +1,5 @@
--- `filled_sheet::first_unlike` meets its contract: no result so far differs. Assumes nothing.
+-- `filled_sheet::first_unlike` meets its contract. Assumes nothing.
+-- The loop: none of the first i results differs; n − i falls.
 use Rattle.ground.proofs.Kit.{ℕ, _-_, _≤_, _<_, false, _≡_, sym, _∙_, arith, needs}
 use Rattle.ground.proofs.First.{first-here, first-more, first-none}
 use Rattle.filled_sheet.specs.Checked.{unlike}
@@ -11,30 +12,27 @@ Inv-loop n results periods processors i₀ i = (i ≤ n) × ((j : ℕ) → j < i
 abbrev μ-loop : tie.MeasureT-loop
 μ-loop n results periods processors i₀ i = n - i
 
-loop-holds : tie.Need-loop-holds Inv-loop μ-loop
-loop-holds c = (omega arith, λ j l. absurd (omega arith))
-
 returns : tie.Need-returns Inv-loop μ-loop
 returns c =
-    let a = c .before .before .before .before .before .args in
-    let l = c .before .before .before .before .loop in
-    first-here (unlike (a .t1 .rows) (a .t2) (a .t3)) (a .n) (l .i) (l .inv .1) (c .before .before .before .loop-test .taken)
-    (sym (c .before .differ .ensures) ∙ c .if1 .taken)
+    let turn = c .before .before .before in
+    let so-far = turn .before .loop .inv in
+    let args = turn .before .before .args in
+    first-here (unlike (args .t1 .rows) (args .t2) (args .t3)) _ _ (so-far .1) (turn .loop-test .taken) (sym (c .before .differ .ensures) ∙ c .if1 .taken)
 
 loop-again : tie.Need-loop-again Inv-loop μ-loop
 loop-again c =
-    let a = c .before .before .before .before .before .args in
-    let l = c .before .before .before .before .loop in
-    (omega arith, first-more (unlike (a .t1 .rows) (a .t2) (a .t3)) (a .n) (l .i) (l .inv .1) (sym (c .before .differ .ensures) ∙ c .if1 .left))
+    let at-loop = c .before .before .before .before in
+    let args = at-loop .before .args in
+    let same = sym (c .before .differ .ensures) ∙ c .if1 .left in
+    (omega arith, first-more (unlike (args .t1 .rows) (args .t2) (args .t3)) (args .n) _ (at-loop .loop .inv .1) same)
 
 returns-2 : tie.Need-returns-2 Inv-loop μ-loop
 returns-2 c =
-    let a = c .before .before .args in
-    let l = c .before .loop in
-    first-none (unlike (a .t1 .rows) (a .t2) (a .t3)) (a .n) (l .i) (l .inv .1) (omega arith)
+    let at-loop = c .before in
+    let args = at-loop .before .args in
+    let all : at-loop .loop .i ≡ args .n = omega arith in
+    sym all ∙ first-none (unlike (args .t1 .rows) (args .t2) (args .t3)) _ _ (at-loop .loop .inv .1) all
 
 pub first-unlike-spec : {M : Type 1} → statement M
-first-unlike-spec =
-    tie.close
-    (tie.spec Inv-loop μ-loop loop-holds (λ c. search needs) (λ c. search needs) (λ c. search needs) (λ c. search needs) (λ c. search needs)
-    (λ c. search needs) (λ c κs. search needs) returns (λ c. search needs) (λ c. search needs) loop-again returns-2)
+first-unlike-spec = tie.close (tie.spec Inv-loop μ-loop (λ c. (omega arith, λ j l. absurd (omega arith))) (λ c. search needs) (λ c. search needs) (λ c. search needs) (λ c. search needs)
+    (λ c. search needs) (λ c. search needs) (λ c κs. search needs) returns (λ c. search needs) (λ c. search needs) loop-again returns-2)

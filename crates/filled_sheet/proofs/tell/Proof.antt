@@ -16,7 +16,5 @@ returns-2 c =
     rw (accepted-line _ _ (told .before .before .check .ensures) (told .enum-told .given .1)) (put-fronts (search needs) (c .put-bytes .ensures))
 
 pub tell-spec : {M : Type 1} → statement M
-tell-spec =
-    tie.close
-    (tie.spec (λ c κs. search needs) (λ c. search needs) (λ c κs. search needs) (λ c. search needs) (λ c. search needs) (λ c κs. search needs)
-    returns returns-2)
+tell-spec = tie.close (tie.spec (λ c κs. search needs) (λ c. search needs) (λ c κs. search needs) (λ c. search needs) (λ c. search needs)
+    (λ c κs. search needs) returns returns-2)

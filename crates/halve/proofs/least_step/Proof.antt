@@ -1,94 +1,83 @@
--- `halve::least_step` meets its contract. Assumes nothing.
-use Rattle.ground.proofs.Kit.{ℕ, _-_, _≤_, Bool, arith}
-use Rattle.ground.proofs.Halving.{counted-all, counted-done, halved-found, halved-none}
+-- `halve::least_step` meets its contract. The loop: the least step that passes is one of those left, nothing but loads has moved, and what is
+-- left falls. Assumes nothing.
+use Rattle.ground.proofs.Kit.{ℕ, _-_, _≤_, Bool, _≡_, arith}
+use Rattle.ground.proofs.Halving.{counted-all}
 use Rattle.springs.specs.Columns.{springIn}
-use Rattle.springs.proofs.Charged.{full-low}
-use Rattle.halve.specs.Halves.{chargedAt}
-use Rattle.halve.proofs.Going.{Going, going-few, going-on, going-less, charged-rising}
+use Rattle.springs.specs.Handover.{Beside}
+use Rattle.springs.proofs.Blocks.{beside-same, beside-more, springs-beside, chargeable-beside, full-low}
+use Rattle.policy.specs.Weighed.{chargedAt}
+use Rattle.halve.specs.Halves.{half}
+use Rattle.halve.proofs.Going.{Going, going-few, going-on, going-less, going-found, going-none, charged-rising}
 use Rattle.halve.proofs.least_step.Statement.{statement}
 use Rattle.halve.proofs.least_step.Tie as tie
 
 abbrev Inv-loop : tie.InvT-loop
-Inv-loop w notch largest least elasticity saturation cost tmin n full none range₀ range =
-    Going (chargedAt w notch cost tmin (springIn largest least elasticity) n) full range
+Inv-loop w notch block₀ n full none range₀ block range = Going (chargedAt w notch (springIn block₀) n) full range × Beside block₀ block
 
 abbrev μ-loop : tie.MeasureT-loop
-μ-loop w notch largest least elasticity saturation cost tmin n full none range₀ range = range .to - range .from
+μ-loop w notch block₀ n full none range₀ block range = range .to - range .from
 
 -- the test of a step
 abbrev test : tie.Start Inv-loop μ-loop → ℕ → Bool
-test s =
-    let a = s .args in
-    chargedAt (a .w) (a .notch) (a .cost .now) (a .tmin .now) (springIn (a .largest .now) (a .least .now) (a .elasticity .now)) (a .n)
+test s = let args = s .args in chargedAt (args .w) (args .notch) (springIn (args .block .now)) (args .n)
 
 -- full compression is low
 low : (c : tie.After-full-compression Inv-loop μ-loop) → c .full-compression .result ≤ 999999
-low c =
-    let s = c .before in
-    let a = s .args in
-    let most =
-    full-low (a .notch) (a .largest .now) (a .least .now) (a .elasticity .now) (a .saturation .now) (a .cost .now) (a .tmin .now) (a .n) (s .pre .1) (s .pre .2) in
-    omega (arith, c .full-compression .ensures, most)
-
-full-compression-requires : tie.Need-full-compression-requires Inv-loop μ-loop
-full-compression-requires c κs = c .pre .1 .few
+low c = omega (arith, c .full-compression .ensures, full-low _ _ _ (c .before .before .pre .1))
 
 add-none : tie.Need-add-none Inv-loop μ-loop
 add-none c = omega (arith, low c)
 
-loop-holds : tie.Need-loop-holds Inv-loop μ-loop
-loop-holds c = counted-all (test (c .before)) _
-
 look-requires : tie.Need-look-requires Inv-loop μ-loop
 look-requires c κs =
-    let l = c .before .before in
-    let f = l .before in
-    let p = f .before .pre in
-    let g = l .loop .inv in
-    let few = going-few (test (f .before)) _ (l .loop .range) (low f) g in
-    (p .0, p .1, c .if1 .taken, omega (arith, g .halved .last, low f), few)
+    let at-loop = c .before .before .before in
+    let compressed = at-loop .before in
+    let at-start = compressed .before .before in
+    let going = at-loop .loop .inv .0 in (
+      at-start .pre .0,
+      chargeable-beside _ _ (at-loop .loop .inv .1) _ _ (at-start .pre .1),
+      c .before .if1 .taken,
+      omega (arith, going .halved .last, low compressed),
+      going-few (test at-start) _ (at-loop .loop .range) (low compressed) going,
+    )
+
+-- a look tests the springs as they came
+halved : (c : tie.After-look Inv-loop μ-loop) → let at-loop = c .before .before .before .before in
+    c .look .result ≡ half (test (at-loop .before .before .before)) (at-loop .loop .range)
+halved c = rw (springs-beside _ _ (c .before .before .before .before .loop .inv .1)) at (c .look .ensures .0)
 
 loop-less : tie.Need-loop-less Inv-loop μ-loop
 loop-less c =
-    let i = c .before in
-    let l = i .before .before in
-    rw (c .look .ensures) (going-less (test (l .before .before)) (l .loop .range) (i .if1 .taken))
+    let tested = c .before .before in
+    let at-loop = tested .before .before in
+    rw (halved c) (going-less (test (at-loop .before .before .before)) (at-loop .loop .range) (tested .if1 .taken))
 
 loop-again : tie.Need-loop-again Inv-loop μ-loop
 loop-again c =
-    let i = c .before in
-    let l = i .before .before in
-    let s = l .before .before in
-    let a = s .args in
-    let rising =
-    charged-rising (a .w) (a .notch) (a .largest .now) (a .least .now) (a .elasticity .now) (a .cost .now) (a .tmin .now) (a .n) (s .pre .1) in
-    rw (c .look .ensures) (going-on (test s) (l .loop .range) (i .if1 .taken) _ rising (l .loop .inv))
+    let tested = c .before .before in
+    let at-loop = tested .before .before in
+    let at-start = at-loop .before .before .before in
+    let rising = charged-rising _ _ _ _ (at-start .pre .1) in (
+      rw (halved c) (going-on (test at-start) (at-loop .loop .range) (tested .if1 .taken) _ rising (at-loop .loop .inv .0)),
+      beside-more _ _ _ (at-loop .loop .inv .1) (c .look .ensures .1),
+    )
 
 returns : tie.Need-returns Inv-loop μ-loop
 returns c =
-    let i = c .before .before in
-    let l = i .before .before in
-    let f = l .before in
-    let g = l .loop .inv in
-    rw (← f .full-compression .ensures)
-    (record {
-      least = halved-found (test (f .before)) _ _ _ (g .halved) (i .if1 .left) (c .if2 .taken);
-      count = counted-done (test (f .before)) _ _ _ _ g (i .if1 .left);
-    })
+    let tested = c .before .before in
+    let at-loop = tested .before .before in
+    let compressed = at-loop .before in
+    let ends = going-found (test (compressed .before .before)) _ (at-loop .loop .range) (at-loop .loop .inv .0) (tested .if1 .left) in
+    (rw (← compressed .full-compression .ensures) (ends (c .if2 .taken)), at-loop .loop .inv .1)
 
 returns-2 : tie.Need-returns-2 Inv-loop μ-loop
 returns-2 c =
-    let i = c .before .before in
-    let l = i .before .before in
-    let f = l .before in
-    let g = l .loop .inv in
-    rw (← f .full-compression .ensures)
-    (record {
-      least = halved-none (test (f .before)) _ _ _ (g .halved) (i .if1 .left) (c .if2 .left);
-      count = counted-done (test (f .before)) _ _ _ _ g (i .if1 .left);
-    })
+    let tested = c .before .before in
+    let at-loop = tested .before .before in
+    let compressed = at-loop .before in
+    let ends = going-none (test (compressed .before .before)) _ (at-loop .loop .range) (at-loop .loop .inv .0) (tested .if1 .left) in
+    (rw (← compressed .full-compression .ensures) (ends (c .if2 .left)), at-loop .loop .inv .1)
 
 pub least-step-spec : {M : Type 1} → statement M
-least-step-spec =
-    tie.close
-    (tie.spec Inv-loop μ-loop full-compression-requires add-none loop-holds look-requires loop-less loop-again returns returns-2)
+least-step-spec = tie.close (tie.spec Inv-loop μ-loop (λ c κs. c .before .pre .1 .few) add-none
+    (λ c. (counted-all (test (c .before .before)) _, beside-same _)) look-requires loop-less loop-again returns returns-2)

@@ -1,10 +1,12 @@
--- `keep::without` meets its contract. Assumes nothing.
+-- `keep::without` meets its contract. The loop: the first i records are copied, without the one at the place, and zeros stand past them; n − i
+-- falls. Assumes nothing.
 use Rattle.ground.proofs.Kit.{_-_, _<_, _≡_, refl, ap, arith}
 use Rattle.ground.specs.Folds.{listTo}
 use Rattle.kinds.specs.Limits.{mostTasks}
 use Rattle.kinds.specs.Task.{at}
+use Rattle.order.proofs.Gone.{from-within}
 use Rattle.keep.specs.Keep.{leftRow}
-use Rattle.keep.proofs.Rows.{from-within, Copied, copied-none, copied-more}
+use Rattle.keep.proofs.Rows.{Copied, copied-none, copied-more}
 use Rattle.keep.proofs.without.Statement.{statement}
 use Rattle.keep.proofs.without.Tie as tie
 
@@ -21,9 +23,11 @@ loop-holds c = copied-none (leftRow (c .args .t1 .rows) (c .args .place)) _ _ re
 -- where a record is copied from
 within : (c : tie.After-left-from Inv-loop μ-loop) → c .left-from .result < mostTasks
 within c =
-    let l = c .before .before in
-    let p = l .before .pre in
-    omega (arith, c .left-from .ensures, from-within (l .before .args .place) (l .loop .i) (l .before .args .n) (c .before .loop-test .taken) (p .0) (p .1))
+    let at-loop = c .before .before in
+    let at-start = at-loop .before in
+    let args = at-start .args in
+    let low = from-within (args .place) (at-loop .loop .i) (args .n) (c .before .loop-test .taken) (at-start .pre .0) (at-start .pre .1) in
+    omega (arith, c .left-from .ensures, low)
 
 left-from-requires : tie.Need-left-from-requires Inv-loop μ-loop
 left-from-requires c κs = omega (arith, c .before .before .pre .0)
@@ -36,20 +40,19 @@ element-copy-out-row c = omega (arith, within c)
 
 loop-again : tie.Need-loop-again Inv-loop μ-loop
 loop-again c =
-    let f = c .before in
-    let l = f .before .before in
-    let a = l .before .args in
-    copied-more (leftRow (a .t1 .rows) (a .place)) _ _ _ _ (l .loop .inv) (f .before .loop-test .taken) (ap (at (a .t1 .rows)) (f .left-from .ensures))
+    let found = c .before in
+    let at-loop = found .before .before in
+    let args = at-loop .before .args in
+    let e = ap (at (args .t1 .rows)) (found .left-from .ensures) in
+    copied-more (leftRow (args .t1 .rows) (args .place)) _ _ _ _ (at-loop .loop .inv) (found .before .loop-test .taken) e
 
 returns : tie.Need-returns Inv-loop μ-loop
 returns c =
-    let l = c .before in
-    let e : l .loop .i ≡ l .before .args .n = omega arith in
-    let q = rw e at (l .loop .inv .is) in
-    rw q
+    let at-loop = c .before in
+    let e : at-loop .loop .i ≡ at-loop .before .args .n = omega arith in
+    let copied = rw e at (at-loop .loop .inv .is) in
+    rw copied
 
 pub without-spec : {M : Type 1} → statement M
-without-spec =
-    tie.close
-    (tie.spec Inv-loop μ-loop loop-holds left-from-requires mul-row element-copy-out-row (λ c. omega arith) (λ c. omega arith) (λ c. omega arith)
-    (λ c. omega arith) loop-again returns)
+without-spec = tie.close (tie.spec Inv-loop μ-loop loop-holds left-from-requires mul-row element-copy-out-row (λ c. omega arith) (λ c. omega arith)
+    (λ c. omega arith) (λ c. omega arith) loop-again returns)

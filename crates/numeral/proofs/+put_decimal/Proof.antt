@@ -3,124 +3,49 @@ use Rattle.ground.proofs.Kit.{ℕ, _<_, arith, needs}
 use borrow.Fn.Kinds.{In}
 use borrow.Fn.PlainCycle.{Measures, is, falls, and}
 use Rattle.numeral.proofs.Digits.{one-long, more-long, puts-one, puts-more}
-use Rattle.numeral.proofs.put_decimal.Reads as put-decimal
-use Rattle.numeral.proofs.put_decimal.Kinds as put-decimal-kinds
-use Rattle.numeral.proofs.+put_decimal.Lts-put_decimal as put-decimal-lts
+use Rattle.numeral.proofs.put_decimal.Reads as reads
+use Rattle.numeral.proofs.put_decimal.Kinds.{ps}
+use Rattle.numeral.proofs.+put_decimal.Lts-put_decimal as lts
 use Rattle.numeral.proofs.+put_decimal.{statement}
 use Rattle.numeral.proofs.+put_decimal.Tie.{close}
 
-abbrev μ-put-decimal : Measures 1 put-decimal-kinds.ps ℕ
-μ-put-decimal κs a = a .1 .1 .0
+abbrev μ : Measures 1 ps ℕ
+μ κs a = a .1 .1 .0
 
-abbrev put-decimal-at : ℕ → In 1 put-decimal-kinds.ps
-put-decimal-at t =
-    and 1 put-decimal-kinds.ps (is 1 put-decimal-kinds.ps μ-put-decimal t) put-decimal.Pre
+-- a call at the number t, and the calls below it
+abbrev at : ℕ → In 1 ps
+at t = and 1 ps (is 1 ps μ t) reads.Pre
 
-abbrev put-decimal-below : ℕ → In 1 put-decimal-kinds.ps
-put-decimal-below t =
-    and 1 put-decimal-kinds.ps (falls 1 put-decimal-kinds.ps _<_ μ-put-decimal t) put-decimal.Pre
+abbrev below : ℕ → In 1 ps
+below t = and 1 ps (falls 1 ps _<_ μ t) reads.Pre
 
-put-decimal-cast-out : (t : ℕ) → put-decimal-lts.Need-cast-out (
-  put-decimal-below t,
-  put-decimal.Post,
-) (put-decimal-at t) put-decimal.Post
-put-decimal-cast-out t c = search needs
+slice-write-out : (t : ℕ) → lts.Need-slice-write-out (below t, reads.Post) (at t) reads.Post
+slice-write-out t c = omega (arith, one-long (c .before .before .args .n) (c .if1 .taken))
 
-put-decimal-add-out : (t : ℕ) → put-decimal-lts.Need-add-out (
-  put-decimal-below t,
-  put-decimal.Post,
-) (put-decimal-at t) put-decimal.Post
-put-decimal-add-out t c = search needs
+returns : (t : ℕ) → lts.Need-returns (below t, reads.Post) (at t) reads.Post
+returns t c = puts-one _ _ _ (c .if1 .taken)
 
-put-decimal-slice-write-out : (t : ℕ) → put-decimal-lts.Need-slice-write-out (
-  put-decimal-below t,
-  put-decimal.Post,
-) (put-decimal-at t) put-decimal.Post
-put-decimal-slice-write-out t c = omega (arith, one-long (c .before .before .args .n) (c .if1 .taken))
+put-decimal-requires : (t : ℕ) → lts.Need-put-decimal-requires (below t, reads.Post) (at t) reads.Post
+put-decimal-requires t c κs = let longer = more-long (c .before .before .before .args .n) (c .before .if1 .left) in search needs
 
-put-decimal-add-result : (t : ℕ) → put-decimal-lts.Need-add-result (
-  put-decimal-below t,
-  put-decimal.Post,
-) (put-decimal-at t) put-decimal.Post
-put-decimal-add-result t c = search needs
-
-put-decimal-same-length : (t : ℕ) → put-decimal-lts.Need-same-length (
-  put-decimal-below t,
-  put-decimal.Post,
-) (put-decimal-at t) put-decimal.Post
-put-decimal-same-length t c = search needs
-
-put-decimal-returns : (t : ℕ) → put-decimal-lts.Need-returns (
-  put-decimal-below t,
-  put-decimal.Post,
-) (put-decimal-at t) put-decimal.Post
-put-decimal-returns t c = puts-one _ _ _ (c .if1 .taken)
-
-put-decimal-put-decimal-requires : (t : ℕ) → put-decimal-lts.Need-put-decimal-requires (
-  put-decimal-below t,
-  put-decimal.Post,
-) (put-decimal-at t) put-decimal.Post
-put-decimal-put-decimal-requires t c κs = let m = more-long (c .before .before .before .args .n) (c .before .if1 .left) in search needs
-
-put-decimal-cast-out-2 : (t : ℕ) → put-decimal-lts.Need-cast-out-2 (
-  put-decimal-below t,
-  put-decimal.Post,
-) (put-decimal-at t) put-decimal.Post
-put-decimal-cast-out-2 t c = search needs
-
-put-decimal-add-out-2 : (t : ℕ) → put-decimal-lts.Need-add-out-2 (
-  put-decimal-below t,
-  put-decimal.Post,
-) (put-decimal-at t) put-decimal.Post
-put-decimal-add-out-2 t c = search needs
-
-put-decimal-slice-write-out-2 : (t : ℕ) → put-decimal-lts.Need-slice-write-out-2 (
-  put-decimal-below t,
-  put-decimal.Post,
-) (put-decimal-at t) put-decimal.Post
-put-decimal-slice-write-out-2 t c =
+slice-write-out-2 : (t : ℕ) → lts.Need-slice-write-out-2 (below t, reads.Post) (at t) reads.Post
+slice-write-out-2 t c =
     let put = c .before .before in
     let more = put .before .before in
     omega (arith, more-long (more .before .before .args .n) (more .if1 .left), put .put-decimal .ensures .next-is)
 
-put-decimal-add-result-2 : (t : ℕ) → put-decimal-lts.Need-add-result-2 (
-  put-decimal-below t,
-  put-decimal.Post,
-) (put-decimal-at t) put-decimal.Post
-put-decimal-add-result-2 t c =
+add-result-2 : (t : ℕ) → lts.Need-add-result-2 (below t, reads.Post) (at t) reads.Post
+add-result-2 t c =
     let put = c .before .before in
     let more = put .before .before in
     omega (arith, more-long (more .before .before .args .n) (more .if1 .left), put .put-decimal .ensures .next-is)
 
-put-decimal-same-length-2 : (t : ℕ) → put-decimal-lts.Need-same-length-2 (
-  put-decimal-below t,
-  put-decimal.Post,
-) (put-decimal-at t) put-decimal.Post
-put-decimal-same-length-2 t c = search needs
-
-put-decimal-returns-2 : (t : ℕ) → put-decimal-lts.Need-returns-2 (
-  put-decimal-below t,
-  put-decimal.Post,
-) (put-decimal-at t) put-decimal.Post
-put-decimal-returns-2 t c = puts-more _ _ _ _ _ (c .before .before .before .before .if1 .left) (c .before .before .put-decimal .ensures)
+returns-2 : (t : ℕ) → lts.Need-returns-2 (below t, reads.Post) (at t) reads.Post
+returns-2 t c = let put = c .before .before in puts-more _ _ _ _ _ (put .before .before .if1 .left) (put .put-decimal .ensures)
 
 pub +put-decimal-spec : {M : Type 1} → statement M
-+put-decimal-spec = close μ-put-decimal λ t. put-decimal-lts.spec (
-  put-decimal-below t,
-  put-decimal.Post,
-)
-    (put-decimal-at t)
-    put-decimal.Post
-    (put-decimal-cast-out t)
-    (put-decimal-add-out t)
-    (put-decimal-slice-write-out t)
-    (put-decimal-add-result t)
-    (put-decimal-same-length t)
-    (put-decimal-returns t)
-    (put-decimal-put-decimal-requires t)
-    (put-decimal-cast-out-2 t)
-    (put-decimal-add-out-2 t)
-    (put-decimal-slice-write-out-2 t)
-    (put-decimal-add-result-2 t)
-    (put-decimal-same-length-2 t)
-    (put-decimal-returns-2 t)
++put-decimal-spec =
+    close μ
+    λ t. lts.spec (below t, reads.Post) (at t) reads.Post (λ c. search needs) (λ c. search needs) (slice-write-out t) (λ c. search needs)
+    (λ c. search needs) (returns t) (put-decimal-requires t) (λ c. search needs) (λ c. search needs) (slice-write-out-2 t) (add-result-2 t)
+    (λ c. search needs) (returns-2 t)

@@ -8,6 +8,5 @@ sub-next : tie.Need-sub-next
 sub-next c = digit-is (c .args .byte) (c .pre .1) .0
 
 pub grown-spec : {M : Type 1} → statement M
-grown-spec =
-    tie.close
-    (tie.spec (λ c. search needs) sub-next (λ c. search needs) (λ c. search needs) (λ c. search needs) (λ c. search needs) (λ c. search needs))
+grown-spec = tie.close (tie.spec (λ c. search needs) sub-next (λ c. search needs) (λ c. search needs) (λ c. search needs) (λ c. search needs)
+    (λ c. search needs))

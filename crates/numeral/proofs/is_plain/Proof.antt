@@ -12,8 +12,8 @@ returns-2 c = sym (plain-one _ (omega arith))
 
 returns-3 : tie.Need-returns-3
 returns-3 c =
-    let a = c .before .before .before .before .args in
-    ap (λ (x : ℕ). not (eqb x 48)) (c .byte-at .ensures ∙ sym (first-digit (a .s .now) (a .at) (omega arith))) ∙ sym (plain-more _ (omega arith))
+    let args = c .before .before .before .before .args in
+    ap (λ (x : ℕ). not (eqb x 48)) (c .byte-at .ensures ∙ sym (first-digit (args .s .now) (args .at) (omega arith))) ∙ sym (plain-more _ (omega arith))
 
 pub is-plain-spec : {M : Type 1} → statement M
 is-plain-spec = tie.close (tie.spec (λ c. search needs) returns returns-2 (λ c κs. search needs) returns-3)

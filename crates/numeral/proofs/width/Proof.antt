@@ -1,4 +1,5 @@
--- `numeral::width` meets its contract: the digits that are left and those counted are all. Assumes nothing.
+-- `numeral::width` meets its contract. Assumes nothing.
+-- The loop: the digits of what is left and those counted are all; what is left falls.
 use Rattle.ground.proofs.Kit.{_+_, _≡_, arith, length}
 use Rattle.numeral.specs.Decimal.{decimal}
 use Rattle.numeral.proofs.Digits.{one-long, more-long, few-digits}
@@ -19,8 +20,8 @@ loop-again c = omega (arith, more-long (c .before .loop .left) (c .loop-test .ta
 
 returns : tie.Need-returns Inv-loop μ-loop
 returns c =
-    let e = one-long (c .before .loop .left) (c .loop-test .left) in
-    let f = few-digits 9 (c .before .before .args .n) (omega arith) in
+    let last = one-long (c .before .loop .left) (c .loop-test .left) in
+    let few = few-digits 9 (c .before .before .args .n) (omega arith) in
     record { is = omega arith; few = omega arith }
 
 pub width-spec : {M : Type 1} → statement M

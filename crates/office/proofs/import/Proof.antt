@@ -1,4 +1,5 @@
--- `office::import` meets its contract: what is left of the text gives the whole reading. Assumes nothing.
+-- `office::import` meets its contract. Assumes nothing.
+-- The loop: the lines left after those read give the whole reading; the rows that a table still has room for fall.
 use Rattle.ground.proofs.Kit.{_-_, sym, _∙_, needs}
 use Rattle.kinds.specs.Limits.{mostTasks}
 use Rattle.office.proofs.Lines.{Going, going-none, going-many, going-bad, going-more}
@@ -11,9 +12,6 @@ Inv-loop text room rows₀ at₀ n₀ rows at n = Going text rows at n
 
 abbrev μ-loop : tie.MeasureT-loop
 μ-loop text room rows₀ at₀ n₀ rows at n = mostTasks - n
-
-loop-holds : tie.Need-loop-holds Inv-loop μ-loop
-loop-holds c = going-none _
 
 returns : tie.Need-returns Inv-loop μ-loop
 returns c =
@@ -46,8 +44,6 @@ returns-4 c =
     rw (c .new .ensures) (reads-done _ _ _ _ _ (all .before .before .loop .inv) (all .before .loop-test .left) (all .if2 .left))
 
 pub import-spec : {M : Type 1} → statement M
-import-spec =
-    tie.close
-    (tie.spec Inv-loop μ-loop loop-holds (λ _ _. tt) returns (λ c κs. search needs) (λ c. search needs) (λ c. search needs) (λ _ _. tt) returns-2
-    (λ c. search needs) (λ c. search needs) (λ c. search needs) (λ c. search needs) loop-again (λ _ _. tt) returns-3 (λ c κs. search needs)
-    returns-4)
+import-spec = tie.close (tie.spec Inv-loop μ-loop (λ c. going-none _) (λ _ _. tt) returns (λ c κs. search needs) (λ c. search needs) (λ c. search needs)
+    (λ _ _. tt) returns-2 (λ c. search needs) (λ c. search needs) (λ c. search needs) (λ c. search needs) loop-again (λ _ _. tt) returns-3
+    (λ c κs. search needs) returns-4)

@@ -6,10 +6,8 @@ use Rattle.office.proofs.line_width.Tie as tie
 
 returns : tie.Need-returns
 returns c =
-    let l = line-long (c .before .before .before .before .args .task) in record { is = omega arith; few = omega arith }
+    let long = line-long (c .before .before .before .before .args .task) in record { is = omega arith; few = omega arith }
 
 pub line-width-spec : {M : Type 1} → statement M
-line-width-spec =
-    tie.close
-    (tie.spec (λ c κs. search needs) (λ c κs. search needs) (λ c. search needs) (λ c κs. search needs) (λ c. search needs) (λ c κs. search needs)
-    (λ c. search needs) (λ c. search needs) returns)
+line-width-spec = tie.close (tie.spec (λ c κs. search needs) (λ c κs. search needs) (λ c. search needs) (λ c κs. search needs) (λ c. search needs)
+    (λ c κs. search needs) (λ c. search needs) (λ c. search needs) returns)

@@ -1,4 +1,5 @@
--- `office::text_width` meets its contract: the lines so far are counted. Assumes nothing.
+-- `office::text_width` meets its contract. Assumes nothing.
+-- The loop: the lines of the first i rows are counted; n − i falls.
 use Rattle.ground.proofs.Kit.{ℕ, _-_, _*_, _≤_, _≡_, sym, _∙_, ap, arith, length, needs}
 use Rattle.office.specs.Text.{textTo, longestLine}
 use Rattle.office.proofs.Widths.{text-none, text-long}
@@ -16,15 +17,17 @@ loop-holds c = (search needs, (ap length (sym (text-none (c .args .t1))), omega 
 
 loop-again : tie.Need-loop-again Inv-loop μ-loop
 loop-again c =
-    let l = text-long (c .before .before .before .before .args .t1) (c .before .before .before .loop .i) in (search needs, (omega arith, omega arith))
+    let at-loop = c .before .before .before in
+    let longer = text-long (at-loop .before .args .t1) (at-loop .loop .i) in
+    (search needs, (omega arith, omega arith))
 
 returns : tie.Need-returns Inv-loop μ-loop
 returns c =
-    let e : c .before .loop .i ≡ c .before .before .args .n = omega arith in
-    record { is = c .before .loop .inv .1 .0 ∙ ap (λ (k : ℕ). length (textTo (c .before .before .args .t1) k)) e; few = omega arith }
+    let at-loop = c .before in
+    let args = at-loop .before .args in
+    let all : at-loop .loop .i ≡ args .n = omega arith in
+    record { is = at-loop .loop .inv .1 .0 ∙ ap (λ (k : ℕ). length (textTo (args .t1) k)) all; few = omega arith }
 
 pub text-width-spec : {M : Type 1} → statement M
-text-width-spec =
-    tie.close
-    (tie.spec Inv-loop μ-loop loop-holds (λ c. search needs) (λ c. search needs) (λ c κs. search needs) (λ c. search needs) (λ c. search needs)
-    (λ c. search needs) loop-again returns)
+text-width-spec = tie.close (tie.spec Inv-loop μ-loop loop-holds (λ c. search needs) (λ c. search needs) (λ c κs. search needs) (λ c. search needs)
+    (λ c. search needs) (λ c. search needs) loop-again returns)

@@ -10,8 +10,6 @@ slice-aggregate-fill-in : tie.Need-slice-aggregate-fill-in
 slice-aggregate-fill-in c = sym (length-take-le _ _ (array-share-prefix-bytes (c .before)))
 
 pub put-filled-spec : {M : Type 1} → statement M
-put-filled-spec =
-    tie.close
-    (tie.spec (λ c. search needs) (λ c κs. search needs) (λ c. search needs) (λ c. search needs) (λ c. search needs) (λ c. search needs)
-    array-share-prefix-bytes slice-aggregate-fill-in (λ c κs. search needs) (λ c. search needs) (λ c. search needs) (λ c κs. search needs)
+put-filled-spec = tie.close (tie.spec (λ c. search needs) (λ c κs. search needs) (λ c. search needs) (λ c. search needs) (λ c. search needs)
+    (λ c. search needs) array-share-prefix-bytes slice-aggregate-fill-in (λ c κs. search needs) (λ c. search needs) (λ c. search needs) (λ c κs. search needs)
     (λ c. search needs) (λ c. search needs) (λ c κs. search needs) (λ c. search needs) (λ c. search needs))

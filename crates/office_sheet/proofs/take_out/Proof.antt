@@ -15,6 +15,5 @@ returns-2 c =
     rw (sheet-taken _ _ (taken .before .before .read .ensures) (taken .enum-told .given .1)) (c .put-text .ensures)
 
 pub take-out-spec : {M : Type 1} → statement M
-take-out-spec =
-    tie.close
-    (tie.spec (λ c κs. search needs) (λ c. search needs) (λ c κs. search needs) (λ c. search needs) (λ c κs. search needs) returns returns-2)
+take-out-spec = tie.close (tie.spec (λ c κs. search needs) (λ c. search needs) (λ c κs. search needs) (λ c. search needs) (λ c κs. search needs) returns
+    returns-2)

@@ -1,82 +1,80 @@
--- `plain::least_shared` meets its contract. Assumes nothing.
-use Rattle.ground.proofs.Kit.{_-_, _≤_, arith}
-use Rattle.springs.specs.Columns.{springIn}
-use Rattle.plain.proofs.Stepping.{Stepped, first-loads, stepped-none, stepped-loads, stepped-within, stepped-here, stepped-end, stepped-more}
+-- `plain::least_shared` meets its contract. The loop: no step before k passes, and the block holds the shares of step k, with their sum beside
+-- it; what is left to full compression falls. Assumes nothing.
+use Rattle.ground.proofs.Kit.{_-_, _≤_, _≡_, arith}
+use Rattle.springs.specs.Columns.{fullIn}
+use Rattle.springs.specs.Handover.{Springy, Beside}
+use Rattle.springs.proofs.Blocks.{loaded-beside, springy-beside}
+use Rattle.plain.proofs.Stepping.{Stepped, stepped-none, stepped-most, stepped-loads, stepped-springy, stepped-here, stepped-end, stepped-more}
+use Rattle.plain.proofs.Stepping.{searched-from, full-beside}
 use Rattle.plain.proofs.least_shared.Statement.{statement}
 use Rattle.plain.proofs.least_shared.Tie as tie
 
 abbrev Inv-loop : tie.InvT-loop
-Inv-loop policy m shares₀ least elasticity saturation n full sum₀ k₀ shares sum k =
-    (k ≤ full) × Stepped policy m (springIn shares₀ least elasticity) n k sum shares
+Inv-loop policy m block₀ n full most sum₀ k₀ block sum k = (k ≤ full) × Stepped policy m n k sum block₀ block
 
 abbrev μ-loop : tie.MeasureT-loop
-μ-loop policy m shares₀ least elasticity saturation n full sum₀ k₀ shares sum k = full - k
+μ-loop policy m block₀ n full most sum₀ k₀ block sum k = full - k
 
-full-compression-requires : tie.Need-full-compression-requires Inv-loop μ-loop
-full-compression-requires c κs = c .pre .0 .few
+abbrev start : tie.After-shares-at Inv-loop μ-loop → tie.Start Inv-loop μ-loop
+start c = let bounded = c .before .before in bounded .before .before .before
 
-total-of-requires : tie.Need-total-of-requires Inv-loop μ-loop
-total-of-requires c κs = let s = c .before .before in first-loads (s .args .shares .now) (s .args .least .now) (s .args .elasticity .now) _ (s .pre .0)
+-- the shares of step 0 are written, beside the springs
+begun : (c : tie.After-shares-at Inv-loop μ-loop) → Beside (start c .args .block .now) (c .shares-at .last .0)
+begun c = loaded-beside _ _ _ _ (start c .pre .0 .few) (c .shares-at .ensures .loaded)
+
+springy : (c : tie.After-shares-at Inv-loop μ-loop) → Springy (c .shares-at .last .0) (start c .args .n)
+springy c = springy-beside _ _ (begun c) _ (start c .pre .0)
+
+full : (c : tie.After-shares-at Inv-loop μ-loop) → c .before .before .before .full-compression .result ≡ fullIn (c .shares-at .last .0) (start c .args .n)
+full c = full-beside _ _ (begun c) _ (c .before .before .before .full-compression .ensures)
 
 loop-holds : tie.Need-loop-holds Inv-loop μ-loop
-loop-holds c =
-    let s = c .before .before .before in
-    (omega arith, stepped-none _ _ _ _ _ (s .args .saturation .now) _ (s .pre .0) _ _ (c .total-of .ensures))
+loop-holds c = (omega arith, stepped-none _ _ _ _ _ _ (start c .pre .0 .few) (c .shares-at .ensures))
 
 passes-summed-requires : tie.Need-passes-summed-requires Inv-loop μ-loop
 passes-summed-requires c κs =
-    let l = c .before in
-    let s = l .before .before .before .before in
-    let a = s .args in
-    let loads =
-    stepped-loads (a .policy) (a .m) (a .shares .now) (a .least .now) (a .elasticity .now) (a .saturation .now) _ (s .pre .0) _ _ _ (l .loop .inv .1) in
-    (loads, s .pre .1, s .pre .2, s .pre .3, l .loop .inv .1 .added)
+    let at-loop = c .before in
+    let first = at-loop .before in
+    let pre = start first .pre in
+    let stepped = at-loop .loop .inv .1 in
+    (stepped-loads _ _ _ _ (springy first) _ _ _ stepped, pre .1, pre .2, pre .3, stepped .added, first .before .before .most-sum .ensures)
 
 returns : tie.Need-returns Inv-loop μ-loop
 returns c =
-    let p = c .before in
-    let l = p .before .before in
-    let f = l .before .before .before in
-    let s = f .before in
-    let a = s .args in
-    stepped-here (a .policy) (a .m) (a .shares .now) (a .least .now) (a .elasticity .now) (a .saturation .now) _ (s .pre .0) _ _ _ (l .loop .inv .1)
-    _ (p .passes-summed .ensures) _ (f .full-compression .ensures) (l .loop .inv .0) (c .if1 .taken)
+    let tested = c .before in
+    let at-loop = tested .before .before in
+    let first = at-loop .before in
+    searched-from _ _ _ _ _ _ _ (begun first)
+    (stepped-here _ _ _ _ (springy first) _ _ _ (at-loop .loop .inv .1) _ (tested .passes-summed .ensures) (c .if1 .taken)
+    (omega (arith, full first, at-loop .loop .inv .0)))
 
 returns-2 : tie.Need-returns-2 Inv-loop μ-loop
 returns-2 c =
-    let p = c .before .before in
-    let l = p .before .before in
-    let f = l .before .before .before in
-    let s = f .before in
-    let a = s .args in
-    stepped-end (a .policy) (a .m) (a .shares .now) (a .least .now) (a .elasticity .now) (a .saturation .now) _ (s .pre .0) _ _ _ (l .loop .inv .1)
-    _ (p .passes-summed .ensures) _ (f .full-compression .ensures) (l .loop .inv .0) (c .before .if1 .left) (c .if2 .taken)
+    let left = c .before in
+    let at-loop = left .before .before .before in
+    let first = at-loop .before in
+    searched-from _ _ _ _ _ _ _ (begun first)
+    (stepped-end _ _ _ _ (springy first) _ _ _ (at-loop .loop .inv .1) _ (left .before .passes-summed .ensures) (left .if1 .left)
+    (omega (arith, full first, c .if2 .taken)))
 
 next-shares-requires : tie.Need-next-shares-requires Inv-loop μ-loop
 next-shares-requires c κs =
-    let l = c .before .before .before .before .before in
-    let s = l .before .before .before .before in
-    let a = s .args in
-    let w = l .loop .inv .1 in
-    let within =
-    stepped-within (a .policy) (a .m) (a .shares .now) (a .least .now) (a .elasticity .now) (a .saturation .now) _ (s .pre .0) _ _ _ w in
-    (s .pre .0 .few, w .held .long, within)
+    let left = c .before .before in
+    let at-loop = left .before .before .before in
+    let stepped = at-loop .loop .inv .1 in
+    let first = springy (at-loop .before) in
+    (stepped-springy _ _ _ _ first _ _ _ stepped, stepped-most _ _ _ _ first _ _ _ stepped)
 
 loop-again : tie.Need-loop-again Inv-loop μ-loop
 loop-again c =
-    let i = c .before .before .before in
-    let p = i .before in
-    let l = p .before .before in
-    let s = l .before .before .before .before in
-    let a = s .args in
-    let h = c .next-shares .ensures in (
+    let left = c .before .before .before in
+    let at-loop = left .before .before .before in (
       omega arith,
-      stepped-more (a .policy) (a .m) (a .shares .now) (a .least .now) (a .elasticity .now) (a .saturation .now) _ (s .pre .0) _ _ _ (l .loop .inv .1)
-          _ (p .passes-summed .ensures) (i .if1 .left) _ _ (h .0) (h .1),
+      stepped-more _ _ _ _ (springy (at-loop .before)) _ _ _ (at-loop .loop .inv .1) _ (left .before .passes-summed .ensures) (left .if1 .left)
+          _ _ (c .next-shares .ensures),
     )
 
 pub least-shared-spec : {M : Type 1} → statement M
-least-shared-spec =
-    tie.close
-    (tie.spec Inv-loop μ-loop full-compression-requires total-of-requires loop-holds passes-summed-requires returns returns-2 next-shares-requires
-    (λ c. omega arith) (λ c. omega arith) loop-again)
+least-shared-spec = tie.close (tie.spec Inv-loop μ-loop (λ c κs. c .before .pre .0 .few)
+    (λ c κs. let pre = c .before .before .pre in (pre .1, pre .2, pre .0 .few)) (λ c κs. c .before .before .before .before .pre .0) loop-holds
+    passes-summed-requires returns returns-2 next-shares-requires (λ c. omega arith) (λ c. omega arith) loop-again)

@@ -1,28 +1,28 @@
 -- `planner::propose` stays in bounds and ends. Assumes nothing.
-use mathlib.Core.List.{List}
-use Prim.Native.Nat.{ℕ, _≤_}
-use borrow.Author.Needs.{needs}
-use Rattle.kinds.specs.Limits.{mostProcessors}
-use Rattle.fit.specs.Handover.{Loads}
+use Rattle.ground.proofs.Kit.{sym, arith, needs}
+use Rattle.proposal.specs.Handover.{LoadsHeld}
 use Rattle.planner.proofs.propose.Statement.{statement}
 use Rattle.planner.proofs.propose.Tie as tie
 
--- the column of loads that the admission leaves
-abbrev column : tie.After-enum-told → List ℕ
-column c = c .before .before .admit .last .1 .1 .1 .1 .1 .0
+-- the block that the admission leaves has the loads
+held : (c : tie.After-enum-told) → let asked = c .before .before in let args = asked .before .before .before .args in
+    LoadsHeld (args .settings) (args .table .rows) (args .table .n) (args .step) (asked .admit .last .1 .1 .1 .1 .1 .0)
+held c = c .before .before .admit .ensures .loads (c .enum-told .given .1)
 
-light : (c : tie.After-enum-told) → let a = c .before .before .before .before .before .args in
-    Loads (column c) (a .table .n) × (a .settings .m ≤ mostProcessors)
-light c = let w = c .before .before .admit .ensures .loaded (c .enum-told .given .1) in (w .light, w .m-most)
+slice-aggregate-first-fit : tie.Need-slice-aggregate-first-fit
+slice-aggregate-first-fit c = sym (held (c .before) .long)
 
 first-fit-requires : tie.Need-first-fit-requires
-first-fit-requires c κs = light (c .before)
+first-fit-requires c κs =
+    let loads = held (c .before) in
+    (loads .light, omega (arith, loads .light .few, loads .long), loads .m-most)
 
 best-fit-requires : tie.Need-best-fit-requires
-best-fit-requires c κs = light (c .before .before .before)
+best-fit-requires c κs =
+    let fitted = c .before .before in
+    let loads = held (fitted .before .before) in
+    (loads .light, loads .m-most)
 
 pub propose-spec : {M : Type 1} → statement M
-propose-spec =
-    tie.close
-    (tie.spec (λ c. search needs) (λ c κs. search needs) (λ c. search needs) (λ c. search needs) (λ c. search needs) first-fit-requires
-    (λ c. search needs) best-fit-requires (λ c. search needs))
+propose-spec = tie.close (tie.spec (λ c. search needs) (λ c κs. search needs) (λ c. search needs) (λ c. search needs) (λ c. search needs)
+    slice-aggregate-first-fit first-fit-requires (λ c. search needs) best-fit-requires (λ c. search needs))

@@ -6,9 +6,9 @@ use Rattle.policy.proofs.margin_of.Tie as tie
 
 returns : tie.Need-returns
 returns c =
-    let w = c .before .before .before in
+    let weighed = c .before .before .before in
     let t = c .before .before .total-of .ensures in
-    let worked = margin-worked-out _ _ _ _ _ _ _ _ (w .before .pre .3) (w .weights-of .ensures .0) t (c .before .left-of .ensures .is) in
+    let worked = margin-worked-out _ _ _ _ _ _ _ _ (weighed .before .pre .3) (weighed .weights-of .ensures .0) t (c .before .left-of .ensures .is) in
     search needs ∙ (c .difference .ensures ∙ worked)
 
 pub margin-of-spec : {M : Type 1} → statement M

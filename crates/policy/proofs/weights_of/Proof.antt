@@ -25,7 +25,5 @@ returns-6 : tie.Need-returns-6
 returns-6 c = rw (c .enum-told6 .given .1) (refl, omega arith)
 
 pub weights-of-spec : {M : Type 1} → statement M
-weights-of-spec =
-    tie.close
-    (tie.spec (λ c. search needs) (λ c. search needs) (λ c. search needs) (λ c. search needs) (λ c. search needs) (λ c. search needs)
+weights-of-spec = tie.close (tie.spec (λ c. search needs) (λ c. search needs) (λ c. search needs) (λ c. search needs) (λ c. search needs) (λ c. search needs)
     (λ c. search needs) (λ c κs. search needs) (λ c. search needs) returns returns-2 returns-3 returns-4 returns-5 returns-6)

@@ -1,4 +1,4 @@
--- `proposal::before_overfull` meets its contract. Assumes nothing.
+-- `proposal::before_overfull` meets its contract. The loop: none of the first j processors is overfull; m − j falls. Assumes nothing.
 use Rattle.ground.proofs.Kit.{ℕ, _-_, _≤_, _<_, false, _≡_, refl, sym, _∙_, arith, getD, lt-ltb, le-ltb}
 use Rattle.ground.proofs.First.{first-here, first-more, first-none}
 use Rattle.kinds.specs.Limits.{scale}
@@ -12,33 +12,31 @@ Inv-loop m held most j₀ j = (j ≤ m) × (most ≡ scale) × ((x : ℕ) → x 
 abbrev μ-loop : tie.MeasureT-loop
 μ-loop m held most j₀ j = m - j
 
-loop-holds : tie.Need-loop-holds Inv-loop μ-loop
-loop-holds c = (omega arith, refl, λ x l. absurd (omega arith))
-
 returns : tie.Need-returns Inv-loop μ-loop
 returns c =
-    let t = c .before in
-    let l = t .before in
-    first-here (λ (x : ℕ). isOverfull (getD (l .before .args .t1) x 0)) _ _ (l .loop .inv .2) (t .loop-test .taken)
-    (lt-ltb scale (getD (l .before .args .t1) (l .loop .j) 0) (omega (arith, l .loop .inv .1, c .if1 .taken)))
+    let tested = c .before in
+    let at-loop = tested .before in
+    let held = at-loop .before .args .t1 in
+    first-here (λ (x : ℕ). isOverfull (getD held x 0)) _ _ (at-loop .loop .inv .2) (tested .loop-test .taken)
+    (lt-ltb scale (getD held (at-loop .loop .j) 0) (omega (arith, at-loop .loop .inv .1, c .if1 .taken)))
 
 loop-again : tie.Need-loop-again Inv-loop μ-loop
 loop-again c =
-    let l = c .before .before in (
+    let at-loop = c .before .before in
+    let args = at-loop .before .args in (
       omega arith,
-      l .loop .inv .1,
-      first-more (λ (x : ℕ). isOverfull (getD (l .before .args .t1) x 0)) (l .before .args .m) _ (l .loop .inv .2)
-          (le-ltb scale (getD (l .before .args .t1) (l .loop .j) 0) (omega (arith, l .loop .inv .1, c .if1 .left))),
+      at-loop .loop .inv .1,
+      first-more (λ (x : ℕ). isOverfull (getD (args .t1) x 0)) (args .m) _ (at-loop .loop .inv .2)
+          (le-ltb scale (getD (args .t1) (at-loop .loop .j) 0) (omega (arith, at-loop .loop .inv .1, c .if1 .left))),
     )
 
 returns-2 : tie.Need-returns-2 Inv-loop μ-loop
 returns-2 c =
-    let l = c .before in
-    let e : l .loop .j ≡ l .before .args .m = omega arith in
-    sym e ∙ first-none (λ (x : ℕ). isOverfull (getD (l .before .args .t1) x 0)) _ _ (l .loop .inv .2) e
+    let at-loop = c .before in
+    let args = at-loop .before .args in
+    let e : at-loop .loop .j ≡ args .m = omega arith in
+    sym e ∙ first-none (λ (x : ℕ). isOverfull (getD (args .t1) x 0)) _ _ (at-loop .loop .inv .2) e
 
 pub before-overfull-spec : {M : Type 1} → statement M
-before-overfull-spec =
-    tie.close
-    (tie.spec Inv-loop μ-loop (λ c. omega arith) loop-holds (λ c. omega arith) (λ c. omega arith) returns (λ c. omega arith) (λ c. omega arith)
-    loop-again returns-2)
+before-overfull-spec = tie.close (tie.spec Inv-loop μ-loop (λ c. omega arith) (λ c. (omega arith, refl, λ x l. absurd (omega arith))) (λ c. omega arith)
+    (λ c. omega arith) returns (λ c. omega arith) (λ c. omega arith) loop-again returns-2)

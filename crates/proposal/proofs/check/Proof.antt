@@ -1,11 +1,12 @@
 -- `proposal::check` meets its contract. Assumes nothing.
 use Rattle.ground.proofs.Kit.{ℕ, _≤_, List, _++_, _≡_, sym, _∙_, ap, arith, length, drop, needs}
+use Rattle.kinds.specs.declared.Verdict.the-variants.{Accepted}
 use Rattle.policy.specs.Under.{loadsUnder}
 use Rattle.proposal.specs.Loads.{firstOutOfRange, beforeOverfull}
-use Rattle.proposal.specs.Proposal.{placeIn}
-use Rattle.proposal.specs.Handover.{Loaded}
+use Rattle.proposal.specs.Proposal.{placeIn, admission}
+use Rattle.proposal.specs.Handover.{LoadsHeld}
 use Rattle.proposal.proofs.Loading.{overfull-is, front-is}
-use Rattle.proposal.proofs.Admitting.{Ready, admitted}
+use Rattle.proposal.proofs.Admitting.{Passed, admitted}
 use Rattle.proposal.proofs.Calls.{may-load, refused-meets, out-of-range-meets, overfull-meets, well-meets}
 use Rattle.proposal.proofs.check.Statement.{statement}
 use Rattle.proposal.proofs.check.Tie as tie
@@ -14,83 +15,79 @@ use Rattle.proposal.proofs.check.Tie as tie
 abbrev start : tie.After-enum-told → tie.Start
 start c = let lent = c .before .before .before in lent .before .before .before
 
--- what the admission has checked, and the column that it leaves
-ready : (c : tie.After-enum-told) → let a = start c .args in
-    Ready (a .settings) (a .table .rows) (a .table .n) (length (a .proposal .now)) (length (a .loads .now))
-ready c = admitted _ _ _ _ _ (sym (c .before .before .admit .ensures .is) ∙ c .enum-told .given .1)
+-- it is admitted, and its counts are checked
+admits : (c : tie.After-enum-told) → let args = start c .args in
+    admission (args .settings) (args .table .rows) (args .table .n) (length (args .proposal .now)) (length (args .loads .now)) ≡ Accepted
+admits c = sym (c .before .before .admit .ensures .is) ∙ c .enum-told .given .1
 
-abbrev column : tie.After-enum-told → List ℕ
-column c = c .before .before .admit .last .1 .1 .1 .1 .1 .0
+passed : (c : tie.After-enum-told) → let args = start c .args in
+    Passed (args .settings) (args .table .n) (length (args .proposal .now)) (length (args .loads .now))
+passed c = admitted _ _ _ _ _ (admits c) .passed
 
-loaded : (c : tie.After-enum-told) → let a = start c .args in Loaded (a .settings) (a .table .rows) (a .table .n) (a .step) (column c)
-loaded c = c .before .before .admit .ensures .loaded (c .enum-told .given .1)
+-- the block that the admission leaves has the loads
+held : (c : tie.After-enum-told) → let args = start c .args in
+    LoadsHeld (args .settings) (args .table .rows) (args .table .n) (args .step) (c .before .before .admit .last .1 .1 .1 .1 .1 .0)
+held c = c .before .before .admit .ensures .loads (c .enum-told .given .1)
 
 -- no task is out of range
-each : (c : tie.Else1) → let a = start (c .before .before) .args in
-    a .table .n ≤ firstOutOfRange (a .settings .m) (placeIn (a .proposal .now)) (a .table .n)
+each : (c : tie.Else1) → let args = start (c .before .before) .args in
+    args .table .n ≤ firstOutOfRange (args .settings .m) (placeIn (args .proposal .now)) (args .table .n)
 each c = omega (arith, c .if1 .left, c .before .first-out-of-range .ensures)
 
+-- where a call whose loads are worked out was admitted
+abbrev told : tie.After-loads-of → tie.After-enum-told
+told c = c .before .before .before .before
+
 -- the lowest overfull processor as the definition has it
-lowest : (c : tie.After-before-overfull) → let a = start (c .before .before .before .before .before) .args in
+lowest : (c : tie.After-before-overfull) → let args = start (told (c .before)) .args in
     c .before-overfull .result
-    ≡ beforeOverfull (loadsUnder (a .settings) (a .table .rows) (a .table .n) (a .step)) (placeIn (a .proposal .now)) (a .table .n) (a .settings .m)
+    ≡ beforeOverfull (loadsUnder (args .settings) (args .table .rows) (args .table .n) (args .step)) (placeIn (args .proposal .now)) (args .table .n)
+    (args .settings .m)
 lowest c =
-    let w = loaded (c .before .before .before .before .before) in
-    c .before-overfull .ensures ∙ overfull-is _ _ _ _ _ _ (c .before .loads-of .ensures) (w .are) (w .m-most)
+    let loads = held (told (c .before)) in
+    c .before-overfull .ensures ∙ overfull-is _ _ _ _ _ _ (c .before .loads-of .ensures) (loads .are) (loads .m-most)
 
 returns : tie.Need-returns
-returns c =
-    let d = c .before .before in
-    refused-meets _ _ _ _ _ _ (d .admit .result) (d .admit .ensures .is) _ (c .enum-told2 .given .1)
+returns c = let asked = c .before .before in refused-meets _ _ _ _ _ _ _ (asked .admit .ensures .is) _ (c .enum-told2 .given .1)
 
 first-out-of-range-requires : tie.Need-first-out-of-range-requires
-first-out-of-range-requires c κs = ready c .passed .entries
+first-out-of-range-requires c κs = passed c .entries
 
 returns-2 : tie.Need-returns-2
 returns-2 c =
-    let t = c .before .before in
-    let d = t .before .before in
-    out-of-range-meets _ _ _ _ _ _ (d .admit .result) (d .admit .ensures .is) (t .enum-told .given .1) _
-    (c .before .first-out-of-range .ensures) (c .if1 .taken)
+    let ranged = c .before in
+    out-of-range-meets _ _ _ _ _ _ (admits (ranged .before)) _ (ranged .first-out-of-range .ensures) (c .if1 .taken)
 
 loads-of-requires : tie.Need-loads-of-requires
 loads-of-requires c κs =
-    let e = c .before in
-    let t = e .before .before in
-    may-load _ _ _ _ _ _ (loaded t) (ready t .passed .entries) (each e)
+    let in-range = c .before in
+    let told = in-range .before .before in
+    may-load _ _ _ _ _ _ (held told) (passed told .entries) (each in-range)
 
 before-overfull-requires : tie.Need-before-overfull-requires
-before-overfull-requires c κs = loaded (c .before .before .before .before) .m-most
+before-overfull-requires c κs = held (told c) .m-most
 
 returns-3 : tie.Need-returns-3
 returns-3 c =
-    let b = c .before in
-    let e = b .before .before .before in
-    let t = e .before .before in
-    let d = t .before .before in
-    overfull-meets _ _ _ _ _ _ (d .admit .result) (d .admit .ensures .is) (t .enum-told .given .1) (each e) _ (lowest b) (c .if2 .taken)
+    let weighed = c .before in
+    let in-range = weighed .before .before .before in
+    overfull-meets _ _ _ _ _ _ (admits (in-range .before .before)) (each in-range) _ (lowest weighed) (c .if2 .taken)
 
 write-front-requires : tie.Need-write-front-requires
-write-front-requires c κs =
-    let t = c .before .before .before .before .before .before .before in
-    (loaded t .m-most, ready t .passed .roomy)
+write-front-requires c κs = let told = told (c .before .before .before) in (held told .m-most, passed told .roomy)
 
 returns-4 : tie.Need-returns-4
 returns-4 c =
-    let w = c .before .before in
-    let b = w .before .before .before in
-    let l = b .before in
-    let e = l .before .before in
-    let t = e .before .before in
-    let d = t .before .before in
-    let a = start t .args in
-    let front = front-is _ _ _ _ _ _ (l .loads-of .ensures) (loaded t .are) (loaded t .m-most) in
-    well-meets _ _ _ _ _ _ (d .admit .result) (d .admit .ensures .is) (t .enum-told .given .1) (each e)
-    (omega (arith, lowest b, w .before .before .if2 .left)) _
-    (w .write-front .ensures ∙ ap (λ (x : List ℕ). x ++ drop (a .settings .m) (a .loads .now)) front)
+    let written = c .before .before in
+    let well = written .before .before in
+    let loaded = well .before .before in
+    let in-range = loaded .before .before in
+    let told = told loaded in
+    let args = start told .args in
+    let front = front-is _ _ _ _ _ _ (loaded .loads-of .ensures) (held told .are) (held told .m-most) in
+    well-meets _ _ _ _ _ _ (admits told) (each in-range) (omega (arith, lowest (well .before), well .if2 .left)) _
+    (written .write-front .ensures ∙ ap (λ (x : List ℕ). x ++ drop (args .settings .m) (args .loads .now)) front)
 
 pub check-spec : {M : Type 1} → statement M
-check-spec =
-    tie.close
-    (tie.spec (λ c κs. search needs) (λ c. search needs) (λ c. search needs) returns first-out-of-range-requires returns-2 loads-of-requires
-    (λ c. search needs) before-overfull-requires (λ c. search needs) returns-3 write-front-requires (λ c. search needs) returns-4)
+check-spec = tie.close (tie.spec (λ c κs. search needs) (λ c. search needs) (λ c. search needs) returns first-out-of-range-requires returns-2
+    loads-of-requires (λ c. search needs) before-overfull-requires (λ c. search needs) returns-3 write-front-requires (λ c. search needs) returns-4)

@@ -1,4 +1,4 @@
--- `proposal::first_out_of_range` meets its contract. Assumes nothing.
+-- `proposal::first_out_of_range` meets its contract. The loop: none of the first i processors is out of range; n − i falls. Assumes nothing.
 use Rattle.ground.proofs.Kit.{ℕ, _-_, _≤_, _<_, false, _≡_, sym, _∙_, arith}
 use Rattle.ground.proofs.First.{first-here, first-more, first-none}
 use Rattle.proposal.specs.Loads.{isOutOfRange, firstOutOfRange}
@@ -12,36 +12,32 @@ Inv-loop proposal n m i₀ i = (i ≤ n) × ((j : ℕ) → j < i → isOutOfRang
 abbrev μ-loop : tie.MeasureT-loop
 μ-loop proposal n m i₀ i = n - i
 
-loop-holds : tie.Need-loop-holds Inv-loop μ-loop
-loop-holds c = (omega arith, λ j l. absurd (omega arith))
-
 returns : tie.Need-returns Inv-loop μ-loop
 unfolding firstOutOfRange
 returns c =
-    let t = c .before .before .before in
-    let a = t .before .before .before .args in
-    first-here (λ x. isOutOfRange (a .m) (placeIn (a .proposal .now) x)) (a .n) _ (t .before .loop .inv .1) (t .loop-test .taken)
+    let tested = c .before .before .before in
+    let at-loop = tested .before in
+    let args = at-loop .before .before .args in
+    first-here (λ x. isOutOfRange (args .m) (placeIn (args .proposal .now) x)) (args .n) _ (at-loop .loop .inv .1) (tested .loop-test .taken)
     (sym (c .before .out-of-range .ensures) ∙ c .if1 .taken)
 
 loop-again : tie.Need-loop-again Inv-loop μ-loop
 loop-again c =
-    let l = c .before .before .before .before in
-    let a = l .before .before .args in (
+    let at-loop = c .before .before .before .before in
+    let args = at-loop .before .before .args in (
       omega arith,
-      first-more (λ x. isOutOfRange (a .m) (placeIn (a .proposal .now) x)) (a .n) _ (l .loop .inv .1)
+      first-more (λ x. isOutOfRange (args .m) (placeIn (args .proposal .now) x)) (args .n) _ (at-loop .loop .inv .1)
           (sym (c .before .out-of-range .ensures) ∙ c .if1 .left),
     )
 
 returns-2 : tie.Need-returns-2 Inv-loop μ-loop
 unfolding firstOutOfRange
 returns-2 c =
-    let l = c .before in
-    let a = l .before .before .args in
-    let e : l .loop .i ≡ a .n = omega arith in
-    sym e ∙ first-none (λ x. isOutOfRange (a .m) (placeIn (a .proposal .now) x)) (a .n) _ (l .loop .inv .1) e
+    let at-loop = c .before in
+    let args = at-loop .before .before .args in
+    let e : at-loop .loop .i ≡ args .n = omega arith in
+    sym e ∙ first-none (λ x. isOutOfRange (args .m) (placeIn (args .proposal .now) x)) (args .n) _ (at-loop .loop .inv .1) e
 
 pub first-out-of-range-spec : {M : Type 1} → statement M
-first-out-of-range-spec =
-    tie.close
-    (tie.spec Inv-loop μ-loop loop-holds (λ c. omega arith) (λ c. omega arith) (λ _ _. tt) returns (λ c. omega arith) (λ c. omega arith) loop-again
-    returns-2)
+first-out-of-range-spec = tie.close (tie.spec Inv-loop μ-loop (λ c. (omega arith, λ j l. absurd (omega arith))) (λ c. omega arith) (λ c. omega arith)
+    (λ _ _. tt) returns (λ c. omega arith) (λ c. omega arith) loop-again returns-2)

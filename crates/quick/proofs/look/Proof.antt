@@ -1,21 +1,23 @@
 -- `quick::look` meets its contract. Assumes nothing.
 use Rattle.ground.proofs.Kit.{refl, _∙_, needs}
-use Rattle.division.proofs.Weighing.{weighed-worked-out}
+use Rattle.policy.proofs.Weighing.{weighed-worked-out}
 use Rattle.quick.proofs.look.Statement.{statement}
 use Rattle.quick.proofs.look.Tie as tie
 
 returns : tie.Need-returns
 returns c =
-    let b = c .before in
-    let t = b .before in (
+    let tested = c .before in
+    let summed = tested .before in
+    let at-start = summed .before in
+    let total = summed .total-at .ensures in (
       record {
-        step = t .before .pre .4;
-        due = t .before .pre .5;
+        step = at-start .pre .3;
+        due = at-start .pre .4;
         from = refl;
-        tested = b .weighs .ensures ∙ weighed-worked-out _ _ _ _ _ (t .total-at .ensures);
+        tested = tested .weighs .ensures ∙ weighed-worked-out _ _ _ _ _ total;
         count = refl;
       },
-      record { is = t .total-at .ensures .sum-is; most = t .total-at .ensures .sum-most },
+      record { is = total .sum-is; most = total .sum-most },
     )
 
 pub look-spec : {M : Type 1} → statement M

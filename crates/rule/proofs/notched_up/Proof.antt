@@ -9,8 +9,8 @@ returns c = rw (c .if1 .taken) (sym (notched-one (c .before .args .t)))
 
 mul-result : tie.Need-mul-result
 mul-result c =
-    let s = c .before .before in
-    rw (c .ceil-div .ensures) (omega (arith, notched-near (s .args .notch) (s .pre .0) (s .args .t)))
+    let at-start = c .before .before in
+    rw (c .ceil-div .ensures) (omega (arith, notched-near (at-start .args .notch) (at-start .pre .0) (at-start .args .t)))
 
 returns-2 : tie.Need-returns-2
 returns-2 c = rw (c .ceil-div .ensures)

@@ -1,47 +1,53 @@
 -- `springs::charge_at` meets its contract. Assumes nothing.
-use Rattle.ground.proofs.Kit.{_≤_, sym, _∙_, ap, arith}
-use Rattle.rule.proofs.Shares.{share-least, share-high}
-use Rattle.rule.proofs.Periods.{charge-high}
-use Rattle.springs.specs.Columns.{chargeOn}
-use Rattle.springs.proofs.Charged.{still-allowed}
+use Rattle.ground.proofs.Kit.{_≤_, _≡_, sym, _∙_, ap, ap₂, arith, needs}
+use Rattle.kinds.specs.Limits.{scale, longestPeriod}
+use Rattle.rule.specs.Rule.{partOf, periodOf}
+use Rattle.rule.proofs.Periods.{notched-from}
+use Rattle.springs.specs.Spring.{shareOn, chargeFor, periodFor}
+use Rattle.springs.proofs.Springs.{share-some, still-allowed, charge-most}
 use Rattle.springs.proofs.charge_at.Statement.{statement}
 use Rattle.springs.proofs.charge_at.Tie as tie
 
--- the share is from the least to the largest
-low : (c : tie.After-share-on) → c .before .args .least ≤ c .share-on .result
-low c = let a = c .before .args in omega (arith, c .share-on .ensures, share-least (a .largest) (a .least) (a .elasticity) (a .k))
-
-share-on-requires : tie.Need-share-on-requires
-share-on-requires c κs = (c .pre .4, c .pre .3)
-
-charge-on-requires : tie.Need-charge-on-requires
-charge-on-requires c κs =
-    let h = c .before in
-    let s = h .before in
-    let a = s .args in
-    let p = s .pre in
-    (p .0, p .1, omega (arith, low h, p .2), still-allowed (a .notch) (a .cost) (a .tmin) (a .least) _ (p .0) (p .2) (low h) (p .5))
+-- the share is worked out of the call as it was made
+allowed : (c : tie.After-share-on) → let args = c .before .args in
+    (1 ≤ args .notch) × (1 ≤ c .share-on .result) × (periodFor (args .notch) (args .spring) (c .share-on .result) ≤ longestPeriod)
+allowed c =
+    let pre = c .before .pre in
+    let args = c .before .args in
+    rw (c .share-on .ensures .0)
+    (pre .notch, share-some (args .notch) (args .spring) pre (args .k), still-allowed (args .notch) (args .spring) pre (args .k))
 
 returns : tie.Need-returns
 returns c =
-    let h = c .before in
-    let s = h .before in
-    let e = c .if1 .taken in
-    (e ∙ (sym (s .pre .6) ∙ ap (chargeOn (s .args .notch) (s .args .cost) (s .args .tmin)) (sym e ∙ h .share-on .ensures)), omega (arith, e, s .pre .4))
+    let shared = c .before .before in
+    let args = shared .before .args in
+    let e = shared .share-on .ensures .0 in
+    let whole = c .if1 .taken in
+    (whole ∙ (sym (shared .before .pre .whole) ∙ ap (chargeFor (args .notch) (args .spring)) (sym whole ∙ e)), shared .share-on .ensures .1)
 
-returns-2 : tie.Need-returns-2
-returns-2 c =
-    let h = c .before .before in
-    let s = h .before in
-    let a = s .args in
-    let p = s .pre in
-    let share = h .share-on .result in
-    let some : 1 ≤ share = omega (arith, low h, p .2) in
-    let high : share ≤ a .largest = omega (arith, h .share-on .ensures, share-high (a .largest) (a .least) (a .elasticity) (a .k) (p .3)) in
-    let most = charge-high (a .notch) (p .0) (a .cost) (a .tmin) share (p .1) some in (
-      c .charge-on .ensures ∙ ap (chargeOn (a .notch) (a .cost) (a .tmin)) (h .share-on .ensures),
-      omega (arith, c .charge-on .ensures, most, high, p .4),
-    )
+part-requires : tie.Need-part-requires
+part-requires c κs =
+    let shared = c .before .before .before .before in
+    let at-start = shared .before in
+    let args = at-start .args in
+    let longer = notched-from (args .notch) (at-start .pre .notch) (periodOf (args .spring .cost) (args .spring .tmin) (shared .share-on .result)) in
+    (omega (arith, c .before .period-for .ensures, longer, at-start .pre .ticks), omega (arith, c .widened .ensures))
+
+-- the call as it was made, and the charge
+abbrev start : tie.After-part → tie.Start
+start c = let given = c .before .before in given .before .before .before .before
+
+charged : (c : tie.After-part) → let args = start c .args in c .part .result ≡ chargeFor (args .notch) (args .spring) (shareOn (args .spring) (args .k))
+charged c =
+    let given = c .before .before in
+    let shared = given .before .before .before in
+    let args = shared .before .args in
+    let period = given .period-for .ensures ∙ ap (periodFor (args .notch) (args .spring)) (shared .share-on .ensures .0) in
+    c .part .ensures ∙ ap₂ partOf (c .before .widened .ensures) period
+
+most : (c : tie.After-part) → c .part .result ≤ scale
+most c = let args = start c .args in omega (arith, charged c, charge-most (args .notch) (args .spring) (start c .pre) (args .k))
 
 pub charge-at-spec : {M : Type 1} → statement M
-charge-at-spec = tie.close (tie.spec share-on-requires returns charge-on-requires returns-2)
+charge-at-spec = tie.close (tie.spec (λ c κs. search needs) returns (λ c κs. allowed (c .before .before)) (λ c κs. search needs) part-requires
+    (λ c. omega (arith, most c)) (λ c. (charged c, most c)))

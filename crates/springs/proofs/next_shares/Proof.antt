@@ -1,74 +1,73 @@
--- `springs::next_shares` meets its contract. Assumes nothing.
-use Rattle.ground.proofs.Kit.{ℕ, _-_, _≤_, _≡_, _∙_, arith}
-use Rattle.ground.proofs.Buffer.{Front, front-none}
-use Rattle.springs.specs.Spring.{shareOn}
-use Rattle.springs.specs.Handover.{SumIs}
+-- `springs::next_shares` meets its contract. The loop: the first i shares are let down, their sum is at hand, and nothing else has moved;
+-- n − i falls. Assumes nothing.
+use Rattle.ground.proofs.Kit.{ℕ, _-_, _*_, _≤_, _≡_, sym, _∙_, arith, getD}
+use Rattle.ground.specs.Folds.{sumTo}
+use Rattle.ground.proofs.Folds.{sum-none, sum-more}
+use Rattle.kinds.specs.Limits.{scale}
+use Rattle.springs.specs.Spring.{letDown}
 use Rattle.springs.specs.Columns.{springIn}
-use Rattle.springs.proofs.Carried.{one-step, share-most, of-largest, shares-more, shares-written, sum-start, sum-on}
+use Rattle.springs.specs.Handover.{Loaded}
+use Rattle.springs.proofs.Blocks.{loaded-none, loaded-more, loaded-here, loaded-least, loaded-elasticity}
 use Rattle.springs.proofs.next_shares.Statement.{statement}
 use Rattle.springs.proofs.next_shares.Tie as tie
 
 abbrev Inv-loop : tie.InvT-loop
-Inv-loop shares₀ least elasticity n sum₀ i₀ shares sum i =
-    (i ≤ n) × Front (λ (j : ℕ). shareOn (springIn shares₀ least elasticity j) 1) shares₀ shares i × SumIs (springIn shares₀ least elasticity) i 1 sum
+Inv-loop block₀ n sum₀ i₀ block sum i =
+    (i ≤ n) × Loaded (λ (j : ℕ). letDown (springIn block₀ j) (getD block₀ j 0)) i block₀ block
+    × (sum ≡ sumTo (λ (j : ℕ). letDown (springIn block₀ j) (getD block₀ j 0)) i) × (sum ≤ scale * i)
 
 abbrev μ-loop : tie.MeasureT-loop
-μ-loop shares₀ least elasticity n sum₀ i₀ shares sum i = n - i
-
-loop-holds : tie.Need-loop-holds Inv-loop μ-loop
-loop-holds c = (omega arith, front-none _ _, sum-start _ 1)
+μ-loop block₀ n sum₀ i₀ block sum i = n - i
 
 let-down-requires : tie.Need-let-down-requires Inv-loop μ-loop
 let-down-requires c κs =
-    let t = c .before .before .before in
-    let w = t .before .before .pre .2 _ (t .loop-test .taken) in
-    (omega (arith, w .least-largest, w .largest-most, w .elasticity-most), omega (arith, w .least-largest, w .largest-most, w .elasticity-most))
+    let tested = c .before .before .before in
+    let at-loop = tested .before in
+    let w = at-loop .before .pre .0 .within _ (tested .loop-test .taken) in
+    let loaded = at-loop .loop .inv .1 in (
+      omega (arith, loaded-least _ _ _ _ loaded, w .least-largest, w .largest-most),
+      omega (arith, loaded-elasticity _ _ _ _ loaded, w .elasticity-most),
+    )
 
--- the share let down, as the column and as the springs have it
-shared : (c : tie.After-let-down Inv-loop μ-loop) → let l = c .before .before .before .before .before in let a = l .before .args in
-    c .let-down .result ≡ shareOn (springIn (l .loop .shares) (a .least .now) (a .elasticity .now) (l .loop .i)) 1
-shared c = c .let-down .ensures ∙ one-step _ _ _
+-- the turn of the loop in which a share is let down
+abbrev turn : tie.After-let-down Inv-loop μ-loop → tie.At-loop Inv-loop μ-loop
+turn c = let tested = c .before .before .before .before in tested .before
 
-sprung : (c : tie.After-let-down Inv-loop μ-loop) → let l = c .before .before .before .before .before in let a = l .before .args in
-    c .let-down .result ≡ shareOn (springIn (a .shares .now) (a .least .now) (a .elasticity .now) (l .loop .i)) 1
-sprung c =
-    let l = c .before .before .before .before .before in
-    let a = l .before .args in
-    of-largest (a .shares .now) (a .least .now) (a .elasticity .now) _ 1 _ (l .loop .inv .1) _ (shared c)
+-- the share that is let down is that of the block as it came
+down : (c : tie.After-let-down Inv-loop μ-loop) → let at-loop = turn c in let block = at-loop .before .args .block .now in
+    c .let-down .result ≡ letDown (springIn block (at-loop .loop .i)) (getD block (at-loop .loop .i) 0)
+down c =
+    let loaded = turn c .loop .inv .1 in
+    rw (loaded-here _ _ _ _ loaded, loaded-least _ _ _ _ loaded, loaded-elasticity _ _ _ _ loaded) at (c .let-down .ensures)
+
+down-most : (c : tie.After-let-down Inv-loop μ-loop) → c .let-down .result ≤ scale
+down-most c =
+    let tested = c .before .before .before .before in
+    let at-start = tested .before .before in
+    let w = at-start .pre .0 .within _ (tested .loop-test .taken) in
+    omega (arith, down c, at-start .pre .1 _ (tested .loop-test .taken), w .least-largest, w .largest-most)
 
 add-sum : tie.Need-add-sum Inv-loop μ-loop
-add-sum c =
-    let t = c .before .before .before .before in
-    let l = t .before in
-    let s = l .before in
-    let a = s .args in
-    let most = share-most (springIn (a .shares .now) (a .least .now) (a .elasticity .now) (l .loop .i)) 1 (s .pre .2 _ (t .loop-test .taken)) in
-    omega (arith, sprung c, most, l .loop .inv .2 .most)
+add-sum c = let at-loop = turn c in omega (arith, down-most c, at-loop .loop .inv .3, at-loop .before .pre .0 .few)
 
 loop-again : tie.Need-loop-again Inv-loop μ-loop
 loop-again c =
-    let t = c .before .before .before .before in
-    let l = t .before in
-    let s = l .before in
-    let a = s .args in
-    let w = l .loop .inv .1 in (
+    let at-loop = turn c in
+    let at-start = at-loop .before in
+    let block = at-start .args .block .now in (
       omega arith,
-      shares-more (a .shares .now) (a .least .now) (a .elasticity .now) _ 1 _ w _ (omega arith) (shared c),
-      sum-on _ 1 _ _ _ (l .loop .inv .2) (sprung c) (s .pre .2 _ (t .loop-test .taken)),
+      loaded-more _ _ _ _ _ (omega (arith, at-start .pre .0 .few, at-start .pre .0 .long)) (down c) (at-loop .loop .inv .1),
+      omega (arith, sum-more (λ (j : ℕ). letDown (springIn block j) (getD block j 0)) (at-loop .loop .i), down c, at-loop .loop .inv .2),
+      omega (arith, down-most c, at-loop .loop .inv .3),
     )
 
 returns : tie.Need-returns Inv-loop μ-loop
 returns c =
-    let l = c .before .before in
-    let a = l .before .args in
-    let e : l .loop .i ≡ a .n = omega arith in (
-      shares-written (a .shares .now) (a .least .now) (a .elasticity .now) _ 1 _ (l .loop .inv .1) _ e (l .before .pre .1),
-      rw (c .widened .ensures) (rw e at (l .loop .inv .2)),
-    )
+    let at-loop = c .before .before in
+    let e : at-loop .loop .i ≡ at-loop .before .args .n = omega arith in
+    record { loaded = rw e at (at-loop .loop .inv .1); sum-is = c .widened .ensures ∙ (rw e at (at-loop .loop .inv .2)) }
 
 pub next-shares-spec : {M : Type 1} → statement M
-next-shares-spec =
-    tie.close
-    (tie.spec Inv-loop μ-loop loop-holds (λ c. omega arith) (λ c. omega arith) (λ c. omega arith) (λ c. omega arith) (λ c. omega arith)
-    (λ c. omega arith) let-down-requires (λ c. omega arith) (λ c. omega arith) add-sum (λ c. omega arith) (λ c. omega arith) loop-again (λ _ _. tt)
-    returns)
+next-shares-spec = tie.close (tie.spec Inv-loop μ-loop (λ c. (omega arith, loaded-none _ _, sym (sum-none _), omega arith)) (λ c. omega arith)
+    (λ c. omega arith) (λ c. omega arith) (λ c. omega arith) (λ c. omega arith) (λ c. omega arith) (λ c. omega arith) (λ c. omega arith) let-down-requires
+    (λ c. omega arith) (λ c. omega arith) add-sum (λ c. omega arith) (λ c. omega arith) loop-again (λ _ _. tt) returns)

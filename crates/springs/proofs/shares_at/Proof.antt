@@ -1,45 +1,57 @@
--- `springs::shares_at` meets its contract. Assumes nothing.
-use Rattle.ground.proofs.Kit.{ℕ, _-_, _≤_, _∙_, arith}
-use Rattle.ground.proofs.Buffer.{Front, front-none}
-use Rattle.springs.specs.Spring.{shareOn}
+-- `springs::shares_at` meets its contract. The loop: the first i loads are the shares of step k, whose sum is at hand, and nothing else has
+-- moved; n − i falls. Assumes nothing.
+use Rattle.ground.proofs.Kit.{_-_, _≤_, _≡_, _∙_, ap, arith}
+use Rattle.springs.specs.declared.Spring.{Spring}
+use Rattle.springs.specs.Spring.{shareOn, sharesOn}
 use Rattle.springs.specs.Columns.{springIn}
-use Rattle.springs.proofs.Carried.{on-spring, not-yet, shares-more, shares-written}
+use Rattle.springs.specs.Handover.{SumIs, Loaded}
+use Rattle.springs.proofs.Blocks.{loaded-none, loaded-more, loaded-springs, sum-start, sum-on}
 use Rattle.springs.proofs.shares_at.Statement.{statement}
 use Rattle.springs.proofs.shares_at.Tie as tie
 
 abbrev Inv-loop : tie.InvT-loop
-Inv-loop shares₀ least elasticity n k i₀ shares i = (i ≤ n) × Front (λ (j : ℕ). shareOn (springIn shares₀ least elasticity j) k) shares₀ shares i
+Inv-loop block₀ n k sum₀ i₀ block sum i =
+    (i ≤ n) × Loaded (sharesOn (springIn block₀) k) i block₀ block × SumIs (springIn block₀) i k sum
 
 abbrev μ-loop : tie.MeasureT-loop
-μ-loop shares₀ least elasticity n k i₀ shares i = n - i
+μ-loop block₀ n k sum₀ i₀ block sum i = n - i
 
-loop-holds : tie.Need-loop-holds Inv-loop μ-loop
-loop-holds c = (omega arith, front-none _ _)
+spring-in-requires : tie.Need-spring-in-requires Inv-loop μ-loop
+spring-in-requires c κs = omega (arith, c .before .before .before .pre .few)
+
+-- the spring that is read is that of the block as it came
+found : (c : tie.After-spring-in Inv-loop μ-loop) → let at-loop = c .before .before .before in
+    c .spring-in .result ≡ springIn (at-loop .before .args .block .now) (at-loop .loop .i)
+found c =
+    let at-loop = c .before .before .before in
+    rw (loaded-springs _ (at-loop .loop .i) _ _ (omega (arith, at-loop .before .pre .few)) (at-loop .loop .inv .1)) at (c .spring-in .ensures)
+
+shared : (c : tie.After-share-on Inv-loop μ-loop) → let at-loop = c .before .before .before .before in
+    c .share-on .result ≡ shareOn (springIn (at-loop .before .args .block .now) (at-loop .loop .i)) (at-loop .before .args .k)
+shared c = let at-loop = c .before .before .before .before in
+    c .share-on .ensures .0 ∙ ap (λ (s : Spring). shareOn s (at-loop .before .args .k)) (found (c .before))
 
 share-on-requires : tie.Need-share-on-requires Inv-loop μ-loop
-share-on-requires c κs =
-    let t = c .before .before .before in
-    let a = t .before .before .args in
-    let w = t .before .before .pre .2 _ (t .loop-test .taken) in
-    let e = not-yet (a .shares .now) (a .least .now) (a .elasticity .now) _ (a .k) _ (t .before .loop .inv .1) in
-    (omega (arith, e, w .largest-most), omega (arith, e, w .least-largest))
+share-on-requires c κs = rw (found c) (c .before .before .before .before .pre .within _ (c .before .before .loop-test .taken))
+
+add-sum : tie.Need-add-sum Inv-loop μ-loop
+add-sum c = let at-loop = c .before .before .before .before in omega (arith, c .share-on .ensures .1, at-loop .loop .inv .2 .most, at-loop .before .pre .few)
 
 loop-again : tie.Need-loop-again Inv-loop μ-loop
 loop-again c =
-    let l = c .before .before .before .before .before in
-    let a = l .before .args in (
+    let at-loop = c .before .before .before .before in
+    let at-start = at-loop .before in (
       omega arith,
-      shares-more (a .shares .now) (a .least .now) (a .elasticity .now) _ (a .k) _ (l .loop .inv .1) _ (omega arith)
-          (c .share-on .ensures ∙ on-spring _ _ _ _),
+      loaded-more _ _ _ _ _ (omega (arith, at-start .pre .few, at-start .pre .long)) (shared c) (at-loop .loop .inv .1),
+      sum-on _ _ _ _ _ (at-loop .loop .inv .2) (shared c) (c .share-on .ensures .1),
     )
 
 returns : tie.Need-returns Inv-loop μ-loop
 returns c =
-    let a = c .before .before .args in
-    shares-written (a .shares .now) (a .least .now) (a .elasticity .now) _ (a .k) _ (c .before .loop .inv .1) _ (omega arith) (c .before .before .pre .1)
+    let at-loop = c .before .before in
+    let e : at-loop .loop .i ≡ at-loop .before .args .n = omega arith in
+    record { loaded = rw e at (at-loop .loop .inv .1); sum-is = c .widened .ensures ∙ (rw e at (at-loop .loop .inv .2 .is)) }
 
 pub shares-at-spec : {M : Type 1} → statement M
-shares-at-spec =
-    tie.close
-    (tie.spec Inv-loop μ-loop loop-holds (λ c. omega arith) (λ c. omega arith) (λ c. omega arith) (λ c. omega arith) (λ c. omega arith)
-    (λ c. omega arith) share-on-requires (λ c. omega arith) (λ c. omega arith) (λ c. omega arith) (λ c. omega arith) loop-again returns)
+shares-at-spec = tie.close (tie.spec Inv-loop μ-loop (λ c. (omega arith, loaded-none _ _, sum-start _ _)) spring-in-requires share-on-requires
+    (λ c. omega arith) (λ c. omega arith) add-sum (λ c. omega arith) (λ c. omega arith) loop-again (λ _ _. tt) returns)

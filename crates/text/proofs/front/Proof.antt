@@ -1,4 +1,5 @@
 -- `text::front` ends and stays within what is lent. Assumes nothing.
+-- The loop: no byte past those lent is read, and the buffer keeps its length; n − i falls.
 use Rattle.ground.proofs.Kit.{_-_, _≤_, _≡_, refl, length, needs}
 use Rattle.text.proofs.front.Statement.{statement}
 use Rattle.text.proofs.front.Tie as tie
@@ -9,11 +10,6 @@ Inv-loop out₀ at bytes count n next₀ i₀ out next i = (i ≤ n) × ((n ≤ 
 abbrev μ-loop : tie.MeasureT-loop
 μ-loop out₀ at bytes count n next₀ i₀ out next i = n - i
 
-loop-holds : tie.Need-loop-holds Inv-loop μ-loop
-loop-holds c = (search needs, (search needs, refl))
-
 pub front-spec : {M : Type 1} → statement M
-front-spec =
-    tie.close
-    (tie.spec Inv-loop μ-loop (λ _ _. tt) loop-holds (λ c. search needs) (λ _ _. tt) (λ c. search needs) (λ c. search needs) (λ c. search needs)
-    (λ c. search needs) (λ c. tt))
+front-spec = tie.close (tie.spec Inv-loop μ-loop (λ _ _. tt) (λ c. (search needs, (search needs, refl))) (λ c. search needs) (λ _ _. tt) (λ c. search needs)
+    (λ c. search needs) (λ c. search needs) (λ c. search needs) (λ c. tt))

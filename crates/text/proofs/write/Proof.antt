@@ -5,8 +5,8 @@ use Rattle.text.proofs.write.Tie as tie
 
 slice-aggregate-write-all : tie.Need-slice-aggregate-write-all
 slice-aggregate-write-all c =
-    let a = c .before .before .before .args in
-    sym (length-take-le (a .count) (a .out .now) (omega arith))
+    let args = c .before .before .before .args in
+    sym (length-take-le (args .count) (args .out .now) (omega arith))
 
 pub write-spec : {M : Type 1} → statement M
 write-spec = tie.close (tie.spec slice-aggregate-write-all (λ c κs. search needs) (λ c. search needs) (λ c. search needs))

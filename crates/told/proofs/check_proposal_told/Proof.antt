@@ -6,8 +6,8 @@ use Rattle.told.proofs.check_proposal_told.Tie as tie
 
 returns : tie.Need-returns
 returns c =
-    let f = c .before .before .before in
-    let e = rw (f .before .before .settings-of .ensures) at (f .check .ensures) in
+    let checked = c .before .before .before in
+    let e = rw (checked .before .before .settings-of .ensures) at (checked .check .ensures) in
     record { answers = c .tell-verdict .ensures ∙ e .answers; leaves = e .leaves }
 
 pub check-proposal-told-spec : {M : Type 1} → statement M

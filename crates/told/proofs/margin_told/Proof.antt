@@ -22,11 +22,9 @@ returns c =
 
 returns-2 : tie.Need-returns-2
 returns-2 c =
-    let r = c .before .before .before in
-    rw (c .place .ensures, c .before .number .ensures) (ap handedMargin (sym (r .refusal .given .1)) ∙ handed-back (r .before .before))
+    let refused = c .before .before .before in
+    rw (c .place .ensures, c .before .number .ensures) (ap handedMargin (sym (refused .refusal .given .1)) ∙ handed-back (refused .before .before))
 
 pub margin-told-spec : {M : Type 1} → statement M
-margin-told-spec =
-    tie.close
-    (tie.spec (λ c κs. search needs) (λ c κs. search needs) (λ c. search needs) (λ c. search needs) (λ c κs. search needs) (λ c. search needs)
-    (λ c κs. search needs) returns returns-2)
+margin-told-spec = tie.close (tie.spec (λ c κs. search needs) (λ c κs. search needs) (λ c. search needs) (λ c. search needs) (λ c κs. search needs)
+    (λ c. search needs) (λ c κs. search needs) returns returns-2)

@@ -6,11 +6,10 @@ use Rattle.told.proofs.plain_told.Tie as tie
 
 returns : tie.Need-returns
 returns c =
-    let f = c .before .before .before .before .before in
-    let e = rw (f .before .before .before .settings-of .ensures) at (f .find .ensures) in
+    let answered = c .before .before in
+    let found = answered .before .before .before in
+    let e = rw (found .before .before .before .settings-of .ensures) at (found .find .ensures) in
     record { answers = c .tell .ensures .0 ∙ e .answers; grants = e .grants; places = e .places; no-looks = c .tell .ensures .1 }
 
 pub plain-told-spec : {M : Type 1} → statement M
-plain-told-spec =
-    tie.close
-    (tie.spec (λ c κs. search needs) (λ c κs. search needs) (λ c κs. search needs) (λ c. search needs) (λ c. search needs) returns)
+plain-told-spec = tie.close (tie.spec (λ c κs. search needs) (λ c κs. search needs) (λ c κs. search needs) (λ c. search needs) (λ c. search needs) returns)

@@ -6,8 +6,9 @@ use Rattle.told.proofs.quick_told.Tie as tie
 
 returns : tie.Need-returns
 returns c =
-    let f = c .before .before .before .before .before in
-    let e = rw (f .before .before .before .settings-of .ensures) at (f .find .ensures) in
+    let answered = c .before .before in
+    let found = answered .before .before .before in
+    let e = rw (found .before .before .before .settings-of .ensures) at (found .find .ensures) in
     record {
       answers = c .tell .ensures .0 ∙ e .meets .answers;
       grants = e .meets .grants;
@@ -17,6 +18,4 @@ returns c =
     }
 
 pub quick-told-spec : {M : Type 1} → statement M
-quick-told-spec =
-    tie.close
-    (tie.spec (λ c κs. search needs) (λ c κs. search needs) (λ c κs. search needs) (λ c. search needs) (λ c. search needs) returns)
+quick-told-spec = tie.close (tie.spec (λ c κs. search needs) (λ c κs. search needs) (λ c κs. search needs) (λ c. search needs) (λ c. search needs) returns)

@@ -11,6 +11,4 @@ returns-2 : tie.Need-returns-2
 returns-2 c = rw (c .before .before .before .answer2 .given .1, c .place .ensures, c .before .number .ensures) (refl, refl)
 
 pub tell-spec : {M : Type 1} → statement M
-tell-spec =
-    tie.close
-    (tie.spec (λ c. search needs) (λ c. search needs) (λ c κs. search needs) (λ c. search needs) (λ c κs. search needs) returns returns-2)
+tell-spec = tie.close (tie.spec (λ c. search needs) (λ c. search needs) (λ c κs. search needs) (λ c. search needs) (λ c κs. search needs) returns returns-2)

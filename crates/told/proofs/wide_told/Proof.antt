@@ -6,7 +6,8 @@ use Rattle.told.proofs.wide_told.Tie as tie
 
 returns : tie.Need-returns
 returns c =
-    let e = c .before .before .before .before .before .find .ensures in
+    let answered = c .before .before in
+    let e = answered .before .before .before .find .ensures in
     record { answers = c .tell .ensures .0 ∙ e .answers; grants = e .grants; places = e .places; no-looks = c .tell .ensures .1 }
 
 pub wide-told-spec : {M : Type 1} → statement M

@@ -5,16 +5,16 @@ use Rattle.told_clock.proofs.clock_start_told.Statement.{statement}
 use Rattle.told_clock.proofs.clock_start_told.Tie as tie
 
 returns : tie.Need-returns
-returns c = told-begun _ _ (c .before .before .before .start .result) (c .before .before .before .start .ensures) (c .enum-told .given .1)
+returns c =
+    let started = c .before .before .before .start in
+    told-begun _ _ (started .result) (started .ensures) (c .enum-told .given .1)
 
 returns-2 : tie.Need-returns-2
 returns-2 c =
-    let b = c .before .before .before in
-    let s = b .before .before .before .start in
-    rw (c .place .ensures, c .before .number .ensures) (told-not-begun _ _ (s .result) (s .ensures) _ (b .answer .given .1))
+    let told = c .before .before .before in
+    let started = told .before .before .before .start in
+    rw (c .place .ensures, c .before .number .ensures) (told-not-begun _ _ (started .result) (started .ensures) _ (told .answer .given .1))
 
 pub clock-start-told-spec : {M : Type 1} → statement M
-clock-start-told-spec =
-    tie.close
-    (tie.spec (λ c κs. search needs) (λ c. search needs) (λ c. search needs) (λ c κs. search needs) (λ c. search needs) (λ c κs. search needs)
-    returns returns-2)
+clock-start-told-spec = tie.close (tie.spec (λ c κs. search needs) (λ c. search needs) (λ c. search needs) (λ c κs. search needs) (λ c. search needs)
+    (λ c κs. search needs) returns returns-2)

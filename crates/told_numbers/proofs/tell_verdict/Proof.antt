@@ -11,6 +11,5 @@ returns-2 : tie.Need-returns-2
 returns-2 c = rw (c .before .before .before .verdict .given .1, c .place .ensures, c .before .number .ensures) refl
 
 pub tell-verdict-spec : {M : Type 1} → statement M
-tell-verdict-spec =
-    tie.close
-    (tie.spec (λ c. search needs) (λ c. search needs) (λ c κs. search needs) (λ c. search needs) (λ c κs. search needs) returns returns-2)
+tell-verdict-spec = tie.close (tie.spec (λ c. search needs) (λ c. search needs) (λ c κs. search needs) (λ c. search needs) (λ c κs. search needs) returns
+    returns-2)

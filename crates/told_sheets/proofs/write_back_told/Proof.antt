@@ -23,6 +23,4 @@ returns-2 c =
     (bytes .all-bytes .ensures) (omega (arith, judged .if1 .left)) _ _ (written .write-told .ensures)
 
 pub write-back-told-spec : {M : Type 1} → statement M
-write-back-told-spec =
-    tie.close
-    (tie.spec (λ c κs. search needs) (λ c κs. search needs) returns (λ c κs. search needs) (λ c. search needs) returns-2)
+write-back-told-spec = tie.close (tie.spec (λ c κs. search needs) (λ c κs. search needs) returns (λ c κs. search needs) (λ c. search needs) returns-2)

@@ -18,9 +18,9 @@ not-negative (negsuc n) e = subst (λ (b : Bool). T b) (sym e) tt
 cast-result : tie.Need-cast-result
 cast-result c =
     let x = c .before .args .x in
-    let f = c .before .fits .x in
-    let few : Fits w64 (natAbs x) = record { fits = lt-of-le-of-lt (natAbs-le x (f .sfits)) (lit< tt) } in
-    (not-negative (toZ w64 (ofZ w64 x)) (c .if1 .taken), subst (λ (z : ℤ). Fits w64 (natAbs z)) (sym (toZ-ofZ w64 x f)) few)
+    let fit = c .before .fits .x in
+    let few : Fits w64 (natAbs x) = record { fits = lt-of-le-of-lt (natAbs-le x (fit .sfits)) (lit< tt) } in
+    (not-negative (toZ w64 (ofZ w64 x)) (c .if1 .taken), subst (λ (z : ℤ). Fits w64 (natAbs z)) (sym (toZ-ofZ w64 x fit)) few)
 
 pub positive-spec : {M : Type 1} → statement M
 positive-spec = tie.close (tie.spec cast-result (λ c. search needs) (λ c. search needs))

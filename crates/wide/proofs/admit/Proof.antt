@@ -7,11 +7,11 @@ use Rattle.wide.proofs.admit.Statement.{statement}
 use Rattle.wide.proofs.admit.Tie as tie
 
 -- 2, 3 and 5
-gate-is : (c : tie.After-and-then) → let a = c .before .before .before .before .args in
-    c .and-then .result ≡ andThen (gate (misset (a .m)) (a .table .n)) (roomy (a .table .n) (a .room))
+gate-is : (c : tie.After-and-then) → let args = c .before .before .before .before .args in
+    c .and-then .result ≡ andThen (gate (misset (args .m)) (args .table .n)) (roomy (args .table .n) (args .room))
 gate-is c =
-    let g = c .before .before in
-    rw (c .before .roomy .ensures, g .gate .ensures, g .before .misset .ensures) at (c .and-then .ensures)
+    let gated = c .before .before in
+    rw (c .before .roomy .ensures, gated .gate .ensures, gated .before .misset .ensures) at (c .and-then .ensures)
 
 returns : tie.Need-returns
 unfolding admission
@@ -19,25 +19,24 @@ returns c = rw (← gate-is (c .before .before), c .enum-told2 .given .1)
 
 first-bad-requires : tie.Need-first-bad-requires
 first-bad-requires c κs =
-    let a = c .before .before .before .before .before .before .args in
-    let n = a .table .n in
-    let accepted = sym (gate-is (c .before .before)) ∙ c .enum-told .given .1 in
-    gate-passed (a .m) n (then-admitted (gate (misset (a .m)) n) (roomy n (a .room)) accepted .0) .few
+    let joined = c .before .before in
+    let args = joined .before .before .before .before .args in
+    let n = args .table .n in
+    let accepted = sym (gate-is joined) ∙ c .enum-told .given .1 in
+    gate-passed (args .m) n (then-admitted (gate (misset (args .m)) n) (roomy n (args .room)) accepted .0) .few
 
 returns-2 : tie.Need-returns-2
 unfolding admission
 returns-2 c =
-    let b = c .before in
-    rw (← gate-is (b .before .before .before), b .before .enum-told .given .1, ← b .first-bad .ensures, lt-ltb _ _ (c .if1 .taken))
+    let bad = c .before in
+    rw (← gate-is (bad .before .before .before), bad .before .enum-told .given .1, ← bad .first-bad .ensures, lt-ltb _ _ (c .if1 .taken))
 
 returns-3 : tie.Need-returns-3
 unfolding admission
 returns-3 c =
-    let b = c .before in
-    rw (← gate-is (b .before .before .before), b .before .enum-told .given .1, ← b .first-bad .ensures, le-ltb _ _ (c .if1 .left))
+    let bad = c .before in
+    rw (← gate-is (bad .before .before .before), bad .before .enum-told .given .1, ← bad .first-bad .ensures, le-ltb _ _ (c .if1 .left))
 
 pub admit-spec : {M : Type 1} → statement M
-admit-spec =
-    tie.close
-    (tie.spec (λ c κs. search needs) (λ c κs. search needs) (λ c κs. search needs) (λ c κs. search needs) (λ c. search needs) (λ c. search needs)
-    returns first-bad-requires returns-2 returns-3)
+admit-spec = tie.close (tie.spec (λ c κs. search needs) (λ c κs. search needs) (λ c κs. search needs) (λ c κs. search needs) (λ c. search needs)
+    (λ c. search needs) returns first-bad-requires returns-2 returns-3)

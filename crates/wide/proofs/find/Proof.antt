@@ -7,8 +7,9 @@ use Rattle.wide.proofs.find.Statement.{statement}
 use Rattle.wide.proofs.find.Tie as tie
 
 -- the answer is what demand 2 finds in the room of the shorter output
-answered : (c : tie.After-decide) → let a = c .before .before .before .before .args in
-    handed (c .decide .result) ≡ found (a .m) (a .table .rows) (a .table .n) (min (length (a .periods .now)) (length (a .cores .now)))
+answered : (c : tie.After-decide) → let args = c .before .before .before .before .args in
+    handed (c .decide .result)
+    ≡ found (args .m) (args .table .rows) (args .table .n) (min (length (args .periods .now)) (length (args .cores .now)))
 answered c = rw (c .before .shorter .ensures) at (c .decide .ensures)
 
 grant-requires : tie.Need-grant-requires
@@ -16,8 +17,8 @@ grant-requires c κs = may-grant _ (c .before .before .decide .result) _ _ _ (an
 
 returns : tie.Need-returns
 returns c =
-    let g = c .before .before .before .before in
-    meets _ _ _ _ _ _ _ _ (answered (g .before .before .before)) (g .grant .ensures)
+    let granted = c .before .before .before .before in
+    meets _ _ _ _ _ _ _ _ (answered (granted .before .before .before)) (granted .grant .ensures)
 
 pub find-spec : {M : Type 1} → statement M
 find-spec = tie.close (tie.spec (λ c κs. search needs) (λ c κs. search needs) grant-requires (λ c. search needs) (λ c. search needs) returns)

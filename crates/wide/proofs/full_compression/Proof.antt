@@ -1,4 +1,5 @@
 -- `wide::full_compression` meets its contract. Assumes nothing.
+-- The loop: the greatest saturation step of the first i records is held; n − i falls.
 use Rattle.ground.proofs.Kit.{ℕ, _-_, _≤_, _≡_, sym, arith}
 use Rattle.ground.specs.Folds.{maxTo}
 use Rattle.ground.proofs.Folds.{max-none, max-step}
@@ -14,26 +15,22 @@ Inv-loop table n greatest₀ i₀ greatest i = (i ≤ n) × (greatest ≡ maxTo 
 abbrev μ-loop : tie.MeasureT-loop
 μ-loop table n greatest₀ i₀ greatest i = n - i
 
-loop-holds : tie.Need-loop-holds Inv-loop μ-loop
-loop-holds c = (omega arith, sym (max-none _))
-
 saturation-requires : tie.Need-saturation-requires Inv-loop μ-loop
 saturation-requires c κs = c .before .before .before .pre .good _ (c .before .loop-test .taken)
 
 loop-again : tie.Need-loop-again Inv-loop μ-loop
 loop-again c =
-    let l = c .before .before .before .before in
-    let f : ℕ → ℕ = λ j. saturationAt (at (l .before .args .t1 .rows) j) in
-    (omega arith, max-step f (l .loop .i) _ _ _ (l .loop .inv .1) (c .before .saturation .ensures .is) (c .later .ensures))
+    let at-loop = c .before .before .before .before in
+    let saturations : ℕ → ℕ = λ j. saturationAt (at (at-loop .before .args .t1 .rows) j) in
+    (omega arith, max-step saturations _ _ _ _ (at-loop .loop .inv .1) (c .before .saturation .ensures .is) (c .later .ensures))
 
 returns : tie.Need-returns Inv-loop μ-loop
 returns c =
-    let a = c .before .before .args in
-    let e : c .before .loop .i ≡ a .t1 .n = omega arith in
-    full-done (a .t1) _ (c .before .before .pre) (rw e at (c .before .loop .inv .1))
+    let at-loop = c .before in
+    let start = at-loop .before in
+    let all : at-loop .loop .i ≡ start .args .t1 .n = omega arith in
+    full-done (start .args .t1) _ (start .pre) (rw all at (at-loop .loop .inv .1))
 
 pub full-compression-spec : {M : Type 1} → statement M
-full-compression-spec =
-    tie.close
-    (tie.spec Inv-loop μ-loop loop-holds (λ c. omega arith) (λ c. omega arith) saturation-requires (λ _ _. tt) (λ c. omega arith) (λ c. omega arith)
-    loop-again returns)
+full-compression-spec = tie.close (tie.spec Inv-loop μ-loop (λ c. (omega arith, sym (max-none _))) (λ c. omega arith) (λ c. omega arith) saturation-requires
+    (λ _ _. tt) (λ c. omega arith) (λ c. omega arith) loop-again returns)

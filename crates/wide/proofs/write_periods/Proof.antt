@@ -1,4 +1,5 @@
 -- `wide::write_periods` meets its contract. Assumes nothing.
+-- The loop: the first i entries are the records', the rest is as it was; n − i falls.
 use Rattle.ground.proofs.Kit.{ℕ, _-_, _≤_, _≡_, arith}
 use Rattle.ground.proofs.Buffer.{Front, front-none, front-more}
 use Rattle.wide_task.specs.WideTask.{at}
@@ -13,27 +14,20 @@ Inv-loop k out₀ table n i₀ out i = (i ≤ n) × Front (λ (j : ℕ). periodA
 abbrev μ-loop : tie.MeasureT-loop
 μ-loop k out₀ table n i₀ out i = n - i
 
-loop-holds : tie.Need-loop-holds Inv-loop μ-loop
-loop-holds c = (omega arith, front-none _ _)
-
 period-at-requires : tie.Need-period-at-requires Inv-loop μ-loop
 period-at-requires c κs = c .before .before .before .before .pre .0 .good _ (c .before .loop-test .taken)
 
 loop-again : tie.Need-loop-again Inv-loop μ-loop
 loop-again c =
-    let l = c .before .before .before in
-    let a = l .before .before .args in
-    (omega arith, front-more (λ (j : ℕ). periodAt (at (a .t1 .rows) j) (a .k)) _ _ _ _ (omega arith) (c .period-at .ensures .is) (l .loop .inv .1))
-
-same-length : tie.Need-same-length Inv-loop μ-loop
-same-length c = c .before .loop .inv .1 .long
+    let at-loop = c .before .before .before in
+    let args = at-loop .before .before .args in
+    let entries : ℕ → ℕ = λ j. periodAt (at (args .t1 .rows) j) (args .k) in
+    (omega arith, front-more entries _ _ _ _ (omega arith) (c .period-at .ensures .is) (at-loop .loop .inv .1))
 
 returns : tie.Need-returns Inv-loop μ-loop
 unfolding periodsAt
-returns c = let e : c .before .loop .i ≡ c .before .before .before .args .t1 .n = omega arith in rw e at (c .before .loop .inv .1 .is)
+returns c = let all : c .before .loop .i ≡ c .before .before .before .args .t1 .n = omega arith in rw all at (c .before .loop .inv .1 .is)
 
 pub write-periods-spec : {M : Type 1} → statement M
-write-periods-spec =
-    tie.close
-    (tie.spec Inv-loop μ-loop loop-holds (λ c. omega arith) (λ c. omega arith) period-at-requires (λ c. omega arith) (λ c. omega arith)
-    (λ c. omega arith) (λ c. omega arith) loop-again same-length returns)
+write-periods-spec = tie.close (tie.spec Inv-loop μ-loop (λ c. (omega arith, front-none _ _)) (λ c. omega arith) (λ c. omega arith) period-at-requires
+    (λ c. omega arith) (λ c. omega arith) (λ c. omega arith) (λ c. omega arith) loop-again (λ c. c .before .loop .inv .1 .long) returns)

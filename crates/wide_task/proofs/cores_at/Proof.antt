@@ -12,7 +12,5 @@ returns c =
     cores-is _ (span .before .pre) _ _ _ _ (span .widened .ensures) (widened .widened2 .ensures ∙ period .period-at .ensures .is) (c .ceil-div .ensures)
 
 pub cores-at-spec : {M : Type 1} → statement M
-cores-at-spec =
-    tie.close
-    (tie.spec (λ c κs. search needs) (λ c κs. search needs) (λ c κs. search needs) (λ c. search needs) (λ c. search needs) (λ c κs. search needs)
-    returns)
+cores-at-spec = tie.close (tie.spec (λ c κs. search needs) (λ c κs. search needs) (λ c κs. search needs) (λ c. search needs) (λ c. search needs)
+    (λ c κs. search needs) returns)

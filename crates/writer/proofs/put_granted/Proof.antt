@@ -7,7 +7,9 @@ use Rattle.writer.proofs.put_granted.Tie as tie
 
 returns : tie.Need-returns
 unfolding grantedBytes
-returns c = put-then (c .before .before .before .before .before .before .put-u32 .ensures) (c .before .before .put-u16 .ensures)
+returns c =
+    let at-processor = c .before .before in
+    put-then (at-processor .before .before .before .before .put-u32 .ensures) (at-processor .put-u16 .ensures)
 
 pub put-granted-spec : {M : Type 1} → statement M
 put-granted-spec = tie.close (tie.spec (λ c κs. search needs) (λ c κs. search needs) (λ c. search needs) returns)

@@ -1,4 +1,5 @@
--- `writer::put_results` meets its contract: the rows so far are stored, and nothing else. Assumes nothing.
+-- `writer::put_results` meets its contract. Assumes nothing.
+-- The loop: the first i rows are stored from the place on, and nothing else; n − i falls.
 use Rattle.ground.proofs.Kit.{_-_, _*_, _≤_, _≡_, refl, _∙_, arith, length, needs}
 use Rattle.field.specs.Handover.{Put}
 use Rattle.field.proofs.Stores.{put-long}
@@ -21,18 +22,17 @@ loop-holds c = (search needs, (refl, put-no-row grantedBytes noGranted grantedSi
 
 loop-again : tie.Need-loop-again Inv-loop μ-loop
 loop-again c =
-    let inv = c .before .before .before .before .before .before .loop .inv in
-    let p = c .before .before .put-granted .ensures in
-    (search needs, (put-long p ∙ inv .1 .0, put-row grantedBytes noGranted grantedSize _ _ (inv .1 .1) p))
+    let put = c .before .before in
+    let so-far = put .before .before .before .before .loop .inv in
+    let row = put .put-granted .ensures in
+    (search needs, (put-long row ∙ so-far .1 .0, put-row grantedBytes noGranted grantedSize _ _ (so-far .1 .1) row))
 
 returns : tie.Need-returns Inv-loop μ-loop
 returns c =
-    let l = c .before .loop in
-    let e : l .i ≡ c .before .before .before .args .n = omega arith in
-    rw (← e) (l .inv .1 .1)
+    let at-loop = c .before in
+    let all : at-loop .loop .i ≡ at-loop .before .before .args .n = omega arith in
+    rw (← all) (at-loop .loop .inv .1 .1)
 
 pub put-results-spec : {M : Type 1} → statement M
-put-results-spec =
-    tie.close
-    (tie.spec Inv-loop μ-loop loop-holds (λ c. search needs) (λ c. search needs) (λ c κs. search needs) (λ c. search needs) (λ c. search needs)
-    loop-again (λ c. search needs) returns)
+put-results-spec = tie.close (tie.spec Inv-loop μ-loop loop-holds (λ c. search needs) (λ c. search needs) (λ c κs. search needs) (λ c. search needs)
+    (λ c. search needs) loop-again (λ c. search needs) returns)

@@ -13,6 +13,4 @@ returns c =
     rw (← counted .before .before .numbers .ensures) (put-then (counted .put-u16 .ensures) (put .put-numbers .ensures))
 
 pub put-settings-spec : {M : Type 1} → statement M
-put-settings-spec =
-    tie.close
-    (tie.spec (λ c κs. search needs) (λ c. search needs) (λ c κs. search needs) (λ c κs. search needs) (λ c. search needs) returns)
+put-settings-spec = tie.close (tie.spec (λ c κs. search needs) (λ c. search needs) (λ c κs. search needs) (λ c κs. search needs) (λ c. search needs) returns)

@@ -19,7 +19,5 @@ returns c =
     (put-then (result-count .put-u162 .ensures) (results .put-results .ensures))))
 
 pub put-sheet-spec : {M : Type 1} → statement M
-put-sheet-spec =
-    tie.close
-    (tie.spec (λ c κs. search needs) (λ c. search needs) (λ c κs. search needs) (λ c κs. search needs) (λ c. search needs) (λ c κs. search needs)
-    (λ c κs. search needs) (λ c. search needs) returns)
+put-sheet-spec = tie.close (tie.spec (λ c κs. search needs) (λ c. search needs) (λ c κs. search needs) (λ c κs. search needs) (λ c. search needs)
+    (λ c κs. search needs) (λ c κs. search needs) (λ c. search needs) returns)

@@ -8,13 +8,11 @@ use Rattle.writer.proofs.put_task.Tie as tie
 returns : tie.Need-returns
 unfolding taskBytes
 returns c =
-    let p₁ = c .before .before .before .before .before .before .before .before .before .before .before .before .before .before .put-u32 .ensures in
-    let p₂ = c .before .before .before .before .before .before .before .before .before .before .put-u322 .ensures in
-    let p₃ = c .before .before .before .before .before .before .put-u323 .ensures in
-    let p₄ = c .before .before .put-u324 .ensures in
-    put-then p₁ (put-then p₂ (put-then p₃ p₄))
+    let at-e = c .before .before in
+    let at-tmax = at-e .before .before .before .before in
+    let at-tmin = at-tmax .before .before .before .before in
+    let at-c = at-tmin .before .before .before .before in
+    put-then (at-c .put-u32 .ensures) (put-then (at-tmin .put-u322 .ensures) (put-then (at-tmax .put-u323 .ensures) (at-e .put-u324 .ensures)))
 
 pub put-task-spec : {M : Type 1} → statement M
-put-task-spec =
-    tie.close
-    (tie.spec (λ c κs. search needs) (λ c κs. search needs) (λ c κs. search needs) (λ c κs. search needs) (λ c. search needs) returns)
+put-task-spec = tie.close (tie.spec (λ c κs. search needs) (λ c κs. search needs) (λ c κs. search needs) (λ c κs. search needs) (λ c. search needs) returns)

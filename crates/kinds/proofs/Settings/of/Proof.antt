@@ -7,6 +7,5 @@ returns : tie.Need-returns
 returns c = rw (c .of .ensures)
 
 pub of-spec : {M : Type 1} → statement M
-of-spec =
-    tie.close
-    (tie.spec (λ c. search needs) (λ c κs. search needs) (λ c. search needs) (λ c. search needs) (λ c. search needs) (λ c. search needs) returns)
+of-spec = tie.close (tie.spec (λ c. search needs) (λ c κs. search needs) (λ c. search needs) (λ c. search needs) (λ c. search needs) (λ c. search needs)
+    returns)

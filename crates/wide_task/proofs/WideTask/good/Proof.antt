@@ -28,6 +28,9 @@ first-six t = both (first-five t) (leb (t .tmin) (t .tmax))
 abbrev first-seven : WideTask → Bool
 first-seven t = both (first-six t) (leb (t .tmax) longestPeriod)
 
+tmin-is : (c : tie.Joined1) → c .before .before .widened .result ≡ c .before .before .before .args .self .tmin
+tmin-is c = c .before .before .widened .ensures
+
 two : (c : tie.Joined1) → c .if1 .if2 ≡ first-two (c .before .before .before .args .self)
 two c =
     ⊎-elim
@@ -40,22 +43,22 @@ three c =
     rw (← two (c .before))
     (⊎-elim (λ w. both-taken _ _ _ (w .0 .taken) (w .3)) (λ w. both-left _ _ _ (w .0 .left) (w .1)) (c .if2 .came))
 
-four : (c : tie.Joined3) → c .if3 .if4 ≡ first-four (c .before .before .before .before .before .args .self)
+four : (c : tie.Joined3) → let two = c .before .before in c .if3 .if4 ≡ first-four (two .before .before .before .args .self)
 four c =
     rw (← three (c .before))
     (⊎-elim (λ w. both-taken _ _ _ (w .0 .taken) (w .3)) (λ w. both-left _ _ _ (w .0 .left) (w .1)) (c .if3 .came))
 
-five : (c : tie.Joined4) → c .if4 .if5 ≡ first-five (c .before .before .before .before .before .before .args .self)
+five : (c : tie.Joined4) → let two = c .before .before .before in c .if4 .if5 ≡ first-five (two .before .before .before .args .self)
 five c =
-    rw (← four (c .before), ← c .before .before .before .before .before .widened .ensures)
+    rw (← four (c .before), ← tmin-is (c .before .before .before))
     (⊎-elim (λ w. both-taken _ _ _ (w .0 .taken) (w .2)) (λ w. both-left _ _ _ (w .0 .left) (w .1)) (c .if4 .came))
 
-six : (c : tie.Joined5) → c .if5 .if6 ≡ first-six (c .before .before .before .before .before .before .before .args .self)
+six : (c : tie.Joined5) → let two = c .before .before .before .before in c .if5 .if6 ≡ first-six (two .before .before .before .args .self)
 six c =
     rw (← five (c .before))
     (⊎-elim (λ w. both-taken _ _ _ (w .0 .taken) (w .2)) (λ w. both-left _ _ _ (w .0 .left) (w .1)) (c .if5 .came))
 
-seven : (c : tie.Joined6) → c .if6 .if7 ≡ first-seven (c .before .before .before .before .before .before .before .before .args .self)
+seven : (c : tie.Joined6) → let three = c .before .before .before .before in c .if6 .if7 ≡ first-seven (three .before .before .before .before .args .self)
 seven c =
     rw (← six (c .before))
     (⊎-elim (λ w. both-taken _ _ _ (w .0 .taken) (w .2)) (λ w. both-left _ _ _ (w .0 .left) (w .1)) (c .if6 .came))

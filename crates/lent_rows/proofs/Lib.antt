@@ -1,0 +1,5 @@
+pub mod Values
+pub mod Tables
+pub mod Lent
+pub mod Filling
+pub mod Cells
