@@ -34,5 +34,6 @@ returns-2 c =
     sym all ∙ first-none (unlike (args .t1 .rows) (args .t2) (args .t3)) _ _ (at-loop .loop .inv .1) all
 
 pub first-unlike-spec : {M : Type 1} → statement M
-first-unlike-spec = tie.close (tie.spec Inv-loop μ-loop (λ c. (omega arith, λ j l. absurd (omega arith))) (λ c. search needs) (λ c. search needs) (λ c. search needs) (λ c. search needs)
-    (λ c. search needs) (λ c. search needs) (λ c κs. search needs) returns (λ c. search needs) (λ c. search needs) loop-again returns-2)
+first-unlike-spec = tie.close (tie.spec Inv-loop μ-loop (λ c. (omega arith, λ j l. absurd (omega arith))) (λ c. search needs) (λ c. search needs)
+    (λ c. search needs) (λ c. search needs) (λ c. search needs) (λ c. search needs) (λ c κs. search needs) returns (λ c. search needs) (λ c. search needs)
+    loop-again returns-2)
