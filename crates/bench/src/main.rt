@@ -12,7 +12,7 @@ fn run_plain(table: Table, settings: Settings) {
     let mut periods = [7u32; LENT];
     let mut processors = [9u16; LENT];
     show::words(b"plain");
-    show::answer(plain::find(table, settings, &mut periods, &mut processors));
+    show::answer(plain_finder::find(table, settings, &mut periods, &mut processors));
     show::outputs(b" processors", table.n, &periods, &processors);
     show::words(b"\n");
 }
@@ -21,7 +21,7 @@ fn run_quick(table: Table, settings: Settings) {
     let mut periods = [7u32; LENT];
     let mut processors = [9u16; LENT];
     show::words(b"quick");
-    let looked = quick::find(table, settings, &mut periods, &mut processors);
+    let looked = quick_finder::find(table, settings, &mut periods, &mut processors);
     let answer = looked.answer;
     show::answer(answer);
     show::words(b" looks");

@@ -8,7 +8,7 @@ use Rattle.share.specs.Share.{shareAt, saturationAt, periodAt}
 use Rattle.share.specs.Table.{fullCompression, periodsAt}
 use Rattle.fit.specs.Fit.{lowestRoom, loadsAfter, placeAt, stuckAt, fits}
 use Rattle.policy.specs.Passing.{passes, leastStep}
-use Rattle.plan.specs.Plan.{processorsAt}
+use Rattle.outcome.specs.Plan.{processorsAt}
 use Rattle.cases.specs.Steps.{passing, StepsOfJ, StepsOfK}
 
 pub steps-of-j : StepsOfJ

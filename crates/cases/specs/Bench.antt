@@ -22,8 +22,8 @@ use Rattle.kinds.specs.Task.{task, at}
 use Rattle.share.specs.Share.{saturationAt}
 use Rattle.share.specs.Table.{shares}
 use Rattle.policy.specs.Under.{rowsUnder, leastUnder, looksUnder, marginUnder}
-use Rattle.plan.specs.Plan as plan
-use Rattle.quick.specs.Looked.{looks}
+use Rattle.outcome.specs.Plan as plan
+use Rattle.quick_finder.specs.Looked.{looks}
 
 -- a bench setting
 pub record Setting : Type 0 where

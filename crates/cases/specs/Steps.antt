@@ -12,7 +12,7 @@ use Rattle.kinds.specs.declared.Task.{Task}
 use Rattle.kinds.specs.Task.{task}
 use Rattle.share.specs.Table.{shares, fullCompression, periodsAt}
 use Rattle.policy.specs.Passing.{passesAt, leastStep}
-use Rattle.plan.specs.Plan.{processorsAt}
+use Rattle.outcome.specs.Plan.{processorsAt}
 use Rattle.cases.specs.Bench.{Setting}
 
 abbrev pub caseJ : Setting

@@ -11,7 +11,7 @@ use Rattle.kinds.specs.Limits.{mostSettings, mostTasks}
 use Rattle.kinds.specs.Refusal.{numberOf}
 use Rattle.kinds.specs.Answer.{accepted, refused, handed, isAccepted, handedWith}
 use Rattle.kinds.proofs.Refusals.{refusal-numbered}
-use Rattle.plain.specs.Asked.{asked}
+use Rattle.plain_finder.specs.Asked.{asked}
 use Rattle.kinds.specs.declared.Verdict.{Verdict}
 use Rattle.kinds.specs.declared.Verdict.the-variants as verdict
 use Rattle.sheet.specs.declared.Reading.{Reading}

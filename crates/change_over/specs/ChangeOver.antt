@@ -7,7 +7,7 @@ use mathlib.Core.Path.{_≡_}
 use lib.Dec.{eqb}
 use lib.ListN.{take, drop}
 use Rattle.ground.specs.Choice.{pick, both}
-use Rattle.plain.specs.Asked.{asked}
+use Rattle.plain_finder.specs.Asked.{asked}
 use Rattle.sheet.specs.Sections.{taskSize, recordsPlace}
 use Rattle.sheet.specs.Reading.{readSheet}
 use Rattle.change_over.specs.declared.Which.{Which}

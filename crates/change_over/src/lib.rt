@@ -37,7 +37,7 @@ fn section_of(bytes: &[u8]) -> Section
     let table = x.table;
     let n = table.n;
     let settings = x.settings;
-    let answer = plain::decide(table, settings, n);
+    let answer = plain_finder::decide(table, settings, n);
     if answer.accepted() {
         return Section::Tasks(x.count, n);
     }

@@ -5,7 +5,7 @@ use Rattle.kinds.specs.declared.Sheet.{Sheet}
 use Rattle.kinds.specs.declared.Refusal.the-variants.{WrongSettingsCount}
 use Rattle.kinds.specs.Limits.{mostSettings, mostTasks}
 use Rattle.kinds.specs.Answer.{accepted}
-use Rattle.plain.specs.Asked.{asked}
+use Rattle.plain_finder.specs.Asked.{asked}
 use Rattle.field.specs.Number.{Bytes, numberAt}
 use Rattle.sheet.specs.Sections.{settingsFit}
 use Rattle.sheet.specs.Reading.{noSheet, settingsCount, sheetIn, readSheet}
@@ -16,8 +16,8 @@ use Rattle.writer.specs.Canonical.{canonical}
 use Rattle.writer.proofs.Forth.{forth}
 use Rattle.writer.proofs.RoundTrip.{canonical-same, same-canonical, read-canonical}
 use Rattle.fill.specs.Results.{resultsOf, withPlan}
-use Rattle.line.specs.Line.{refusalLine}
-use Rattle.line.proofs.Lines.{line-long}
+use Rattle.refusal_line.specs.Line.{refusalLine}
+use Rattle.refusal_line.proofs.Lines.{line-long}
 use Rattle.fill.specs.Fill.{filled}
 use Rattle.fill.proofs.Plans.{plan-fits}
 use Rattle.fill.proofs.Readings.{filled-unread, filled-planned}

@@ -12,7 +12,7 @@ use Rattle.sheet.proofs.Whole.{whole, few-settings, few-results}
 use Rattle.sheet.proofs.Numbered.{accepted-by-number}
 use Rattle.sheet.proofs.Beyond.{front-reads}
 use Rattle.sheet.proofs.After.{front-refused}
-use Rattle.line.specs.Line.{refusalLine, orLine}
+use Rattle.refusal_line.specs.Line.{refusalLine, orLine}
 use Rattle.fill.specs.Fill.{plannedSheet, planned, filled}
 use Rattle.fill.proofs.Readings.{filled-unread}
 

@@ -13,9 +13,9 @@ use Rattle.kinds.proofs.Chains.{by-chain, none-first, given-first, exactly, fir
 use Rattle.share.specs.Table.{firstBad}
 use Rattle.policy.specs.Under.{leastUnder}
 use Rattle.admission.specs.Admission.{missetUnder}
-use Rattle.plan.specs.Chain.{nonePasses}
-use Rattle.plain.specs.Asked.{asked}
-use Rattle.plain.proofs.Exactly.{asked-chain}
+use Rattle.outcome.specs.Chain.{nonePasses}
+use Rattle.plain_finder.specs.Asked.{asked}
+use Rattle.plain_finder.proofs.Exactly.{asked-chain}
 use Rattle.sheet.specs.Reading.{taskCount, noSheet, sheetIn}
 use Rattle.sheet.specs.Chain.{readerChain}
 use Rattle.sheet.proofs.Exactly.{reader-chain}

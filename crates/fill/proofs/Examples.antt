@@ -9,8 +9,8 @@ use Rattle.share.specs.Share.{shareAt, saturationAt, periodAt, loadAt}
 use Rattle.share.specs.Table.{fullCompression, firstBad, periodsAt, pricedRows}
 use Rattle.policy.specs.Passing.{passes, leastStep}
 use Rattle.admission.specs.Admission.{gate, admission}
-use Rattle.plan.specs.Plan.{processorsAt, found}
-use Rattle.plain.specs.Asked.{asked}
+use Rattle.outcome.specs.Plan.{processorsAt, found}
+use Rattle.plain_finder.specs.Asked.{asked}
 use Rattle.field.specs.Number.{numberAt, bytesOf}
 use Rattle.sheet.specs.Sections.{settingsFit, resultsFit}
 use Rattle.sheet.specs.Rows.{over}
@@ -18,7 +18,7 @@ use Rattle.sheet.specs.Reading.{settingsCount, taskCount, resultCount, sheetIn,
 use Rattle.writer.specs.Encode.{taskBytes, grantedBytes, rowsBytes, settingsBytes, encode}
 use Rattle.numeral.specs.Decimal.{digitsIn, decimal}
 use Rattle.fill.specs.Results.{resultsOf, withPlan}
-use Rattle.line.specs.Line.{refusalLine}
+use Rattle.refusal_line.specs.Line.{refusalLine}
 use Rattle.fill.specs.Fill.{plannedSheet, planned, filled}
 
 -- "Output: the same without its last two bytes, then `01 00 0A 00 00 00 00 00`."

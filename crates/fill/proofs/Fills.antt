@@ -9,9 +9,9 @@ use Rattle.kinds.proofs.Refusals.{refusal-numbered}
 use Rattle.kinds.specs.declared.Counted.{Counted}
 use Rattle.kinds.specs.declared.Counted.the-variants.{Count, Refused}
 use Rattle.kinds.proofs.Answers.{count-one}
-use Rattle.line.specs.Line.{refusalLine}
-use Rattle.line.specs.Fronts.{Fronts}
-use Rattle.line.proofs.Fronts.{fronts}
+use Rattle.refusal_line.specs.Line.{refusalLine}
+use Rattle.refusal_line.specs.Fronts.{Fronts}
+use Rattle.refusal_line.proofs.Fronts.{fronts}
 use Rattle.fill.specs.Fill.{planned, filled, Fills}
 
 -- a refusal leaves the buffer as it was

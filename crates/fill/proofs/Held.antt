@@ -20,9 +20,9 @@ use Rattle.fit.proofs.Placing.{fits-placed}
 use Rattle.policy.specs.Under.{rowsUnder, loadsUnder}
 use Rattle.policy.proofs.Demand.{step-at}
 use Rattle.policy.proofs.Tests.{first-fit-passes}
-use Rattle.plan.specs.Plan.{processorAt, processorsAt}
-use Rattle.plan.proofs.Found.{Accepting, accepting}
-use Rattle.plain.specs.Asked.{asked}
+use Rattle.outcome.specs.Plan.{processorAt, processorsAt}
+use Rattle.outcome.proofs.Found.{Accepting, accepting}
+use Rattle.plain_finder.specs.Asked.{asked}
 use Rattle.field.specs.Number.{Bytes, u16At, numberAt, limit}
 use Rattle.sheet.specs.Sections.{settingSize, taskSize, numbersPlace, recordsPlace}
 use Rattle.sheet.specs.Rows.{taskAt, noGranted, paddedRows}

@@ -14,9 +14,9 @@ use Rattle.kinds.specs.Limits.{mostTasks}
 use Rattle.kinds.specs.Answer.{Handed, accepted, refused, handed}
 use Rattle.kinds.proofs.Chain.{comes-first, goes-on}
 use Rattle.share.specs.Table.{periodsAt}
-use Rattle.plan.specs.Plan.{processorsAt, periodsAfter, processorsAfter, outcome, Meets}
-use Rattle.plain.specs.Asked.{asked}
-use Rattle.plain.proofs.Asked.{asked-roomy}
+use Rattle.outcome.specs.Plan.{processorsAt, periodsAfter, processorsAfter, outcome, Meets}
+use Rattle.plain_finder.specs.Asked.{asked}
+use Rattle.plain_finder.proofs.Asked.{asked-roomy}
 use Rattle.sheet.specs.Sections.{longestSheet, settingsFit, resultsFit}
 use Rattle.sheet.specs.Rows.{granted, noGranted, noResults, paddedRows}
 use Rattle.sheet.proofs.Padding.{over-more, over-cong}

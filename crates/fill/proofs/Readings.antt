@@ -6,14 +6,14 @@ use Rattle.kinds.specs.declared.Refusal.{Refusal}
 use Rattle.kinds.specs.Refusal.{numberOf, placeOf}
 use Rattle.kinds.specs.Answer.{Handed, accepted, refused}
 use Rattle.kinds.proofs.Chain.{comes-first, goes-on}
-use Rattle.plain.specs.Asked.{asked}
+use Rattle.plain_finder.specs.Asked.{asked}
 use Rattle.kinds.specs.declared.Verdict.the-variants as verdict
 use Rattle.sheet.specs.declared.Reading.{Reading}
 use Rattle.sheet.specs.Reading.{readSheet, handedReading}
 use Rattle.sheet.proofs.Handed.{handed-as}
 use Rattle.writer.specs.Encode.{encode}
-use Rattle.line.specs.Line.{refusalLine, orLine}
-use Rattle.line.proofs.Lines.{line-of}
+use Rattle.refusal_line.specs.Line.{refusalLine, orLine}
+use Rattle.refusal_line.proofs.Lines.{line-of}
 use Rattle.fill.specs.Results.{withPlan}
 use Rattle.fill.specs.Fill.{plannedSheet, planned, filled}
 use Rattle.fill.proofs.Plans.{sheet-planned}

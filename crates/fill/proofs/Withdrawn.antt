@@ -6,12 +6,12 @@ use Rattle.kinds.specs.declared.Refusal.the-variants.{PolicyWithdrawn}
 use Rattle.kinds.specs.Policy.{policyNumber}
 use Rattle.kinds.specs.Answer.{accepted, refused}
 use Rattle.kinds.proofs.Chain.{comes-first}
-use Rattle.plain.specs.Asked.{asked}
-use Rattle.plain.proofs.Exactly.{asked-withdrawn}
+use Rattle.plain_finder.specs.Asked.{asked}
+use Rattle.plain_finder.proofs.Exactly.{asked-withdrawn}
 use Rattle.sheet.specs.Reading.{readSheet}
 use Rattle.writer.specs.Encode.{encode}
 use Rattle.numeral.specs.Decimal.{digitsIn, decimal}
-use Rattle.line.specs.Line.{refusalLine}
+use Rattle.refusal_line.specs.Line.{refusalLine}
 use Rattle.fill.specs.Results.{withPlan}
 use Rattle.fill.specs.Fill.{plannedSheet, planned, filled}
 use Rattle.fill.proofs.Readings.{planned-accepted, filled-refused}

@@ -10,7 +10,7 @@ use Rattle.kinds.specs.Chain.{Check, _when_}
 use Rattle.share.specs.Table.{firstBad}
 use Rattle.policy.specs.Under.{leastUnder}
 use Rattle.admission.specs.Admission.{missetUnder}
-use Rattle.plan.specs.Chain.{nonePasses, stepIn}
+use Rattle.outcome.specs.Chain.{nonePasses, stepIn}
 use Rattle.sheet.specs.Reading.{sheetIn}
 use Rattle.sheet.specs.Chain.{readerChain}
 

@@ -6,11 +6,11 @@ use mathlib.Core.Path.{_≡_}
 use lib.ListN.{length}
 use Rattle.kinds.specs.declared.Sheet.{Sheet}
 use Rattle.kinds.specs.Answer.{Handed, accepted, unrefused, handedCount, after}
-use Rattle.plain.specs.Asked.{asked}
+use Rattle.plain_finder.specs.Asked.{asked}
 use Rattle.sheet.specs.Reading.{readSheet}
 use Rattle.kinds.specs.declared.Counted.{Counted}
 use Rattle.writer.specs.Encode.{encode}
-use Rattle.line.specs.Line.{orLine}
+use Rattle.refusal_line.specs.Line.{orLine}
 use Rattle.fill.specs.Results.{withPlan}
 
 -- "writes the sheet with results filled in from the plain finder, replacing older ones": its bytes, none where it is refused

@@ -6,7 +6,7 @@ use lib.ListN.{getD}
 use Rattle.kinds.specs.declared.Granted.{Granted}
 use Rattle.kinds.specs.declared.Results.{Results}
 use Rattle.kinds.specs.declared.Sheet.{Sheet}
-use Rattle.plan.specs.Plan.{periodsUnder, processorsUnder}
+use Rattle.outcome.specs.Plan.{periodsUnder, processorsUnder}
 use Rattle.sheet.specs.Rows.{granted, noGranted, paddedRows}
 
 -- entry i of the periods and of the processors

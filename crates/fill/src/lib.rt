@@ -13,7 +13,7 @@ ghost use Prim.Native.Nat.{_≤_};
 ghost use lib.ListN.{length};
 ghost use Rattle.kinds.specs.Limits.{mostTasks};
 ghost use Rattle.sheet.specs.Sections.{longestSheet, settingsFit};
-ghost use Rattle.line.specs.Fronts.{Fronts};
+ghost use Rattle.refusal_line.specs.Fronts.{Fronts};
 ghost use Rattle.fill.specs.Results.{resultsOf};
 ghost use Rattle.fill.specs.Fill.{plannedSheet, planned, filled, Fills};
 
@@ -45,7 +45,7 @@ fn fill_sheet(x: Sheet, out: &mut [u8]) -> Counted
     let settings = x.settings;
     let mut periods = [0u32; Table::MOST_TASKS];
     let mut processors = [0u16; Table::MOST_TASKS];
-    let answer = plain::find(table, settings, &mut periods, &mut processors);
+    let answer = plain_finder::find(table, settings, &mut periods, &mut processors);
     if let Answer::Refused(refusal) = answer {
         return Counted::Refused(refusal);
     }
@@ -80,7 +80,7 @@ pub fn fill(input: &[u8], out: &mut [u8; sheet::LONGEST]) -> usize
 {
     let written = fill_in(input, out);
     match written {
-        Counted::Refused(refusal) => line::put_refusal(out, refusal),
+        Counted::Refused(refusal) => refusal_line::put_refusal(out, refusal),
         Counted::Count(k) => k,
     }
 }

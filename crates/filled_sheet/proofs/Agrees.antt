@@ -8,8 +8,8 @@ use Rattle.kinds.specs.Policy.{meant}
 use Rattle.kinds.specs.Answer.{accepted}
 use Rattle.share.specs.Share.{periodAt}
 use Rattle.policy.specs.Under.{rowsUnder, loadsUnder}
-use Rattle.plan.specs.Plan.{processorAt}
-use Rattle.plain.specs.Asked.{asked}
+use Rattle.outcome.specs.Plan.{processorAt}
+use Rattle.plain_finder.specs.Asked.{asked}
 use Rattle.sheet.specs.Rows.{granted}
 use Rattle.sheet.specs.Reading.{readSheet}
 use Rattle.writer.specs.Canonical.{grantedIn}

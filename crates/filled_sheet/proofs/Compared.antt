@@ -11,8 +11,8 @@ use Rattle.kinds.specs.declared.Answer.the-variants as answer
 use Rattle.kinds.specs.Limits.{mostTasks}
 use Rattle.kinds.specs.Answer.{accepted, refused, handed}
 use Rattle.kinds.proofs.Chain.{comes-first, goes-on}
-use Rattle.plan.specs.Plan.{outcome, Meets}
-use Rattle.plain.specs.Asked.{asked}
+use Rattle.outcome.specs.Plan.{outcome, Meets}
+use Rattle.plain_finder.specs.Asked.{asked}
 use Rattle.sheet.specs.Rows.{noGranted}
 use Rattle.sheet.proofs.Padding.{padded-in}
 use Rattle.writer.specs.Canonical.{grantedIn}

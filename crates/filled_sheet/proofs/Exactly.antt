@@ -24,8 +24,8 @@ use Rattle.share.specs.Share.{periodAt}
 use Rattle.share.specs.Table.{periodsAt}
 use Rattle.admission.specs.Admission.{admission}
 use Rattle.policy.specs.Under.{rowsUnder, loadsUnder, leastUnder}
-use Rattle.plan.specs.Plan.{processorAt, processorsAt, decided, found}
-use Rattle.plain.specs.Asked.{asked}
+use Rattle.outcome.specs.Plan.{processorAt, processorsAt, decided, found}
+use Rattle.plain_finder.specs.Asked.{asked}
 use Rattle.sheet.specs.Rows.{granted}
 use Rattle.sheet.specs.Reading.{sheetIn, readSheet}
 use Rattle.sheet.proofs.Stages.{fits-few}

@@ -8,7 +8,7 @@ use Rattle.kinds.specs.declared.Granted.{Granted}
 use Rattle.kinds.specs.declared.Sheet.{Sheet}
 use Rattle.kinds.specs.Limits.{mostTasks}
 use Rattle.kinds.specs.Answer.{Handed, accepted}
-use Rattle.plain.specs.Asked.{asked}
+use Rattle.plain_finder.specs.Asked.{asked}
 use Rattle.field.specs.Number.{Bytes}
 use Rattle.sheet.specs.Rows.{noGranted}
 use Rattle.sheet.specs.Reading.{sheetIn, readSheet}

@@ -9,8 +9,8 @@ use Rattle.kinds.specs.declared.Verdict.{Verdict}
 use Rattle.kinds.specs.declared.Verdict.the-variants as verdict
 use Rattle.sheet.specs.Sections.{longestSheet}
 use Rattle.sheet.proofs.Beyond.{front-reads}
-use Rattle.line.specs.Line.{refusalLine, orLine}
-use Rattle.line.proofs.Lines.{line-of}
+use Rattle.refusal_line.specs.Line.{refusalLine, orLine}
+use Rattle.refusal_line.proofs.Lines.{line-of}
 use Rattle.filled_sheet.specs.Checked.{checkedSheet, checked}
 use Rattle.filled_sheet.specs.Told.{acceptedLine, told}
 

@@ -11,7 +11,7 @@ use Rattle.kinds.specs.declared.Granted.{Granted}
 use Rattle.kinds.specs.declared.Sheet.{Sheet}
 use Rattle.kinds.specs.declared.Refusal.the-variants.{NoResults, WrongResult}
 use Rattle.kinds.specs.Answer.{accepted, unrefused, judged, NumberAndPlace}
-use Rattle.plain.specs.Asked.{asked}
+use Rattle.plain_finder.specs.Asked.{asked}
 use Rattle.sheet.specs.Rows.{noGranted}
 use Rattle.sheet.specs.Reading.{readSheet}
 use Rattle.writer.specs.Canonical.{grantedIn}

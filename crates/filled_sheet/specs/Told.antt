@@ -2,7 +2,7 @@
 -- Assumes nothing.
 use Prim.Native.Nat.{ℕ}
 use mathlib.Core.List.{List, [], _∷_}
-use Rattle.line.specs.Line.{orLine}
+use Rattle.refusal_line.specs.Line.{orLine}
 use Rattle.filled_sheet.specs.Checked.{checked}
 
 -- the word `accepted` and a newline

@@ -12,7 +12,7 @@ ghost use Prim.Native.Nat.{_≤_};
 ghost use Rattle.ground.specs.First.{firstBelow};
 ghost use Rattle.kinds.specs.Limits.{mostTasks};
 ghost use Rattle.kinds.specs.Answer.{handedVerdict};
-ghost use Rattle.line.specs.Fronts.{Fronts};
+ghost use Rattle.refusal_line.specs.Fronts.{Fronts};
 ghost use Rattle.filled_sheet.specs.Checked.{differ, unlike, checkedSheet, checked};
 ghost use Rattle.filled_sheet.specs.Told.{told};
 
@@ -59,7 +59,7 @@ fn check_sheet(x: Sheet) -> Verdict
     let n = table.n;
     let mut periods = [0u32; Table::MOST_TASKS];
     let mut processors = [0u16; Table::MOST_TASKS];
-    let answer = plain::find(table, settings, &mut periods, &mut processors);
+    let answer = plain_finder::find(table, settings, &mut periods, &mut processors);
     if let Answer::Refused(refusal) = answer {
         return Verdict::Refused(refusal);
     }
@@ -91,7 +91,7 @@ pub fn tell(input: &[u8], out: &mut [u8; sheet::LONGEST]) -> usize
 {
     let verdict = check(input);
     match verdict {
-        Verdict::Refused(refusal) => line::put_refusal(out, refusal),
-        Verdict::Accepted => line::put_bytes(out, 0, b"accepted\n"),
+        Verdict::Refused(refusal) => refusal_line::put_refusal(out, refusal),
+        Verdict::Accepted => refusal_line::put_bytes(out, 0, b"accepted\n"),
     }
 }

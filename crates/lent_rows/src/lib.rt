@@ -1,5 +1,5 @@
 // Between lent task records and a table by value: `gather` and `gather_wide` copy lent rows into a table, `tableOf` of `kinds` and of
-// `wide_task`, and `scatter` copies a table's rows back. `embed`'s calls stand on them; `proofs/Lent` says how to add a thin call.
+// `wide_task`, and `scatter` copies a table's rows back. `eelbasket`'s calls stand on them; `proofs/Lent` says how to add a thin call.
 ghost use mathlib.Core.List.{[]};
 ghost use mathlib.Core.Path.{_≡_};
 ghost use Prim.Native.Nat.{_≤_, min};

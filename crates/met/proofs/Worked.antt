@@ -11,7 +11,7 @@ use Rattle.share.specs.Share.{shareAt, saturationAt, periodAt, chargeAt, loadAt
 use Rattle.share.specs.Table.{fullCompression, firstBad, periodsAt, pricedRows}
 use Rattle.policy.specs.Passing.{passes, leastStep}
 use Rattle.admission.specs.Admission.{gate, admission}
-use Rattle.plan.specs.Plan.{found, outcome}
+use Rattle.outcome.specs.Plan.{found, outcome}
 use Rattle.schedule.specs.Schedule.{Schedule, MeetsDeadlines}
 use Rattle.turns.specs.Rule.{workBy, scheduleBy}
 use Rattle.earliest_first.specs.ByDeadline.{byDeadline}

@@ -6,7 +6,7 @@ use mathlib.Core.List.{List}
 use Rattle.kinds.specs.declared.Task.{Task}
 use Rattle.kinds.specs.declared.Settings.{Settings}
 use Rattle.kinds.specs.declared.Answer.the-variants.{Accepted}
-use Rattle.plan.specs.Plan.{outcome, Meets}
+use Rattle.outcome.specs.Plan.{outcome, Meets}
 use Rattle.schedule.specs.Jobs.{Jobs}
 use Rattle.schedule.specs.Schedule.{Schedule}
 use Rattle.met.specs.Follows.{Follows}

@@ -1,5 +1,5 @@
 // Task tables as the office keeps them: comma-separated text, a line for each task. `import` and `export` work on a table by value; the
-// calls over lent rows are those of `embed`. Contracts cite `specs/Text`, `specs/Reading` and `specs/Carrying`; the last laws of
+// calls over lent rows are those of `eelbasket`. Contracts cite `specs/Text`, `specs/Reading` and `specs/Carrying`; the last laws of
 // `proofs/RoundTrip` are the two round trips.
 use kinds::Counted;
 use kinds::Refusal;

@@ -24,7 +24,7 @@ use Rattle.office.proofs.LinesBack.{line-got, line-back, line-rest, line-starts
 use Rattle.office.proofs.RoundTrip.{export-of-import, import-refused}
 use Rattle.office.proofs.Texts.{text-empty, text-cons}
 use Rattle.office.proofs.Widths.{line-long}
-use Rattle.line.specs.Line.{orLine}
+use Rattle.refusal_line.specs.Line.{orLine}
 use Rattle.office_sheet.specs.Written.{enteredText, entered, takenTable, takenOut}
 
 -- no line is longer than the longest

@@ -23,10 +23,10 @@ use Rattle.kinds.specs.declared.Counted.{Counted}
 use Rattle.office.specs.Reading.{readText, rowsOf}
 use Rattle.office.specs.Carrying.{importHanded, Reads}
 use Rattle.office.proofs.Landing.{lands, all-landed}
-use Rattle.line.specs.Line.{refusalLine, orLine}
-use Rattle.line.specs.Fronts.{Fronts}
-use Rattle.line.proofs.Fronts.{fronts}
-use Rattle.line.proofs.Lines.{line-of}
+use Rattle.refusal_line.specs.Line.{refusalLine, orLine}
+use Rattle.refusal_line.specs.Fronts.{Fronts}
+use Rattle.refusal_line.proofs.Fronts.{fronts}
+use Rattle.refusal_line.proofs.Lines.{line-of}
 use Rattle.office_sheet.specs.declared.Setting.{Setting}
 use Rattle.office_sheet.specs.declared.Setting.the-variants.{Is, Bad}
 use Rattle.office_sheet.specs.Written.{greatestSetting, settingOf, handedSetting, sheetWith, enteredText, entered}

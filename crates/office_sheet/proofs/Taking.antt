@@ -14,10 +14,10 @@ use Rattle.kinds.specs.declared.Counted.the-variants as counted
 use Rattle.office.specs.Text.{textTo, longestText}
 use Rattle.office.specs.Carrying.{exportHanded, afterCarry, Exports}
 use Rattle.office.proofs.Answers.{after-refused, export-fits}
-use Rattle.line.specs.Line.{refusalLine, orLine}
-use Rattle.line.specs.Fronts.{Fronts}
-use Rattle.line.proofs.Fronts.{fronts}
-use Rattle.line.proofs.Lines.{line-of}
+use Rattle.refusal_line.specs.Line.{refusalLine, orLine}
+use Rattle.refusal_line.specs.Fronts.{Fronts}
+use Rattle.refusal_line.proofs.Fronts.{fronts}
+use Rattle.refusal_line.proofs.Lines.{line-of}
 use Rattle.office_sheet.specs.Written.{takenTable, takenOut}
 
 -- the text of a table

@@ -23,7 +23,7 @@ use Rattle.writer.specs.Encode.{encode}
 use Rattle.office.specs.Text.{textTo, longestText}
 use Rattle.office.specs.Reading.{readText, rowsOf}
 use Rattle.office.specs.Carrying.{importHanded, exportHanded}
-use Rattle.line.specs.Line.{orLine}
+use Rattle.refusal_line.specs.Line.{orLine}
 use Rattle.office_sheet.specs.declared.Setting.{Setting}
 use Rattle.office_sheet.specs.declared.Setting.the-variants.{Is, Bad}
 

@@ -15,7 +15,7 @@ ghost use Prim.Native.Nat.{_≤_};
 ghost use lib.ListN.{length};
 ghost use Rattle.kinds.specs.Limits.{mostTasks};
 ghost use Rattle.sheet.specs.Sections.{longestSheet};
-ghost use Rattle.line.specs.Fronts.{Fronts};
+ghost use Rattle.refusal_line.specs.Fronts.{Fronts};
 ghost use Rattle.writer.specs.Encode.{encode};
 ghost use Rattle.office_sheet.specs.Written.{settingOf, sheetWith, entered, takenTable, takenOut};
 
@@ -70,15 +70,15 @@ pub fn enter(policy: &[u8], processors: &[u8], text: &[u8], out: &mut [u8; sheet
     ensures { λ r. ⌜ Fronts (entered (now (policy .entry)) (now (processors .entry)) (now (text .entry))) (now (out .entry)) r (now (out .exit)) ⌝ }
 {
     let Setting::Is(p) = setting_of(policy) else {
-        return line::put_refusal(out, Refusal::NoSuchPolicy);
+        return refusal_line::put_refusal(out, Refusal::NoSuchPolicy);
     };
     let Setting::Is(m) = setting_of(processors) else {
-        return line::put_refusal(out, Refusal::Misset);
+        return refusal_line::put_refusal(out, Refusal::Misset);
     };
     let imported = office::import(text, Table::MOST_TASKS);
     let answer = imported.answer;
     if let Counted::Refused(refusal) = answer {
-        return line::put_refusal(out, refusal);
+        return refusal_line::put_refusal(out, refusal);
     }
     let table = imported.table;
     put_unfilled(p, m, table, out)
@@ -89,7 +89,7 @@ fn put_text(table: Table, out: &mut [u8; office::LONGEST]) -> usize
     ensures { λ r. ⌜ Fronts (takenTable table) (now (out .entry)) r (now (out .exit)) ⌝ }
 {
     match office::export(table, out) {
-        Counted::Refused(refusal) => line::put_refusal(out, refusal),
+        Counted::Refused(refusal) => refusal_line::put_refusal(out, refusal),
         Counted::Count(k) => k,
     }
 }
@@ -101,7 +101,7 @@ pub fn take_out(bytes: &[u8], out: &mut [u8; office::LONGEST]) -> usize
     let reading = sheet::read(bytes);
     let verdict = reading.verdict;
     match verdict {
-        Verdict::Refused(refusal) => line::put_refusal(out, refusal),
+        Verdict::Refused(refusal) => refusal_line::put_refusal(out, refusal),
         Verdict::Accepted => {
             let x = reading.sheet;
             let table = x.table;

@@ -22,7 +22,7 @@ fn first_fit(table: Table, m: u16) {
     let mut processors = [9u16; LENT];
     let settings = Settings::new(Policy::FirstFit, m, 0, 1, Settings::SHARE_EDITION);
     show::words(b"first fit");
-    show::answer(plain::find(table, settings, &mut periods, &mut processors));
+    show::answer(plain_finder::find(table, settings, &mut periods, &mut processors));
     show::counts(b" processors", table.n, &processors);
     show::words(b"\n");
 }
@@ -34,7 +34,7 @@ fn planned(table: Table, m: u16, step: u32) {
     let settings = Settings::new(Policy::FirstFit, m, 0, 1, Settings::SHARE_EDITION);
     show::words(b"planner at");
     show::number(step);
-    verdict(checked_plan::plan_or_refuse(table, settings, step, &mut processors, &mut loads));
+    verdict(checked_proposal::plan_or_refuse(table, settings, step, &mut processors, &mut loads));
     show::counts(b" processors", table.n, &processors);
     show::amounts(b" loads", m as usize, &loads);
     show::words(b"\n");

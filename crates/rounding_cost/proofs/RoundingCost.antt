@@ -28,8 +28,8 @@ use Rattle.policy.proofs.Demand.{step-at}
 use Rattle.policy.proofs.Tests.{pooled-passes}
 use Rattle.admission.specs.Admission.{admission}
 use Rattle.admission.proofs.Chain.{Ready, admitted}
-use Rattle.plan.specs.Plan.{found, outcome, Meets}
-use Rattle.plan.proofs.Found.{accepting, admitted-found}
+use Rattle.outcome.specs.Plan.{found, outcome, Meets}
+use Rattle.outcome.proofs.Found.{accepting, admitted-found}
 use Rattle.rounding_cost.specs.Exact.{Fraction, over}
 use Rattle.rounding_cost.specs.RoundingCost.{costUnder, costOverPeriod, costOverTmin, withinProcessors, sparesParts, sparesFewerParts}
 use Rattle.rounding_cost.proofs.Sums.{bottom-some, sum-covers, sum-within}

@@ -9,7 +9,7 @@ use Rattle.share.specs.Share.{shareAt, saturationAt, periodAt, chargeAt, loadAt
 use Rattle.share.specs.Table.{fullCompression, firstBad, pricedRows}
 use Rattle.policy.specs.Passing.{passes, leastStep}
 use Rattle.admission.specs.Admission.{gate, admission}
-use Rattle.plan.specs.Plan.{found}
+use Rattle.outcome.specs.Plan.{found}
 use Rattle.rounding_cost.specs.Exact.{exactSum}
 use Rattle.rounding_cost.specs.Worked.{workedOut, tables, lines, WorkedRight}
 

@@ -11,7 +11,7 @@ use Rattle.kinds.specs.declared.Task.{Task}
 use Rattle.kinds.specs.Limits.{shareEdition, chargeEdition}
 use Rattle.kinds.specs.Settings.{settings}
 use Rattle.kinds.specs.Task.{task}
-use Rattle.plan.specs.Plan.{found}
+use Rattle.outcome.specs.Plan.{found}
 use Rattle.rounding_cost.specs.Exact.{Fraction, over}
 use Rattle.rounding_cost.specs.RoundingCost.{costOverTmin, sparesParts, sparesFewerParts}
 

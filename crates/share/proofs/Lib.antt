@@ -1,3 +1,5 @@
 pub mod Tasks
 pub mod Tables
 pub mod Charges
+pub mod Twice
+pub mod CaseD

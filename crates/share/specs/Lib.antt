@@ -1,3 +1,4 @@
 pub mod Share
 pub mod Table
 pub mod Handover
+pub mod Twice

@@ -181,7 +181,7 @@ pub fn put_sheet(x: Sheet, out: &mut [u8]) -> usize {
     let settings = x.settings;
     let mut periods = [0u32; Table::MOST_TASKS];
     let mut processors = [0u16; Table::MOST_TASKS];
-    let answer = plain::find(table, settings, &mut periods, &mut processors);
+    let answer = plain_finder::find(table, settings, &mut periods, &mut processors);
     match answer {
         Answer::Refused(refusal) => put_refused(out, refusal, table, settings),
         Answer::Accepted(step) => {

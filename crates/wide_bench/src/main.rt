@@ -10,7 +10,7 @@ fn run(name: &[u8], m: u16, table: WideTable) {
     let mut periods = [7u32; LENT];
     let mut cores = [9u16; LENT];
     show::words(name);
-    show::answer(wide::find(table, m, &mut periods, &mut cores));
+    show::answer(wide_finder::find(table, m, &mut periods, &mut cores));
     show::outputs(b" cores", table.n, &periods, &cores);
     show::words(b"\n");
 }

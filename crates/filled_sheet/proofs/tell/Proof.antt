@@ -1,6 +1,6 @@
 -- `filled_sheet::tell` meets its contract. Assumes nothing.
 use Rattle.ground.proofs.Kit.{needs}
-use Rattle.line.proofs.Fronts.{put-fronts}
+use Rattle.refusal_line.proofs.Fronts.{put-fronts}
 use Rattle.filled_sheet.proofs.Lines.{accepted-line, refused-line}
 use Rattle.filled_sheet.proofs.tell.Statement.{statement}
 use Rattle.filled_sheet.proofs.tell.Tie as tie

@@ -1,0 +1,128 @@
+// Calls on a table by value, in numbers. An enum does not cross to C, so a policy comes as its number, and an answer goes as document 01's
+// numbers: 0 for an acceptance. Contracts cite `specs/Told`, which reads the numbers as the calls' own promises. `eelbasket` exports these calls.
+use c_numbers::Station;
+use c_numbers::ToldVerdict;
+use c_numbers::settings_of;
+use c_numbers::tell_verdict;
+use kinds::Answer;
+use kinds::Margin;
+use kinds::Table;
+use wide_task::WideTable;
+ghost use mathlib.Core.Bool.{true};
+ghost use mathlib.Core.Path.{_≡_};
+ghost use Rattle.kinds.specs.Answer.{handed};
+ghost use Rattle.outcome.specs.Plan.{outcome};
+ghost use Rattle.margin.specs.Margin.{marginHanded};
+ghost use Rattle.proposal.specs.Proposal as checker;
+ghost use Rattle.wide_finder.specs.Wide as wide;
+ghost use Rattle.c_numbers.specs.Numbers.{settingsOf};
+ghost use Rattle.c_tables.specs.Told.{toldHanded, toldMargin, ToldMeets, ToldLooked, ToldProposal};
+
+// Number, step, looks and place. A refusal's step is 0; the plain finder makes no looks.
+#[repr(C)]
+pub struct Told {
+    pub number: u32,
+    pub step: u32,
+    pub looks: u32,
+    pub place: usize,
+}
+
+// Number, place and margin. A refusal's margin is 0.
+#[repr(C)]
+pub struct ToldMargin {
+    pub number: u32,
+    pub place: usize,
+    pub margin: i64,
+}
+
+// An answer in numbers, with its looks.
+fn tell(answer: Answer, looks: u32) -> Told
+    ensures { λ r. ⌜ (toldHanded r ≡ handed answer) × (r .looks ≡ looks) ⌝ }
+{
+    match answer {
+        Answer::Accepted(step) => Told {
+            number: 0,
+            step,
+            looks,
+            place: 0,
+        },
+        Answer::Refused(refusal) => Told {
+            number: refusal.number() as u32,
+            step: 0,
+            looks,
+            place: refusal.place(),
+        },
+    }
+}
+
+// The plain finder on a table by value.
+pub fn plain_told(
+    table: Table,
+    station: Station,
+    periods: &mut [u32],
+    processors: &mut [u16],
+) -> Told
+    ensures { λ r. ⌜ ToldMeets (outcome true (settingsOf station) (table .rows) (table .n) (now (periods .entry)) (now (processors .entry)))
+        r (now (periods .exit)) (now (processors .exit)) ⌝ }
+{
+    tell(
+        plain_finder::find(table, settings_of(station), periods, processors),
+        0,
+    )
+}
+
+// The quick finder on a table by value.
+pub fn quick_told(
+    table: Table,
+    station: Station,
+    periods: &mut [u32],
+    processors: &mut [u16],
+) -> Told
+    ensures { λ r. ⌜ ToldLooked (settingsOf station) (table .rows) (table .n) (now (periods .entry)) (now (processors .entry))
+        r (now (periods .exit)) (now (processors .exit)) ⌝ }
+{
+    let looked = quick_finder::find(table, settings_of(station), periods, processors);
+    let answer = looked.answer;
+    tell(answer, looked.looks)
+}
+
+// The margin on a table by value.
+pub fn margin_told(table: Table, station: Station, step: u32) -> ToldMargin
+    ensures { λ r. ⌜ toldMargin r ≡ marginHanded (settingsOf station) (table .rows) (table .n) step ⌝ }
+{
+    match margin::margin_at(table, settings_of(station), step) {
+        Margin::Is(margin) => ToldMargin {
+            number: 0,
+            place: 0,
+            margin,
+        },
+        Margin::Refused(refusal) => ToldMargin {
+            number: refusal.number() as u32,
+            place: refusal.place(),
+            margin: 0,
+        },
+    }
+}
+
+// The checker of a proposal on a table by value.
+pub fn check_proposal_told(
+    table: Table,
+    station: Station,
+    step: u32,
+    proposal: &[u16],
+    loads: &mut [u32],
+) -> ToldVerdict
+    ensures { λ r. ⌜ ToldProposal
+        (checker.outcome (settingsOf station) (table .rows) (table .n) step (now (proposal .entry)) (now (loads .entry)))
+        r (now (loads .exit)) ⌝ }
+{
+    tell_verdict(proposal::check(table, settings_of(station), step, proposal, loads))
+}
+
+// The finder for tasks that need several cores, on a table by value.
+pub fn wide_told(table: WideTable, m: u16, periods: &mut [u32], cores: &mut [u16]) -> Told
+    ensures { λ r. ⌜ ToldMeets (wide.outcome m (table .rows) (table .n) (now (periods .entry)) (now (cores .entry)))
+        r (now (periods .exit)) (now (cores .exit)) ⌝ }
+{
+    tell(wide_finder::find(table, m, periods, cores), 0)
+}
