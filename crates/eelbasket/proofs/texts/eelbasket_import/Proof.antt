@@ -211,7 +211,7 @@ eelbasket-import-spec 𝓤 H 𝓜 𝓖 𝓡 =
     entered 𝓤 H (tripleOf 𝓤 H (𝓖 .A) call.signature (call.spec 𝓤 H (𝓖 .A) (𝓜 .mem) (𝓡 .run)))
     (tables 𝓤 H 𝓜 𝓡 code.env .C) (tables 𝓤 H 𝓜 𝓡 code.env .Λ) #texts·eelbasket-import code.function (code.unfolded 𝓤 H 𝓜 𝓡)
     (import-meets 𝓤 H (𝓖 .A) (givenOf 𝓤 H 𝓜 𝓖) (𝓜 .mem) (𝓡 .run) (tablesOf 𝓤 H 𝓜 (tables 𝓤 H 𝓜 𝓡 code.env)) (
-      cited 𝓤 H (Core 𝓤 H (𝓖 .A) (𝓜 .mem) (𝓡 .run)) 𝓜 𝓡 code.env #told-texts·import-told core-def.routine code.calls-told-texts·import-told
+      cited 𝓤 H (Core 𝓤 H (𝓖 .A) (𝓜 .mem) (𝓡 .run)) 𝓜 𝓡 code.env #told-texts·import-told core-def.routine code.calls-c-texts·import-told
           (core-thm.met 𝓤 H 𝓜 𝓖 𝓡),
       cited 𝓤 H (Scatter 𝓤 H (𝓖 .A) (𝓜 .mem) (𝓡 .run)) 𝓜 𝓡 code.env #lent-rows·scatter scatter-def.routine code.calls-lent-rows·scatter
           (scatter-thm.met 𝓤 H 𝓜 𝓖 𝓡),
