@@ -33,3 +33,8 @@ anyTo test (suc n) = either (anyTo test n) (test n)
 unfoldable pub listTo : {A : Type 0} → (ℕ → A) → ℕ → List A
 listTo f zero = []
 listTo f (suc n) = listTo f n ++ (f n ∷ [])
+
+-- the lists, one after the other
+unfoldable pub joinTo : {A : Type 0} → (ℕ → List A) → ℕ → List A
+joinTo f zero = []
+joinTo f (suc n) = joinTo f n ++ f n
