@@ -17,7 +17,7 @@ use Rattle.policy.proofs.Tests.{test-stays}
 
 pub weighed-worked-out : (w : Weights) (load : ℕ → ℕ) (n sum max : ℕ) → TotalIs load n sum max → leb (left w sum max) (w .r) ≡ weighed w load n
 unfolding weighed
-weighed-worked-out w load n sum max t = rw (t .sum-is, t .max-is)
+weighed-worked-out w load n sum max t = rw (t .added .is, t .max-is)
 
 -- the test stays where no load is larger
 pub weighed-stays : (w : Weights) (f g : ℕ → ℕ) (n : ℕ) → ((i : ℕ) → i < n → g i ≤ f i) → weighed w f n ≡ true → weighed w g n ≡ true
