@@ -19,7 +19,7 @@ use Rattle.policy.proofs.Tests.{test-stays}
 
 pub weighed-worked-out : (w : Weights) (load : ℕ → ℕ) (n sum max : ℕ) → TotalIs load n sum max → leb (left w sum max) (w .r) ≡ weighed w load n
 unfolding weighed
-weighed-worked-out w load n sum max t = rw (t .sum-is, t .max-is)
+weighed-worked-out w load n sum max t = rw (t .added .is, t .max-is)
 
 -- it fails where the sum alone is above the right side, and where the max does not count the sum alone is held to it
 module _ (w : Weights) (load : ℕ → ℕ) (n : ℕ) where
