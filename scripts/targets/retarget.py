@@ -11,6 +11,9 @@ import re, sys
 OF_X86 = re.compile(r'^target datalayout = .*\n|^target triple = "x86_64.*\n| "probe-stack"="inline-asm"| "target-cpu"="x86-64"', re.M)
 EXPORTED = re.compile(r'^define (?!internal )(.*?) @(\w+)\((.*)\) #0 \{$', re.M)
 PARAMETER = re.compile(r'(i\d+|ptr)(?: noundef)?( byval\(\[\d+ x i8\]\) align \d+)? %a\d+')
+# what is left of x86-64 or exported, and what means something else where a pointer has 32 bits: a struct's layout, and a pointer as a number
+UNKNOWN = re.compile(r'^target .*|^define (?!internal ).*|.*(?:x86|"target-|ptrtoint|inttoptr).*'
+                     r'|.*\b(?:alloca|getelementptr) (?!(?:inbounds |nuw )*(?:i\d+|ptr|\[\d+ x i\d+\]),).*', re.M)
 # the answer goes where the first parameter points, or comes back in two registers
 IN_MEMORY, IN_REGISTERS = 'noundef ptr', '{ i64, i64 }'
 
@@ -37,9 +40,9 @@ def retarget(text):
     if not calls:
         stop('this is no module that exports a call')
     text = EXPORTED.sub(lambda call: call[0].replace('define ', 'define internal ', 1), text)
-    left = re.search(r'^target .*|^define (?!internal ).*|.*(?:x86|"target-).*', text, re.M)
-    if left:
-        stop(f'it is not known what becomes of this: {left[0]}')
+    unknown = UNKNOWN.search(text)
+    if unknown:
+        stop(f'it is not known what becomes of this: {unknown[0]}')
     return text + ''.join(proved(*call) for call in calls)
 
 sys.stdout.write(retarget(sys.stdin.read()))
