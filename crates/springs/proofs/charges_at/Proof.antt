@@ -1,8 +1,8 @@
 -- `springs::charges_at` meets its contract. The loop: the first i loads are the charges of step k, whose sum is at hand, and nothing else has
 -- moved; n − i falls. Assumes nothing.
-use Rattle.ground.proofs.Kit.{_-_, _*_, _≤_, _≡_, sym, _∙_, ap, arith}
-use Rattle.ground.specs.Folds.{sumTo}
-use Rattle.ground.proofs.Folds.{sum-none, sum-more}
+use Rattle.ground.proofs.Kit.{_-_, _≤_, _≡_, _∙_, ap, arith}
+use Rattle.ground.specs.Folds.{AddedUp}
+use Rattle.ground.proofs.Folds.{added-none, added-more}
 use Rattle.kinds.specs.Limits.{scale}
 use Rattle.springs.specs.declared.Spring.{Spring}
 use Rattle.springs.specs.Spring.{shareOn, chargeFor, chargesOn}
@@ -14,7 +14,7 @@ use Rattle.springs.proofs.charges_at.Tie as tie
 
 abbrev Inv-loop : tie.InvT-loop
 Inv-loop notch block₀ n k sum₀ i₀ block sum i =
-    (i ≤ n) × Loaded (chargesOn notch (springIn block₀) k) i block₀ block × (sum ≡ sumTo (chargesOn notch (springIn block₀) k) i) × (sum ≤ scale * i)
+    (i ≤ n) × Loaded (chargesOn notch (springIn block₀) k) i block₀ block × AddedUp (chargesOn notch (springIn block₀) k) scale i sum
 
 abbrev μ-loop : tie.MeasureT-loop
 μ-loop notch block₀ n k sum₀ i₀ block sum i = n - i
@@ -40,25 +40,23 @@ charge-at-requires : tie.Need-charge-at-requires Inv-loop μ-loop
 charge-at-requires c κs = rw (found c) (c .before .before .before .before .pre .allowed _ (c .before .before .loop-test .taken))
 
 add-sum : tie.Need-add-sum Inv-loop μ-loop
-add-sum c = let at-loop = c .before .before .before .before in omega (arith, c .charge-at .ensures .1, at-loop .loop .inv .3, at-loop .before .pre .few)
+add-sum c = let at-loop = c .before .before .before .before in omega (arith, c .charge-at .ensures .1, at-loop .loop .inv .2 .most, at-loop .before .pre .few)
 
 loop-again : tie.Need-loop-again Inv-loop μ-loop
 loop-again c =
     let at-loop = c .before .before .before .before in
-    let at-start = at-loop .before in
-    let charges = chargesOn (at-start .args .notch) (springIn (at-start .args .block .now)) (at-start .args .k) in (
+    let at-start = at-loop .before in (
       omega arith,
       loaded-more _ _ _ _ _ (omega (arith, at-start .pre .few, at-start .pre .long)) (charged c) (at-loop .loop .inv .1),
-      omega (arith, sum-more charges (at-loop .loop .i), at-loop .loop .inv .2, charged c),
-      omega (arith, at-loop .loop .inv .3, c .charge-at .ensures .1),
+      added-more _ _ _ _ _ (at-loop .loop .inv .2) (charged c) (c .charge-at .ensures .1),
     )
 
 returns : tie.Need-returns Inv-loop μ-loop
 returns c =
     let at-loop = c .before .before in
     let e : at-loop .loop .i ≡ at-loop .before .args .n = omega arith in
-    record { loaded = rw e at (at-loop .loop .inv .1); sum-is = c .widened .ensures ∙ (rw e at (at-loop .loop .inv .2)) }
+    record { loaded = rw e at (at-loop .loop .inv .1); sum-is = c .widened .ensures ∙ (rw e at (at-loop .loop .inv .2 .is)) }
 
 pub charges-at-spec : {M : Type 1} → statement M
-charges-at-spec = tie.close (tie.spec Inv-loop μ-loop (λ c. (omega arith, loaded-none _ _, sym (sum-none _), omega arith)) spring-in-requires
+charges-at-spec = tie.close (tie.spec Inv-loop μ-loop (λ c. (omega arith, loaded-none _ _, added-none _ _)) spring-in-requires
     charge-at-requires (λ c. omega arith) (λ c. omega arith) add-sum (λ c. omega arith) (λ c. omega arith) loop-again (λ _ _. tt) returns)
