@@ -33,7 +33,8 @@ charged : (c : tie.After-charge-at Inv-loop μ-loop) → let at-loop = c .before
     let args = at-loop .before .args in
     c .charge-at .result ≡ chargesOn (args .notch) (springIn (args .block .now)) (args .k) (at-loop .loop .i)
 charged c =
-    let args = c .before .before .before .before .before .args in
+    let at-loop = c .before .before .before .before in
+    let args = at-loop .before .args in
     c .charge-at .ensures .0 ∙ ap (λ (s : Spring). chargeFor (args .notch) s (shareOn s (args .k))) (found (c .before))
 
 charge-at-requires : tie.Need-charge-at-requires Inv-loop μ-loop
