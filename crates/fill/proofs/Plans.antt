@@ -1,10 +1,11 @@
 -- What the plain finder leaves in two outputs is the plan of the definition, and its sheet can always be written.
 -- Assumes nothing.
 use Rattle.ground.proofs.Kit.{ℕ, _+_, _≤_, _<_, min, true, List, [], _++_, _≡_, refl, sym, _∙_, ap, ap₂, arith, eqb, length, getD, set, drop, eq-eqb}
+use Rattle.ground.proofs.Kit.{ne-eqb, lt-ltb}
 use lib.ListN.{List·getD-append}
 use Rattle.ground.specs.Laid.{paddedTo}
 use Rattle.ground.proofs.Buffer.{list-long}
-use Rattle.ground.proofs.Cases.{by-bool}
+use Rattle.ground.proofs.Cases.{by-bool, by-le}
 use Rattle.ground.proofs.Laid.{over-more, over-cong}
 use Rattle.kinds.specs.declared.Granted.{Granted}
 use Rattle.kinds.specs.declared.Results.{Results}
@@ -13,10 +14,15 @@ use Rattle.kinds.specs.declared.Refusal.{Refusal}
 use Rattle.kinds.specs.declared.Answer.{Answer}
 use Rattle.kinds.specs.declared.Answer.the-variants as answer
 use Rattle.kinds.specs.Limits.{mostTasks}
+use Rattle.kinds.specs.Refusal.{numberOf}
 use Rattle.kinds.specs.Answer.{Handed, accepted, refused, handed}
+use Rattle.kinds.proofs.Refusals.{refusal-numbered}
+use Rattle.kinds.proofs.Answers.{handed-one}
 use Rattle.kinds.proofs.Chain.{comes-first, goes-on}
 use Rattle.share.specs.Table.{periodsAt}
-use Rattle.outcome.specs.Plan.{processorsAt, periodsAfter, processorsAfter, outcome, Meets}
+use Rattle.admission.specs.Admission.{missetUnder, gate, admission}
+use Rattle.outcome.specs.Plan.{processorsAt, periodsAfter, processorsAfter, found, outcome, Meets}
+use Rattle.outcome.proofs.Found.{accepting}
 use Rattle.plain_finder.specs.Asked.{asked}
 use Rattle.plain_finder.proofs.Asked.{asked-roomy}
 use Rattle.sheet.specs.Sections.{longestSheet, settingsFit, resultsFit}
@@ -27,7 +33,8 @@ use Rattle.writer.specs.Encode.{encode, lengthOf}
 use Rattle.writer.specs.Writing.{writeSheet, Writes}
 use Rattle.writer.proofs.Rows.{encode-long}
 use Rattle.writer.proofs.Answers.{accepts, write-accepts, accepted-after}
-use Rattle.fill.specs.Results.{entryAt, resultsOf, planPeriods, planProcessors, withPlan}
+use Rattle.fill.specs.declared.SheetPlan.{SheetPlan}
+use Rattle.fill.specs.Results.{entryAt, resultsOf, planPeriods, planProcessors, withPlan, afterPlan, Plans}
 use Rattle.fill.specs.Fill.{plannedSheet, Fills}
 
 -- the rows of a results section, one by one
@@ -43,7 +50,23 @@ module _ (periods processors : List ℕ) (rows : List Granted) (i : ℕ) (is : r
 abbrev pub withResults : Sheet → Results → Sheet
 withResults x r = record { count = x .count; settings = x .settings; table = x .table; results = r }
 
--- a sheet that the plain finder accepts is written with its plan
+-- outputs for the most tasks are enough: where there are more tasks no room is asked for
+asked-many : (x : Sheet) (room : ℕ) → mostTasks < x .table .n → found true (x .settings) (x .table .rows) (x .table .n) room ≡ asked x
+unfolding asked found admission gate
+asked-many x room h =
+    by-bool (missetUnder (x .settings))
+    (λ misset. rw misset)
+    (λ set. rw (set, lt-ltb mostTasks (x .table .n) h))
+
+asked-of-most : (x : Sheet) (room : ℕ) → mostTasks ≤ room → found true (x .settings) (x .table .rows) (x .table .n) room ≡ asked x
+asked-of-most x room h = by-le (x .table .n) mostTasks (λ few. asked-roomy x room (omega arith)) (λ many. asked-many x room many)
+
+-- a sheet that the plain finder accepts has no more tasks than there may be
+pub accepted-few : (x : Sheet) (k : ℕ) → asked x ≡ accepted k → x .table .n ≤ mostTasks
+unfolding asked
+accepted-few x k e = accepting true (x .settings) (x .table .rows) (x .table .n) (x .table .n) k (sym e) .ready .passed .few
+
+-- and is written with its plan
 pub sheet-planned : (x : Sheet) (k : ℕ) → asked x ≡ accepted k → plannedSheet x ≡ accepted (encode (withPlan x k))
 unfolding plannedSheet
 sheet-planned x k e = sym (goes-on [] (asked x) (λ j. accepted (encode (withPlan x j))) k e)
@@ -53,18 +76,27 @@ pub plan-fits : (n : ℕ) → resultsFit n n ≡ true
 unfolding resultsFit
 plan-fits n = by-bool (eqb n 0) (λ e. rw e) (λ e. rw (e, eq-eqb n n refl))
 
-module _ (x : Sheet) (few : x .table .n ≤ mostTasks) (ps qs ps′ qs′ : List ℕ) (long-ps : length ps ≡ mostTasks) (long-qs : length qs ≡ mostTasks)
+module _ (x : Sheet) (ps qs ps′ qs′ : List ℕ) (long-ps : length ps ≡ mostTasks) (long-qs : length qs ≡ mostTasks)
     (a : Answer) (m : Meets (outcome true (x .settings) (x .table .rows) (x .table .n) ps qs) a ps′ qs′) where
-  pub answers : handed a ≡ asked x
+  answered : handed a ≡ asked x
   unfolding outcome
-  answers = m .answers ∙ asked-roomy x (min (length ps) (length qs)) (omega arith)
+  answered = m .answers ∙ asked-of-most x (min (length ps) (length qs)) (omega arith)
 
-  -- a refusal of the plain finder
-  pub plan-refused : (q : Refusal) → a ≡ answer.Refused q → plannedSheet x ≡ refused [] q
-  unfolding plannedSheet
-  plan-refused q e = sym (comes-first [] (asked x) (λ k. accepted (encode (withPlan x k))) 0 q (sym answers ∙ ap handed e))
+  -- a refusal of the plain finder leaves the sheet as it was
+  pub plan-refused : (q : Refusal) → a ≡ answer.Refused q → Plans x (record { answer = a; sheet = x })
+  unfolding afterPlan
+  plan-refused q e =
+      let is : asked x ≡ refused 0 q = sym answered ∙ ap handed e in
+      let not-accepted = ne-eqb (numberOf q) 0 (λ z. omega (arith, refusal-numbered q)) in
+      record { answers = answered; fills = rw (is, not-accepted) }
 
   module _ (k : ℕ) (e : a ≡ answer.Accepted k) where
+    step-is : asked x ≡ accepted k
+    step-is = sym answered ∙ ap handed e
+
+    pub plan-few : x .table .n ≤ mostTasks
+    plan-few = accepted-few x k step-is
+
     -- what stands in the outputs
     periods-are : ps′ ≡ planPeriods x k ++ drop (x .table .n) ps
     unfolding outcome
@@ -83,39 +115,63 @@ module _ (x : Sheet) (few : x .table .n ≤ mostTasks) (ps qs ps′ qs′ : List
     processors-long = list-long _ (x .table .n)
 
     -- entry by entry
-    pub entry-is : (i : ℕ) → i < x .table .n → entryAt ps′ qs′ i ≡ entryAt (planPeriods x k) (planProcessors x k) i
+    entry-is : (i : ℕ) → i < x .table .n → entryAt ps′ qs′ i ≡ entryAt (planPeriods x k) (planProcessors x k) i
     entry-is i l =
         let n = x .table .n in
         ap₂ granted
         (ap (λ (p : List ℕ). getD p i 0) periods-are ∙ List·getD-append (planPeriods x k) (drop n ps) 0 i (rw periods-long l))
         (ap (λ (p : List ℕ). getD p i 0) processors-are ∙ List·getD-append (planProcessors x k) (drop n qs) 0 i (rw processors-long l))
 
-    module _ (r : Results) (is : r ≡ resultsOf ps′ qs′ (x .table .n)) where
-      planned-is : withResults x r ≡ withPlan x k
-      unfolding withPlan resultsOf
-      planned-is =
-          let n = x .table .n in
-          let rows = over-cong noResults (entryAt ps′ qs′) (entryAt (planPeriods x k) (planProcessors x k)) n entry-is in
-          ap (withResults x) is
-          ∙ ap (λ (g : List Granted). withResults x (record { rows = g; n = n })) rows
+    planned-is : withResults x (resultsOf ps′ qs′ (x .table .n)) ≡ withPlan x k
+    unfolding withPlan resultsOf
+    planned-is =
+        let n = x .table .n in
+        let rows = over-cong noResults (entryAt ps′ qs′) (entryAt (planPeriods x k) (planProcessors x k)) n entry-is in
+        ap (λ (g : List Granted). withResults x (record { rows = g; n = n })) rows
 
-      planned-accepted : settingsFit (x .count) ≡ true → (room : ℕ) → longestSheet ≤ room
-          → writeSheet (withPlan x k) room ≡ accepted (lengthOf (withPlan x k))
-      unfolding withPlan resultsOf
-      planned-accepted taken room h =
-          let most = settings-few (x .count) taken in
-          write-accepts (withPlan x k) room taken few (plan-fits (x .table .n)) (omega arith)
+    -- an acceptance fills in the plan
+    pub plan-filled : (r : Results) → r ≡ resultsOf ps′ qs′ (x .table .n) → Plans x (record { answer = a; sheet = withResults x r })
+    unfolding afterPlan
+    plan-filled r is = record { answers = answered; fills = rw step-is (ap (withResults x) is ∙ planned-is) }
 
-      pub plan-written : settingsFit (x .count) ≡ true → (old new : List ℕ) → longestSheet ≤ length old
-          → (w : Counted) → Writes (withResults x r) old w new → Fills (plannedSheet x) old w new
-      plan-written taken old new room w p =
-          let y = withPlan x k in
-          let p′ : Writes y old w new = rw planned-is at p in
-          let all = planned-accepted taken (length old) room in
-          let long = encode-long y in
-          rw (sheet-planned x k (sym answers ∙ ap handed e))
-          (record {
-            answer = p′ .answer ∙ (all ∙ ap accepted (sym long));
-            output = p′ .buffer ∙ (accepted-after y old (lengthOf y) all ∙ ap (λ (n : ℕ). encode y ++ drop n old) (sym long));
-            fits = omega (arith, long, accepts y (length old) (lengthOf y) all .fits);
-          })
+-- what comes of a sheet that was filled in: its refusal, or its bytes
+module _ (x : Sheet) (p : SheetPlan) (plans : Plans x p) where
+  pub filling-refused : (q : Refusal) → p .answer ≡ answer.Refused q → plannedSheet x ≡ refused [] q
+  unfolding plannedSheet
+  filling-refused q e = sym (comes-first [] (asked x) (λ k. accepted (encode (withPlan x k))) 0 q (sym (plans .answers) ∙ ap handed e))
+
+  module _ (k : ℕ) (e : p .answer ≡ answer.Accepted k) where
+    filled-at : asked x ≡ accepted k
+    filled-at = sym (plans .answers) ∙ ap handed e
+
+    pub filling-is : p .sheet ≡ withPlan x k
+    unfolding afterPlan
+    filling-is = plans .fills ∙ rw filled-at
+
+    planned-accepted : settingsFit (x .count) ≡ true → (room : ℕ) → longestSheet ≤ room → writeSheet (withPlan x k) room ≡ accepted (lengthOf (withPlan x k))
+    unfolding withPlan resultsOf
+    planned-accepted taken room h =
+        let most = settings-few (x .count) taken in
+        let few = accepted-few x k filled-at in
+        write-accepts (withPlan x k) room taken few (plan-fits (x .table .n)) (omega arith)
+
+    pub filling-written : settingsFit (x .count) ≡ true → (old new : List ℕ) (w : Counted) → Writes (p .sheet) old w new → longestSheet ≤ length old
+        → Fills (plannedSheet x) old w new
+    filling-written taken old new w written room =
+        let y = withPlan x k in
+        let p′ : Writes y old w new = rw filling-is at written in
+        let all = planned-accepted taken (length old) room in
+        let long = encode-long y in
+        rw (sheet-planned x k filled-at)
+        (record {
+          answer = p′ .answer ∙ (all ∙ ap accepted (sym long));
+          output = p′ .buffer ∙ (accepted-after y old (lengthOf y) all ∙ ap (λ (n : ℕ). encode y ++ drop n old) (sym long));
+          fits = omega (arith, long, accepts y (length old) (lengthOf y) all .fits);
+        })
+
+-- no second answer, nor a second sheet, meets the promise of `fill_sheet`
+pub plans-one : (x : Sheet) (p r : SheetPlan) → Plans x p → Plans x r → p ≡ r
+plans-one x p r a b =
+    ap₂ (λ (y : Answer) (z : Sheet). record { answer = y; sheet = z })
+    (handed-one (p .answer) (r .answer) (a .answers ∙ sym (b .answers)))
+    (a .fills ∙ sym (b .fills))

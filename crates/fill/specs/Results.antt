@@ -1,7 +1,9 @@
--- The results section of an accepted plan.
+-- The results section of an accepted plan, and a sheet with it.
 -- Assumes nothing.
 use Prim.Native.Nat.{ℕ}
 use mathlib.Core.List.{List}
+use mathlib.Core.Path.{_≡_}
+use lib.Dec.{eqb}
 use lib.ListN.{getD}
 use Rattle.ground.specs.Laid.{paddedTo}
 use Rattle.kinds.specs.declared.Granted.{Granted}
@@ -10,6 +12,10 @@ use Rattle.kinds.specs.declared.Sheet.{Sheet}
 use Rattle.kinds.specs.Limits.{mostTasks}
 use Rattle.outcome.specs.Plan.{periodsUnder, processorsUnder}
 use Rattle.sheet.specs.Rows.{granted, noGranted}
+use Rattle.ground.specs.Choice.{pick}
+use Rattle.kinds.specs.Answer.{handed}
+use Rattle.plain_finder.specs.Asked.{asked}
+use Rattle.fill.specs.declared.SheetPlan.{SheetPlan}
 
 -- entry i of the periods and of the processors
 abbrev pub entryAt : List ℕ → List ℕ → ℕ → Granted
@@ -35,3 +41,12 @@ withPlan x k =
       table = x .table;
       results = resultsOf (planPeriods x k) (planProcessors x k) (x .table .n);
     }
+
+-- the sheet that is handed back: with its plan, and where that is refused as it was
+unfoldable pub afterPlan : Sheet → Sheet
+afterPlan x = pick (eqb (asked x .number) 0) (withPlan x (asked x .value)) x
+
+-- what is handed back of a sheet: the plain finder's answer, and that sheet
+pub record Plans (x : Sheet) (r : SheetPlan) : Type 0 where
+  pub answers : handed (r .answer) ≡ asked x
+  pub fills : r .sheet ≡ afterPlan x

@@ -7,15 +7,12 @@ use kinds::Results;
 use kinds::Sheet;
 use kinds::Table;
 use kinds::Verdict;
-ghost use mathlib.Core.Bool.{true};
 ghost use mathlib.Core.Path.{_≡_};
 ghost use Prim.Native.Nat.{_≤_};
-ghost use lib.ListN.{length};
 ghost use Rattle.kinds.specs.Limits.{mostTasks};
-ghost use Rattle.sheet.specs.Sections.{longestSheet, settingsFit};
 ghost use Rattle.refusal_line.specs.Fronts.{Fronts};
-ghost use Rattle.fill.specs.Results.{resultsOf};
-ghost use Rattle.fill.specs.Fill.{plannedSheet, planned, filled, Fills};
+ghost use Rattle.fill.specs.Results.{resultsOf, Plans};
+ghost use Rattle.fill.specs.Fill.{planned, filled, Fills};
 
 // The results section of the first n entries of a plan's two outputs.
 fn results_of(
@@ -36,27 +33,32 @@ fn results_of(
     Results { rows, n }
 }
 
-// Writes a sheet with its results filled in from the plain finder, or refuses it.
-fn fill_sheet(x: Sheet, out: &mut [u8]) -> Counted
-    requires { ⌜ (settingsFit (x .count) ≡ true) × ((x .table .n ≤ mostTasks) × (longestSheet ≤ length (now out))) ⌝ }
-    ensures { λ r. ⌜ Fills (plannedSheet x) (now (out .entry)) r (now (out .exit)) ⌝ }
+// The plain finder's answer to a sheet, and the sheet with that plan for its results; as it was where it is refused.
+pub struct SheetPlan {
+    pub answer: Answer,
+    pub sheet: Sheet,
+}
+
+// Fills in a sheet from the plain finder, replacing older results.
+pub fn fill_sheet(x: Sheet) -> SheetPlan
+    ensures { λ r. ⌜ Plans x r ⌝ }
 {
     let table = x.table;
     let settings = x.settings;
     let mut periods = [0u32; Table::MOST_TASKS];
     let mut processors = [0u16; Table::MOST_TASKS];
     let answer = plain_finder::find(table, settings, &mut periods, &mut processors);
-    if let Answer::Refused(refusal) = answer {
-        return Counted::Refused(refusal);
+    if let Answer::Refused(_) = answer {
+        return SheetPlan { answer, sheet: x };
     }
     let results = results_of(periods, processors, table.n);
-    let planned = Sheet {
+    let sheet = Sheet {
         count: x.count,
         settings,
         table,
         results,
     };
-    writer::write(planned, out)
+    SheetPlan { answer, sheet }
 }
 
 // Fills in the sheet that was read, or refuses it; a refusal writes nothing.
@@ -65,12 +67,14 @@ pub fn fill_in(input: &[u8], out: &mut [u8; sheet::LONGEST]) -> Counted
 {
     let reading = sheet::read(input);
     let verdict = reading.verdict;
-    match verdict {
-        Verdict::Refused(refusal) => Counted::Refused(refusal),
-        Verdict::Accepted => {
-            let x = reading.sheet;
-            fill_sheet(x, out)
-        }
+    if let Verdict::Refused(refusal) = verdict {
+        return Counted::Refused(refusal);
+    }
+    let plan = fill_sheet(reading.sheet);
+    let answer = plan.answer;
+    match answer {
+        Answer::Refused(refusal) => Counted::Refused(refusal),
+        Answer::Accepted(_) => writer::write(plan.sheet, out),
     }
 }
 

@@ -73,9 +73,9 @@ plan-at x k i few l =
     planned-at x k i few l ∙ ap₂ granted (list-in 0 period (x .table .n) i l) (list-in 0 processor (x .table .n) i l)
 
 -- "naming the first result that differs": it does, and none before it
-pub first-differing : (x : Sheet) (k : ℕ) → IsFirst (differsAt x k) (x .table .n) (firstDiffering x k)
+pub first-differing : (x due : Sheet) → IsFirst (differsAt x due) (x .table .n) (firstDiffering x due)
 unfolding firstDiffering
-first-differing x k = first-is (differsAt x k) (x .table .n)
+first-differing x due = first-is (differsAt x due) (x .table .n)
 
 pub read-few : (s : List ℕ) (x : Sheet) → readSheet s ≡ accepted x → x .table .n ≤ mostTasks
 unfolding sheetIn
@@ -88,12 +88,13 @@ read-counted s x e =
     omega (arith, ap (λ (y : Sheet). y .table .n) (w .1), ap (λ (y : Sheet). y .results .n) (w .1), fits-few _ _ (w .0 .fit))
 
 module _ (s : List ℕ) where
-  compared-agrees : (x : Sheet) (k : ℕ) → readSheet s ≡ accepted x → asked x ≡ accepted k → compared x k ≡ accepted tt → Agrees s x k
+  compared-agrees : (x : Sheet) (k : ℕ) → readSheet s ≡ accepted x → asked x ≡ accepted k → compared x (withPlan x k) ≡ accepted tt → Agrees s x k
   unfolding compared
   compared-agrees x k r p e =
       let n = x .table .n in
+      let differing = firstDiffering x (withPlan x k) in
       let first = judged-passed tt (leb n (x .results .n)) NoResults _ e in
-      let second = judged-passed tt (leb n (firstDiffering x k)) (WrongResult (firstDiffering x k)) _ (first .1) in
+      let second = judged-passed tt (leb n differing) (WrongResult differing) _ (first .1) in
       let few = read-few s x r in
       record {
         reads = r;
@@ -102,7 +103,7 @@ module _ (s : List ℕ) where
         each =
             λ i l.
             agree (grantedIn x i) (grantedIn (withPlan x k) i)
-            (first-differing x k .before i (omega (arith, leb-true n (firstDiffering x k) (second .0))))
+            (first-differing x (withPlan x k) .before i (omega (arith, leb-true n differing (second .0))))
             ∙ plan-at x k i few l;
       }
 
@@ -111,7 +112,7 @@ module _ (s : List ℕ) where
   accepted-agrees e =
       let a = both-accept tt (readSheet s) checkedSheet tt e in
       let x = readSheet s .value in
-      let b = both-accept tt (asked x) (compared x) tt (a .1) in
+      let b = both-accept tt (asked x) (λ k. compared x (withPlan x k)) tt (a .1) in
       (x, asked x .value, compared-agrees x (asked x .value) (accepted-by-number s (a .0)) (asked-by-number x (b .0)) (b .1))
 
   pub agrees-accepted : (x : Sheet) (k : ℕ) → Agrees s x k → checked s ≡ accepted tt
@@ -119,9 +120,9 @@ module _ (s : List ℕ) where
   agrees-accepted x k g =
       let n = x .table .n in
       let few = read-few s x (g .reads) in
-      let alike : (i : ℕ) → i < n → differsAt x k i ≡ false =
+      let alike : (i : ℕ) → i < n → differsAt x (withPlan x k) i ≡ false =
       λ i l. same (grantedIn x i) (grantedIn (withPlan x k) i) (g .each i l ∙ sym (plan-at x k i few l)) in
-      let none : n ≡ firstBelow (differsAt x k) n = first-none (differsAt x k) n n alike refl in
+      let none : n ≡ firstBelow (differsAt x (withPlan x k)) n = first-none (differsAt x (withPlan x k)) n n alike refl in
       sym (goes-on tt (readSheet s) checkedSheet x (g .reads))
-      ∙ (sym (goes-on tt (asked x) (compared x) k (g .plans))
+      ∙ (sym (goes-on tt (asked x) (λ j. compared x (withPlan x j)) k (g .plans))
       ∙ rw (le-leb n (x .results .n) (omega (arith, g .counted)), ← none, le-leb n n (omega arith)))

@@ -8,18 +8,19 @@ use Rattle.kinds.specs.declared.Sheet.{Sheet}
 use Rattle.kinds.specs.declared.Refusal.the-variants.{NoResults, WrongResult}
 use Rattle.kinds.specs.Chain.{Check, _when_}
 use Rattle.sheet.specs.Reading.{sheetIn}
+use Rattle.fill.specs.Results.{withPlan}
 use Rattle.fill.specs.Chain.{stepFor, programChain}
 use Rattle.filled_sheet.specs.Checked.{firstDiffering}
 
--- of the results of a sheet whose plan has step k
-abbrev pub comparedChain : Sheet → ℕ → List Check
-comparedChain x k =
+-- of the results of a sheet where those of another are due
+abbrev pub comparedChain : Sheet → Sheet → List Check
+comparedChain x due =
     let n = x .table .n in
-    let first = firstDiffering x k in
+    let first = firstDiffering x due in
     NoResults when ltb (x .results .n) n
     ∷ WrongResult first when ltb first n
     ∷ []
 
 -- the whole of the checker
 abbrev pub checkChain : List ℕ → List Check
-checkChain s = programChain s ++ comparedChain (sheetIn s) (stepFor (sheetIn s))
+checkChain s = programChain s ++ comparedChain (sheetIn s) (withPlan (sheetIn s) (stepFor (sheetIn s)))

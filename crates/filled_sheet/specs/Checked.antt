@@ -10,38 +10,42 @@ use Rattle.ground.specs.First.{firstBelow}
 use Rattle.kinds.specs.declared.Granted.{Granted}
 use Rattle.kinds.specs.declared.Sheet.{Sheet}
 use Rattle.kinds.specs.declared.Refusal.the-variants.{NoResults, WrongResult}
-use Rattle.kinds.specs.Answer.{accepted, unrefused, judged, NumberAndPlace}
+use Rattle.kinds.specs.Answer.{accepted, unrefused, judged, handed, NumberAndPlace}
 use Rattle.plain_finder.specs.Asked.{asked}
 use Rattle.sheet.specs.Rows.{noGranted}
 use Rattle.sheet.specs.Reading.{readSheet}
-use Rattle.writer.specs.Canonical.{grantedIn}
-use Rattle.fill.specs.Results.{entryAt, withPlan}
+use Rattle.fill.specs.declared.SheetPlan.{SheetPlan}
+use Rattle.fill.specs.Results.{withPlan}
 
 -- two results differ, in the period or in the processor
 abbrev pub differ : Granted → Granted → Bool
 differ a b = either (not (eqb (a .period) (b .period))) (not (eqb (a .processor) (b .processor)))
 
--- row i differs from entry i of the periods and of the processors
-abbrev pub unlike : List Granted → List ℕ → List ℕ → ℕ → Bool
-unlike rows periods processors i = differ (getD rows i noGranted) (entryAt periods processors i)
+-- two results sections differ in row i
+abbrev pub unlike : List Granted → List Granted → ℕ → Bool
+unlike rows others i = differ (getD rows i noGranted) (getD others i noGranted)
 
--- result i differs from the one that the plain finder's plan at step k gives
-abbrev pub differsAt : Sheet → ℕ → ℕ → Bool
-differsAt x k i = differ (grantedIn x i) (grantedIn (withPlan x k) i)
+-- result i of a sheet differs from that of the sheet with the results that are due
+abbrev pub differsAt : Sheet → Sheet → ℕ → Bool
+differsAt x due i = unlike (x .results .rows) (due .results .rows) i
 
 -- "the first result that differs"; the task count where none does
-unfoldable pub firstDiffering : Sheet → ℕ → ℕ
-firstDiffering x k = firstBelow (differsAt x k) (x .table .n)
+unfoldable pub firstDiffering : Sheet → Sheet → ℕ
+firstDiffering x due = firstBelow (differsAt x due) (x .table .n)
 
 -- "then 18 at 0 when tasks stand there without results, then 19 naming the first result that differs"
-unfoldable pub compared : Sheet → ℕ → NumberAndPlace
-compared x k =
+unfoldable pub compared : Sheet → Sheet → NumberAndPlace
+compared x due =
     judged tt (leb (x .table .n) (x .results .n)) NoResults
-    (judged tt (leb (x .table .n) (firstDiffering x k)) (WrongResult (firstDiffering x k)) (accepted tt))
+    (judged tt (leb (x .table .n) (firstDiffering x due)) (WrongResult (firstDiffering x due)) (accepted tt))
 
--- "Reader and finder refusals come first"
+-- "Reader and finder refusals come first": of a sheet, with what came of filling it in
+unfoldable pub checkedBy : Sheet → SheetPlan → NumberAndPlace
+checkedBy x plan = unrefused tt (handed (plan .answer)) (λ k. compared x (plan .sheet))
+
+-- of a sheet, with the plan of the plain finder
 unfoldable pub checkedSheet : Sheet → NumberAndPlace
-checkedSheet x = unrefused tt (asked x) (compared x)
+checkedSheet x = unrefused tt (asked x) (λ k. compared x (withPlan x k))
 
 unfoldable pub checked : List ℕ → NumberAndPlace
 checked s = unrefused tt (readSheet s) checkedSheet

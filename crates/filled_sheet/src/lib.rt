@@ -1,5 +1,6 @@
 // Ask 14: whether the results of a filled sheet are those that we would give, as a verdict and as the program's line. Contracts cite
 // `specs/Checked` and `specs/Told`.
+use fill::SheetPlan;
 use kinds::Answer;
 use kinds::Granted;
 use kinds::Refusal;
@@ -8,12 +9,10 @@ use kinds::Sheet;
 use kinds::Table;
 use kinds::Verdict;
 ghost use mathlib.Core.Path.{_≡_};
-ghost use Prim.Native.Nat.{_≤_};
 ghost use Rattle.ground.specs.First.{firstBelow};
-ghost use Rattle.kinds.specs.Limits.{mostTasks};
 ghost use Rattle.kinds.specs.Answer.{handedVerdict};
 ghost use Rattle.refusal_line.specs.Fronts.{Fronts};
-ghost use Rattle.filled_sheet.specs.Checked.{differ, unlike, checkedSheet, checked};
+ghost use Rattle.filled_sheet.specs.Checked.{differ, unlike, checkedBy, checked};
 ghost use Rattle.filled_sheet.specs.Told.{told};
 
 // Whether two results differ, in the period or in the processor.
@@ -26,47 +25,34 @@ fn differ(stored: Granted, planned: Granted) -> bool
     stored.processor != planned.processor
 }
 
-// The first of n results that differs from its entry of a plan's two outputs; n where none does.
-fn first_unlike(
-    results: Results,
-    periods: [u32; Table::MOST_TASKS],
-    processors: [u16; Table::MOST_TASKS],
-    n: usize,
-) -> usize
-    requires { ⌜ n ≤ mostTasks ⌝ }
-    ensures { λ r. ⌜ r ≡ firstBelow (unlike (results .rows) periods processors) n ⌝ }
+// The first of n results that differs from the one that is due; n where none does.
+fn first_unlike(results: Results, due: Results, n: usize) -> usize
+    ensures { λ r. ⌜ r ≡ firstBelow (unlike (results .rows) (due .rows)) n ⌝ }
 {
-    for i in 0..n {
-        let planned = Granted {
-            period: periods[i],
-            processor: processors[i],
-        };
-        if differ(results.rows[i], planned) {
+    let held = ground::shorter(n, Table::MOST_TASKS);
+    for i in 0..held {
+        if differ(results.rows[i], due.rows[i]) {
             return i;
         }
     }
     n
 }
 
-// Asks the plain finder, and compares what it gives with the results that stand there.
-fn check_sheet(x: Sheet) -> Verdict
-    requires { ⌜ x .table .n ≤ mostTasks ⌝ }
-    ensures { λ r. ⌜ handedVerdict r ≡ checkedSheet x ⌝ }
+// Compares the results of a sheet with those of its plan; where the plan is refused, so is the sheet.
+pub fn check_plan(x: Sheet, plan: SheetPlan) -> Verdict
+    ensures { λ r. ⌜ handedVerdict r ≡ checkedBy x plan ⌝ }
 {
-    let table = x.table;
-    let settings = x.settings;
-    let results = x.results;
-    let n = table.n;
-    let mut periods = [0u32; Table::MOST_TASKS];
-    let mut processors = [0u16; Table::MOST_TASKS];
-    let answer = plain_finder::find(table, settings, &mut periods, &mut processors);
+    let answer = plan.answer;
     if let Answer::Refused(refusal) = answer {
         return Verdict::Refused(refusal);
     }
+    let n = x.table.n;
+    let results = x.results;
     if results.n < n {
         return Verdict::Refused(Refusal::NoResults);
     }
-    let unlike = first_unlike(results, periods, processors, n);
+    let filled = plan.sheet;
+    let unlike = first_unlike(results, filled.results, n);
     if unlike < n {
         return Verdict::Refused(Refusal::WrongResult(unlike));
     }
@@ -81,7 +67,10 @@ pub fn check(bytes: &[u8]) -> Verdict
     let verdict = reading.verdict;
     match verdict {
         Verdict::Refused(refusal) => Verdict::Refused(refusal),
-        Verdict::Accepted => check_sheet(reading.sheet),
+        Verdict::Accepted => {
+            let x = reading.sheet;
+            check_plan(x, fill::fill_sheet(x))
+        }
     }
 }
 

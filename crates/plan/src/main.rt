@@ -1,9 +1,10 @@
 // The program behind `./plan`: shows the plan of the office's text on standard input, with the settings that its words name, or writes the filled
 // sheet where the first word is `--sheet`. The settings are given in their order on a sheet, and the last ones may be left out. What cannot be
 // planned is told in words.
+use fill::SheetPlan;
+use kinds::Answer;
 use kinds::Counted;
 use kinds::Granted;
-use kinds::Policy;
 use kinds::Refusal;
 use kinds::Results;
 use kinds::Settings;
@@ -40,24 +41,24 @@ fn setting(i: usize, fill_in: u16) -> Setting {
     office_sheet::setting_of(&word[..n])
 }
 
+// What is refused where a setting is no number: the policy is the first.
+fn unset(i: usize) -> Refusal {
+    if i == 0 {
+        return Refusal::NoSuchPolicy;
+    }
+    Refusal::Misset
+}
+
 // The settings by the words from a place on.
 fn settings_from(first: u16) -> Asked {
-    let Setting::Is(policy) = setting(first as usize, Settings::FILL_INS[0]) else {
-        return Asked::Refused(Refusal::NoSuchPolicy);
-    };
-    let Setting::Is(m) = setting(first as usize + 1, Settings::FILL_INS[1]) else {
-        return Asked::Refused(Refusal::Misset);
-    };
-    let Setting::Is(swap) = setting(first as usize + 2, Settings::FILL_INS[2]) else {
-        return Asked::Refused(Refusal::Misset);
-    };
-    let Setting::Is(notch) = setting(first as usize + 3, Settings::FILL_INS[3]) else {
-        return Asked::Refused(Refusal::Misset);
-    };
-    let Setting::Is(edition) = setting(first as usize + 4, Settings::FILL_INS[4]) else {
-        return Asked::Refused(Refusal::Misset);
-    };
-    Asked::Is(Settings::new(Policy::of(policy), m, swap, notch, edition))
+    let mut numbers = Settings::FILL_INS;
+    for i in 0..Settings::MOST {
+        let Setting::Is(number) = setting(first as usize + i, numbers[i]) else {
+            return Asked::Refused(unset(i));
+        };
+        numbers[i] = number;
+    }
+    Asked::Is(Settings::of(numbers))
 }
 
 // The unfilled sheet of a table, with as many settings as words are given.
@@ -74,51 +75,54 @@ fn unfilled(settings: Settings, table: Table, count: usize) -> Sheet {
     }
 }
 
-fn put_front(out: &mut [u8], bytes: &[u8; sheet::LONGEST], count: usize) -> usize {
-    text::front(out, 0, bytes, count)
+// Puts the filled sheet, or says why there is none.
+fn put_filled(plan: SheetPlan, out: &mut [u8]) -> usize {
+    let answer = plan.answer;
+    if let Answer::Refused(_) = answer {
+        return view_text::put_plan(plan, out);
+    }
+    let written = writer::write(plan.sheet, out);
+    match written {
+        Counted::Count(k) => k,
+        Counted::Refused(_) => 0,
+    }
 }
 
-// Puts the filled sheet, or says why there is none.
-fn put_filled(x: Sheet, out: &mut [u8]) -> usize {
-    let mut bytes = [0u8; sheet::LONGEST];
-    let mut filled = [0u8; sheet::LONGEST];
-    let Counted::Count(k) = writer::write(x, &mut bytes) else {
-        return 0;
-    };
-    if sheet::LONGEST < k {
-        return 0;
+// Puts what a table comes to under these settings, of which so many are given.
+fn put_planned(
+    table: Table,
+    settings: Settings,
+    count: usize,
+    as_sheet: bool,
+    out: &mut [u8],
+) -> usize {
+    let plan = fill::fill_sheet(unfilled(settings, table, count));
+    if as_sheet {
+        return put_filled(plan, out);
     }
-    let Counted::Count(n) = fill::fill_in(&bytes[..k], &mut filled) else {
-        return view_text::put_sheet(x, out);
-    };
-    put_front(out, &filled, n)
+    view_text::put_plan(plan, out)
+}
+
+// How many settings are given by the words from a place on.
+fn given(first: u16) -> usize {
+    let words = ground::less_or_zero(os::arg_count() as u64, first as u64);
+    ground::shorter(words as usize, Settings::MOST)
 }
 
 // Puts what a text and the words come to.
-fn put_plan(table_text: &[u8], as_sheet: bool, out: &mut [u8]) -> usize {
+fn put_asked(table_text: &[u8], as_sheet: bool, out: &mut [u8]) -> usize {
     let first = first_setting(as_sheet);
     let asked = settings_from(first);
-    let Asked::Is(settings) = asked else {
-        return put_unasked(asked, out);
-    };
-    let imported = office::import(table_text, Table::MOST_TASKS);
-    let answer = imported.answer;
-    if let Counted::Refused(refusal) = answer {
-        return view_text::put_line(refusal, out);
-    }
-    let given = ground::less_or_zero(os::arg_count() as u64, first as u64);
-    let count = ground::shorter(given as usize, Settings::MOST);
-    let x = unfilled(settings, imported.table, count);
-    if as_sheet {
-        return put_filled(x, out);
-    }
-    view_text::put_sheet(x, out)
-}
-
-fn put_unasked(asked: Asked, out: &mut [u8]) -> usize {
     match asked {
-        Asked::Is(_) => 0,
         Asked::Refused(refusal) => view_text::put_line(refusal, out),
+        Asked::Is(settings) => {
+            let imported = office::import(table_text, Table::MOST_TASKS);
+            let answer = imported.answer;
+            if let Counted::Refused(refusal) = answer {
+                return view_text::put_line(refusal, out);
+            }
+            put_planned(imported.table, settings, given(first), as_sheet, out)
+        }
     }
 }
 
@@ -127,6 +131,6 @@ fn main() {
     let mut table_text = [0u8; office::LONGEST + 1];
     let n = io::read_full(STDIN_FILENO, &mut table_text);
     let mut out = [0u8; view_text::LONGEST];
-    let k = put_plan(&table_text[..n], as_sheet, &mut out);
+    let k = put_asked(&table_text[..n], as_sheet, &mut out);
     text::write(&out, k);
 }

@@ -3,3 +3,4 @@ pub mod Tables
 pub mod Charges
 pub mod Twice
 pub mod CaseD
+pub mod Under

@@ -1,11 +1,11 @@
 -- What document 01 says of the shares, the saturation step and the periods of a good task, and Ask 5 of its periods on notches.
 -- Assumes nothing.
-use Rattle.ground.proofs.Kit.{ℕ, _*_, _≤_, _<_, _≡_, arith}
+use Rattle.ground.proofs.Kit.{ℕ, _*_, _≤_, _<_, _≡_, _∙_, ap₂, arith}
 use Rattle.ground.proofs.Rounding.{ceil-enough}
 use Rattle.kinds.specs.declared.Task.{Task}
 use Rattle.kinds.specs.Limits.{scale}
 use Rattle.kinds.specs.Task.{Good, OnNotch}
-use Rattle.rule.specs.Rule.{periodOf, Shortest, ShortestOn}
+use Rattle.rule.specs.Rule.{shareOf, periodOf, Shortest, ShortestOn}
 use Rattle.rule.proofs.Shares.{part-high, part-low, part-falls, share-falls, share-least, share-zero, share-rigid, share-high, share-saturated, share-above, saturation-high}
 use Rattle.rule.proofs.Periods.{period-shortest, notched-shortest, notched-one}
 use Rattle.share.specs.Share.{costOf, largestOf, leastOf, shareAt, saturationAt, periodAt}
@@ -92,3 +92,12 @@ module _ (t : Task) (g : Good t) where
 
   pub least-is : (r : ℕ) → r ≡ leastOf t → ShareIs (leastOf t) r
   least-is r e = record { is = e; some = omega (arith, least-some); most = omega (arith, least-largest, largest-most) }
+
+  shared : (k a b r : ℕ) → ShareIs (largestOf t) a → ShareIs (leastOf t) b → r ≡ shareOf a b (t .e) k → r ≡ shareAt t k
+  unfolding shareAt
+  shared k a b r largest least e = e ∙ ap₂ (λ (x y : ℕ). shareOf x y (t .e) k) (largest .is) (least .is)
+
+  pub share-is : (k a b r : ℕ) → ShareIs (largestOf t) a → ShareIs (leastOf t) b → r ≡ shareOf a b (t .e) k → ShareIs (shareAt t k) r
+  share-is k a b r largest least e =
+      let is = shared k a b r largest least e in
+      record { is = is; some = omega (arith, is, share-some k); most = omega (arith, is, share-most k) }

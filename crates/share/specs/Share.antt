@@ -5,6 +5,7 @@ use Rattle.ground.specs.Choice.{pick}
 use Rattle.kinds.specs.declared.Task.{Task}
 use Rattle.kinds.specs.declared.Settings.{Settings}
 use Rattle.kinds.specs.Settings.{testsCharge}
+use Rattle.kinds.specs.Task.{priced, isGood}
 use Rattle.rule.specs.Rule.{partOf, shareOf, saturationOf, periodOf, notchedUp}
 
 -- the whole cost of a job, of a record whose swaps are paid for
@@ -34,3 +35,7 @@ chargeAt q t k = partOf (costOf t) (periodAt q t k)
 -- what is tested and placed: under edition 2 the charge, else the share
 unfoldable pub loadAt : Settings → Task → ℕ → ℕ
 loadAt s t k = pick (testsCharge s) (chargeAt (s .notch) t k) (shareAt t k)
+
+-- the share of a record as it stands under these settings: that of the record with its swaps paid for; 0, which no share is, where it is not good
+unfoldable pub shareUnder : Settings → Task → ℕ → ℕ
+shareUnder s t k = pick (isGood (s .swap) (s .notch) t) (shareAt (priced (s .swap) t) k) 0

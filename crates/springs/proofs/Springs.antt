@@ -1,11 +1,9 @@
 -- Springs: their shares, periods and charges, and that those of a good record are the record's.
 -- Assumes nothing.
-use Rattle.ground.proofs.Kit.{ℕ, _+_, _-_, _*_, _≤_, _<_, Bool, false, not, _≡_, refl, sym, arith}
-use Rattle.ground.proofs.Cases.{by-bool, true-false}
+use Rattle.ground.proofs.Kit.{ℕ, _+_, _-_, _*_, _≤_, _<_, _≡_, refl, sym, arith}
 use Rattle.kinds.specs.declared.Task.{Task}
 use Rattle.kinds.specs.Limits.{scale, longestPeriod}
-use Rattle.kinds.specs.Task.{priced, Good, OnNotch, isGood}
-use Rattle.kinds.proofs.Records.{good-is}
+use Rattle.kinds.specs.Task.{Good, OnNotch}
 use Rattle.rule.specs.Rule.{periodOf, notchedUp}
 use Rattle.rule.proofs.Shares.{part-falls, share-falls, share-rigid, share-saturated, share-above, saturation-high}
 use Rattle.rule.proofs.Periods.{period-shortest, period-rises, notched-from, notched-least, notched-rises, charge-high}
@@ -15,10 +13,6 @@ use Rattle.share.proofs.Charges.{charge-at-zero}
 use Rattle.springs.specs.declared.Spring.{Spring}
 use Rattle.springs.specs.Spring.{springOf, shareOn, letDown, saturationOn, periodFor, chargeFor}
 use Rattle.springs.specs.Handover.{Within, Allowed}
-
--- a record whose test was not failed is good once its swaps are paid for
-pub found-good : (w q : ℕ) (t : Task) (b : Bool) → b ≡ isGood w q t → not b ≡ false → Good (priced w t)
-found-good w q t b e f = good-is w q t (by-bool (isGood w q t) (λ g. g) (λ g. true-false (rw (e, g)) f))
 
 -- a task's share and saturation step are its spring's
 pub share-on : (t : Task) (k : ℕ) → shareOn (springOf t) k ≡ shareAt t k

@@ -1,6 +1,8 @@
-// Text for people, put at a place of a lent buffer as far as there is room: words, numbers in a column, parts in percent, gauges. What stands
-// there afterwards is tested and not promised; each call is proved to stay within what is lent.
+// Text for people, put at a place of a lent buffer as far as there is room: words, forms with numbers in their columns, gauges. What stands there
+// afterwards is tested and not promised; each call is proved to stay within what is lent.
 use libc::STDOUT_FILENO;
+ghost use Prim.Native.Nat.{_+_, _≤_};
+ghost use lib.ListN.{length};
 
 // Puts one byte; returns the place after it.
 pub fn byte(out: &mut [u8], at: usize, one: u8) -> usize {
@@ -11,9 +13,8 @@ pub fn byte(out: &mut [u8], at: usize, one: u8) -> usize {
     at
 }
 
-// The first bytes of some, as many as there are of so many.
-pub fn front(out: &mut [u8], at: usize, bytes: &[u8], count: usize) -> usize {
-    let n = ground::shorter(count, bytes.len());
+pub fn words(out: &mut [u8], at: usize, bytes: &[u8]) -> usize {
+    let n = bytes.len();
     let mut next = at;
     for i in 0..n {
         next = byte(out, next, bytes[i]);
@@ -21,11 +22,7 @@ pub fn front(out: &mut [u8], at: usize, bytes: &[u8], count: usize) -> usize {
     next
 }
 
-pub fn words(out: &mut [u8], at: usize, bytes: &[u8]) -> usize {
-    front(out, at, bytes, bytes.len())
-}
-
-pub fn repeated(out: &mut [u8], at: usize, one: u8, count: usize) -> usize {
+fn repeated(out: &mut [u8], at: usize, one: u8, count: usize) -> usize {
     let mut next = at;
     for _ in 0..count {
         next = byte(out, next, one);
@@ -33,29 +30,85 @@ pub fn repeated(out: &mut [u8], at: usize, one: u8, count: usize) -> usize {
     next
 }
 
-// A number in decimal digits, at the right of a column.
-pub fn number(out: &mut [u8], at: usize, n: u64, width: u32) -> usize {
+// A number in decimal digits, at the right of a column that is filled with one byte.
+fn number(out: &mut [u8], at: usize, n: u64, width: usize, filled: u8) -> usize {
     let mut digits = [0u8; 20];
     let k = io::decimal(n, &mut digits);
     let blank = ground::less_or_zero(width as u64, k as u64);
-    let next = repeated(out, at, b' ', blank as usize);
+    let next = repeated(out, at, filled, blank as usize);
     words(out, next, &digits[..k])
 }
 
-// A name, and a number behind it.
-pub fn named(out: &mut [u8], at: usize, name: &[u8], n: u64) -> usize {
-    let after = words(out, at, name);
-    number(out, after, n, 0)
+// How many `#` stand one after the other from a place on.
+fn column(shape: &[u8], from: usize) -> usize
+    requires { ⌜ from ≤ length (now shape) ⌝ }
+    ensures { λ r. ⌜ from + r ≤ length (now (shape .entry)) ⌝ }
+{
+    for i in from..shape.len() {
+        if shape[i] != b'#' {
+            return i - from;
+        }
+    }
+    shape.len() - from
 }
 
-// Parts of a million in percent, exactly, in eight columns.
-pub fn percent(out: &mut [u8], at: usize, parts: u32) -> usize {
-    let whole = number(out, at, (parts / 10_000) as u64, 3);
-    let point = byte(out, whole, b'.');
-    let first = byte(out, point, 48 + (parts / 1000 % 10) as u8);
-    let second = byte(out, first, 48 + (parts / 100 % 10) as u8);
-    let third = byte(out, second, 48 + (parts / 10 % 10) as u8);
-    byte(out, third, 48 + (parts % 10) as u8)
+// What fills a column: zeros behind a point, and else blanks.
+fn filling(before: u8) -> u8 {
+    if before == b'.' { b'0' } else { b' ' }
+}
+
+// The number that is due, and 0 past the last.
+fn due(numbers: &[u64], k: usize) -> u64 {
+    if k < numbers.len() { numbers[k] } else { 0 }
+}
+
+// Puts a form: each run of `#` is a column for the next of the numbers, and every other byte stands for itself.
+pub fn form(out: &mut [u8], at: usize, shape: &[u8], numbers: &[u64]) -> usize {
+    let mut next = at;
+    let mut i: usize = 0;
+    let mut used: usize = 0;
+    let mut before = b' ';
+    while i < shape.len() {
+        let width = column(shape, i);
+        if width == 0 {
+            before = shape[i];
+            next = byte(out, next, before);
+            i += 1;
+        } else {
+            let filled = filling(before);
+            next = number(out, next, due(numbers, used), width, filled);
+            i += width;
+            used += 1;
+        }
+    }
+    next
+}
+
+// The place behind so many `|`; the end where there are fewer.
+fn behind(forms: &[u8], bars: usize) -> usize
+    ensures { λ r. ⌜ r ≤ length (now (forms .entry)) ⌝ }
+{
+    let mut left = bars;
+    let n = forms.len();
+    for i in 0..n {
+        if left == 0 {
+            return i;
+        }
+        if forms[i] == b'|' {
+            left -= 1;
+        }
+    }
+    n
+}
+
+// Puts the form of a number, from 0 on, among some of which each ends with `|`; nothing where there is none of this number.
+pub fn nth_form(out: &mut [u8], at: usize, forms: &[u8], k: u16, numbers: &[u64]) -> usize {
+    let start = behind(forms, k as usize);
+    let end = behind(forms, k as usize + 1);
+    if start < end {
+        return form(out, at, &forms[start..end - 1], numbers);
+    }
+    at
 }
 
 // How many of a gauge's cells are full: none where the value is 0, all where it is the most, and otherwise at least one and not all.

@@ -1,16 +1,17 @@
 // What people read of a station sheet, put into a lent buffer: its settings, its tasks and their plan, and what that leaves free, or why it is
-// refused. All of it comes from proved calls: the reader, the plain finder, the margin and both checkers. The text is tested and not promised.
+// refused. All of it comes from proved calls: the reader, the filling, the margin and both checkers. The text is tested and not promised.
+use fill::SheetPlan;
 use kinds::Answer;
 use kinds::Margin;
 use kinds::Policy;
 use kinds::Refusal;
+use kinds::Results;
 use kinds::Settings;
 use kinds::Share;
 use kinds::Sheet;
 use kinds::Table;
 use kinds::Task;
 use kinds::Verdict;
-use view_table::Shown;
 
 // Room for every view: 32 tasks, 16 processors and ten lines besides, of 80 columns.
 pub const LONGEST: usize = 4_800;
@@ -20,12 +21,17 @@ const MOST_LOADS: usize = Settings::MOST_PROCESSORS as usize;
 
 // A line with the load of a processor.
 fn put_load(out: &mut [u8], at: usize, processor: usize, load: u32) -> usize {
-    let named = text::words(out, at, b"processor ");
-    let numbered = text::number(out, named, processor as u64, 2);
-    let blank = text::byte(out, numbered, b' ');
-    let loaded = text::percent(out, blank, load);
-    let marked = text::words(out, loaded, b"% ");
-    let gauged = text::gauge(out, marked, load, Share::SCALE as u32, 40);
+    let loaded = text::form(
+        out,
+        at,
+        b"processor ## ###.####% ",
+        &[
+            processor as u64,
+            (load / 10_000) as u64,
+            (load % 10_000) as u64,
+        ],
+    );
+    let gauged = text::gauge(out, loaded, load, Share::SCALE as u32, 40);
     text::byte(out, gauged, b'\n')
 }
 
@@ -40,13 +46,27 @@ fn put_loads(out: &mut [u8], at: usize, processors: u16, loads: &[u32; MOST_LOAD
     next
 }
 
+// A number that is not negative, and 0 for one that is.
+fn positive(x: i64) -> u64 {
+    if x > 0 { x as u64 } else { 0 }
+}
+
+// The parts that a margin leaves free.
+fn free(margin: Margin) -> u64 {
+    match margin {
+        Margin::Is(parts) => positive(parts),
+        Margin::Refused(_) => 0,
+    }
+}
+
 // The margin at a step.
 fn put_margin(out: &mut [u8], at: usize, margin: Margin, step: u32) -> usize {
-    let named = text::words(out, at, b"\nmargin at step ");
-    let stepped = text::number(out, named, step as u64, 0);
-    let colon = text::words(out, stepped, b": ");
-    let left = text::number(out, colon, view_table::free(margin), 0);
-    text::words(out, left, b" parts of 1,000,000\n")
+    text::form(
+        out,
+        at,
+        b"\nmargin at step #: # parts of 1,000,000\n",
+        &[step as u64, free(margin)],
+    )
 }
 
 // Which kernel a pooled plan on more than one processor is for: global EDF does not carry it (`pooled-late` of `met`).
@@ -64,27 +84,34 @@ fn put_kernel(out: &mut [u8], at: usize, policy: Policy, m: u16) -> usize {
     )
 }
 
+// The processor of each task in a results section.
+fn processors_of(results: Results) -> [u16; Table::MOST_TASKS] {
+    let mut processors = [0u16; Table::MOST_TASKS];
+    for i in 0..Table::MOST_TASKS {
+        let granted = results.rows[i];
+        processors[i] = granted.processor;
+    }
+    processors
+}
+
 // What a plan leaves free: by processor under first fit, and otherwise the margin.
-fn put_room(
-    out: &mut [u8],
-    at: usize,
-    table: Table,
-    settings: Settings,
-    step: u32,
-    processors: &[u16; Table::MOST_TASKS],
-) -> usize {
+fn put_room(out: &mut [u8], at: usize, x: Sheet, step: u32) -> usize {
+    let table = x.table;
+    let settings = x.settings;
     let policy = settings.policy;
     let asked = policy.meant();
-    if asked.is_first_fit() {
-        let mut loads = [0u32; MOST_LOADS];
-        let verdict = proposal::check(table, settings, step, processors, &mut loads);
-        let Verdict::Accepted = verdict else {
-            return at;
-        };
-        return put_loads(out, at, settings.m, &loads);
+    if !asked.is_first_fit() {
+        let margin = margin::margin_at(table, settings, step);
+        let margined = put_margin(out, at, margin, step);
+        return put_kernel(out, margined, asked, settings.m);
     }
-    let margined = put_margin(out, at, margin::margin_at(table, settings, step), step);
-    put_kernel(out, margined, asked, settings.m)
+    let processors = processors_of(x.results);
+    let mut loads = [0u32; MOST_LOADS];
+    let verdict = proposal::check(table, settings, step, &processors, &mut loads);
+    let Verdict::Accepted = verdict else {
+        return at;
+    };
+    put_loads(out, at, settings.m, &loads)
 }
 
 // The number of the first reason for which a record that is not good is so; none where q is 0, which is refused before.
@@ -118,11 +145,8 @@ fn reason_of(task: Task, settings: Settings) -> u16 {
 fn put_refusal(out: &mut [u8], at: usize, refusal: Refusal) -> usize {
     let number = refusal.number();
     let place = refusal.place();
-    let refused = text::named(out, at, b"refused ", number as u64);
-    let placed = text::words(out, refused, b" at ");
-    let numbered = text::number(out, placed, place as u64, 0);
-    let colon = text::words(out, numbered, b": ");
-    refusal_words::sentence(out, colon, number, place)
+    let refused = text::form(out, at, b"refused # at #: ", &[number as u64, place as u64]);
+    refusal_words::sentence(out, refused, number, place)
 }
 
 // Why a record of a table is not good, after its refusal.
@@ -140,8 +164,7 @@ fn put_reason(
         return at;
     }
     let task = table.rows[place];
-    let colon = text::words(out, at, b": ");
-    refusal_words::reason(out, colon, reason_of(task, settings))
+    refusal_words::reason(out, at, reason_of(task, settings))
 }
 
 // A table that the plain finder refuses: why, and what stands there.
@@ -153,57 +176,38 @@ fn put_refused(out: &mut [u8], refusal: Refusal, table: Table, settings: Setting
     view_table::put_records(out, set, table)
 }
 
-// A table that the plain finder accepts at a step.
-fn put_accepted(
-    out: &mut [u8],
-    step: u32,
-    table: Table,
-    settings: Settings,
-    periods: &[u32; Table::MOST_TASKS],
-    processors: &[u16; Table::MOST_TASKS],
-) -> usize {
-    let set = view_table::put_settings(out, 0, settings);
-    let fits = text::words(out, set, b"the tasks fit at step ");
-    let stepped = text::number(out, fits, step as u64, 0);
-    let ended = text::byte(out, stepped, b'\n');
-    let shown = Shown {
-        table,
-        settings,
-        step,
-    };
-    let planned = view_table::put_plan(out, ended, shown, periods, processors);
-    put_room(out, planned, table, settings, step, processors)
+// A sheet with its plan at a step.
+fn put_accepted(out: &mut [u8], step: u32, x: Sheet) -> usize {
+    let set = view_table::put_settings(out, 0, x.settings);
+    let fits = text::form(out, set, b"the tasks fit at step #\n", &[step as u64]);
+    let planned = view_table::put_plan(out, fits, x, step);
+    put_room(out, planned, x, step)
 }
 
-// What is to be read of a sheet: its plan, or why it has none. Returns how many bytes.
-pub fn put_sheet(x: Sheet, out: &mut [u8]) -> usize {
-    let table = x.table;
-    let settings = x.settings;
-    let mut periods = [0u32; Table::MOST_TASKS];
-    let mut processors = [0u16; Table::MOST_TASKS];
-    let answer = plain_finder::find(table, settings, &mut periods, &mut processors);
+// What is to be read of a sheet that was filled in: its plan, or why it has none. Returns how many bytes.
+pub fn put_plan(plan: SheetPlan, out: &mut [u8]) -> usize {
+    let answer = plan.answer;
+    let x = plan.sheet;
     match answer {
-        Answer::Refused(refusal) => put_refused(out, refusal, table, settings),
-        Answer::Accepted(step) => {
-            put_accepted(out, step, table, settings, &periods, &processors)
-        }
+        Answer::Refused(refusal) => put_refused(out, refusal, x.table, x.settings),
+        Answer::Accepted(step) => put_accepted(out, step, x),
     }
 }
 
 // Whether the results that stand in a sheet are ours; nothing of one that is refused before that is asked.
 fn put_stored(out: &mut [u8], at: usize, verdict: Verdict) -> usize {
-    match verdict {
-        Verdict::Accepted => text::words(out, at, b"stored results: ours\n"),
-        Verdict::Refused(refusal) => match refusal {
-            Refusal::NoResults => text::words(out, at, b"stored results: none\n"),
-            Refusal::WrongResult(place) => {
-                let named = text::words(out, at, b"stored results: not ours; ");
-                let said = refusal_words::sentence(out, named, refusal.number(), place);
-                text::byte(out, said, b'\n')
-            }
-            _ => at,
-        },
+    let Verdict::Refused(refusal) = verdict else {
+        return text::words(out, at, b"stored results: ours\n");
+    };
+    if let Refusal::NoResults = refusal {
+        return text::words(out, at, b"stored results: none\n");
     }
+    let Refusal::WrongResult(place) = refusal else {
+        return at;
+    };
+    let named = text::words(out, at, b"stored results: not ours; ");
+    let said = refusal_words::sentence(out, named, refusal.number(), place);
+    text::byte(out, said, b'\n')
 }
 
 // One refusal, with nothing beside it. Returns how many bytes.
@@ -219,6 +223,8 @@ pub fn view(input: &[u8], out: &mut [u8]) -> usize {
     if let Verdict::Refused(refusal) = verdict {
         return put_line(refusal, out);
     }
-    let said = put_sheet(reading.sheet, out);
-    put_stored(out, said, filled_sheet::check(input))
+    let x = reading.sheet;
+    let plan = fill::fill_sheet(x);
+    let said = put_plan(plan, out);
+    put_stored(out, said, filled_sheet::check_plan(x, plan))
 }

@@ -5,9 +5,9 @@ use Rattle.ground.proofs.First.{bad-here, bad-more, bad-none}
 use Rattle.kinds.specs.Task.{at, priced, Good, isGood}
 use Rattle.share.specs.Table.{firstBad, pricedRows}
 use Rattle.share.proofs.Tables.{priced-at}
+use Rattle.share.proofs.Under.{found-good}
 use Rattle.springs.specs.Spring.{springOf}
 use Rattle.springs.specs.Handover.{Sprung}
-use Rattle.springs.proofs.Springs.{found-good}
 use Rattle.springs.proofs.Blocks.{sprung-none, sprung-more}
 use Rattle.springs.proofs.springs_of.Statement.{statement}
 use Rattle.springs.proofs.springs_of.Tie as tie

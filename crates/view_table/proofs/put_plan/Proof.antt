@@ -6,12 +6,12 @@ use Rattle.view_table.proofs.put_plan.Statement.{statement}
 use Rattle.view_table.proofs.put_plan.Tie as tie
 
 abbrev Inv-loop : tie.InvT-loop
-Inv-loop out₀ at shown periods processors table settings n next₀ i₀ out next i = (i ≤ n) × ((n ≤ mostTasks) × (length out ≡ length out₀))
+Inv-loop out₀ at step table results settings n next₀ i₀ out next i = (i ≤ n) × ((n ≤ mostTasks) × (length out ≡ length out₀))
 
 abbrev μ-loop : tie.MeasureT-loop
-μ-loop out₀ at shown periods processors table settings n next₀ i₀ out next i = n - i
+μ-loop out₀ at step table results settings n next₀ i₀ out next i = n - i
 
 pub put-plan-spec : {M : Type 1} → statement M
-put-plan-spec = tie.close (tie.spec Inv-loop μ-loop (λ _ _. tt) (λ _ _. tt) (λ c. (search needs, (search needs, refl))) (λ c. search needs)
-    (λ c. search needs) (λ _ _. tt) (λ _ _. tt) (λ c. search needs) (λ c. search needs) (λ c. search needs) (λ c. search needs) (λ _ _. tt) (λ _ _. tt)
-    (λ c. search needs) (λ c. search needs) (λ c. search needs) (λ c. search needs) (λ c. tt))
+put-plan-spec = tie.close (tie.spec Inv-loop μ-loop (λ _ _. tt) (λ c. search needs) (λ _ _. tt) (λ c. (search needs, (search needs, refl)))
+    (λ c. search needs) (λ c. search needs) (λ c. search needs) (λ c. search needs) (λ _ _. tt) (λ _ _. tt) (λ c. search needs) (λ c. search needs)
+    (λ c. search needs) (λ c. search needs) (λ c. tt))

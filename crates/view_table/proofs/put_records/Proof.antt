@@ -12,5 +12,5 @@ abbrev μ-loop : tie.MeasureT-loop
 μ-loop out₀ at table n next₀ i₀ out next i = n - i
 
 pub put-records-spec : {M : Type 1} → statement M
-put-records-spec = tie.close (tie.spec Inv-loop μ-loop (λ _ _. tt) (λ _ _. tt) (λ c. (search needs, (search needs, refl))) (λ c. search needs)
-    (λ c. search needs) (λ _ _. tt) (λ _ _. tt) (λ c. search needs) (λ c. search needs) (λ c. search needs) (λ c. search needs) (λ c. tt))
+put-records-spec = tie.close (tie.spec Inv-loop μ-loop (λ _ _. tt) (λ c. search needs) (λ _ _. tt) (λ c. (search needs, (search needs, refl)))
+    (λ c. search needs) (λ c. search needs) (λ _ _. tt) (λ _ _. tt) (λ c. search needs) (λ c. search needs) (λ c. search needs) (λ c. search needs) (λ c. tt))

@@ -1,4 +1,4 @@
--- `view_table::positive` casts no negative number. Assumes nothing.
+-- `view_text::positive` casts no negative number. Assumes nothing.
 use Rattle.ground.proofs.Kit.{Bool, true, _≡_, sym, subst, needs}
 use native.Mathlib.Nat.{lt-of-le-of-lt}
 use lib.IntN.{ℤ, pos, negsuc, natAbs}
@@ -7,8 +7,8 @@ use lib.Signed.{ltZ, nonNeg, natAbs-le}
 use mir.Syntax.{w64}
 use mir.Val.{Fits, toZ, ofZ}
 use mir.ValLaws.{toZ-ofZ}
-use Rattle.view_table.proofs.positive.Statement.{statement}
-use Rattle.view_table.proofs.positive.Tie as tie
+use Rattle.view_text.proofs.positive.Statement.{statement}
+use Rattle.view_text.proofs.positive.Tie as tie
 
 -- what is above 0 is not negative
 not-negative : (z : ℤ) → ltZ (pos 0) z ≡ true → T (nonNeg z)
