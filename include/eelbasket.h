@@ -30,8 +30,8 @@
  *   18   checking a filled sheet: tasks stand there without results        0
  *   19   checking a filled sheet: a result differs                         the first such result, from 0
  *
- * A refusal writes nothing to what was lent, and its step, looks, margin, count or sheet is 0 (but for the looks of 7, and a kept table is
- * handed back as it was). An acceptance writes what its answer needs, and nothing past it. */
+ * A refusal writes nothing to what was lent, and its step, looks, margin, count or sheet is 0 (but for the looks and the relief of 7, and a
+ * kept table is handed back as it was). An acceptance writes what its answer needs, and nothing past it. */
 #ifndef EELBASKET_H
 #define EELBASKET_H
 #include <stddef.h>
@@ -78,6 +78,18 @@ struct eelbasket_told eelbasket_quick(const struct eelbasket_task *rows, size_t 
 
 /* The margin at any step, for policies 1, 2 and 5. Refusals 1 or 15, 2, 3, 4, 6. */
 struct eelbasket_margin eelbasket_margin(const struct eelbasket_task *rows, size_t tasks, struct eelbasket_station station, uint32_t step);
+
+/* ---- Relief ---- */
+
+/* What the relief tells: the plain finder's number, place and step, and with 7 the least step with one processor more, as a number: 0 for
+ * none, else the step + 1. */
+struct eelbasket_relief { uint32_t number, step, more; size_t place; };
+
+/* The plain finder's answer; and where that is 7, what would relieve the table: the least step with one processor more, and without each
+ * task, which is written as such a number to its entry of the output. More than 16 processors, and under policy 5 more than one, is none.
+ * Any other answer, an acceptance too, writes nothing and tells 0. Refusals 1 or 15, 2, 3, 5, 6, 7. */
+struct eelbasket_relief eelbasket_relief(const struct eelbasket_task *rows, size_t tasks, struct eelbasket_station station,
+                                         uint32_t *without, size_t without_len);
 
 /* ---- A planner's proposal ---- */
 

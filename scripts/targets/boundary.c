@@ -13,6 +13,7 @@ typedef uint64_t usize;
 struct proved_told { uint32_t number, step, looks; usize place; };
 struct proved_verdict { uint32_t number; usize place; };
 struct proved_margin { uint32_t number; usize place; int64_t margin; };
+struct proved_relief { uint32_t number, step, more; usize place; };
 struct proved_counted { uint32_t number; usize place, count; };
 struct proved_part { uint32_t which; usize place, size; };
 struct proved_table { struct eelbasket_task rows[EELBASKET_MOST_TASKS]; usize n; };
@@ -34,6 +35,7 @@ _Static_assert(sizeof(struct proved_told) == 24 && sizeof(struct proved_margin) 
 void proved_plain(struct proved_told *, const struct eelbasket_task *, usize, usize, uint16_t, uint32_t *, usize, uint16_t *, usize);
 void proved_quick(struct proved_told *, const struct eelbasket_task *, usize, usize, uint16_t, uint32_t *, usize, uint16_t *, usize);
 void proved_margin(struct proved_margin *, const struct eelbasket_task *, usize, usize, uint16_t, uint32_t);
+void proved_relief(struct proved_relief *, const struct eelbasket_task *, usize, usize, uint16_t, uint32_t *, usize);
 void proved_check_proposal(struct proved_verdict *, const struct eelbasket_task *, usize, usize, uint16_t, uint32_t, const uint16_t *, usize,
                            uint32_t *, usize);
 void proved_wide(struct proved_told *, const struct eelbasket_wide_task *, usize, uint16_t, uint32_t *, usize, uint16_t *, usize);
@@ -135,6 +137,13 @@ struct eelbasket_margin eelbasket_margin(const struct eelbasket_task *rows, size
     struct proved_margin tells;
     proved_margin(&tells, rows, tasks, eight_bytes(&station, 0), station.edition, step);
     return (struct eelbasket_margin){tells.number, (size_t)tells.place, tells.margin};
+}
+
+struct eelbasket_relief eelbasket_relief(const struct eelbasket_task *rows, size_t tasks, struct eelbasket_station station,
+                                         uint32_t *without, size_t without_len) {
+    struct proved_relief tells;
+    proved_relief(&tells, rows, tasks, eight_bytes(&station, 0), station.edition, without, without_len);
+    return (struct eelbasket_relief){tells.number, tells.step, tells.more, (size_t)tells.place};
 }
 
 struct eelbasket_verdict eelbasket_check_proposal(const struct eelbasket_task *rows, size_t tasks, struct eelbasket_station station,

@@ -6,6 +6,7 @@
 void answer_plain(void);
 void answer_quick(void);
 void answer_margin(void);
+void answer_relief(void);
 void answer_wide(void);
 void answer_proposal(void);
 

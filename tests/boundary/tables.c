@@ -1,4 +1,4 @@
-/* The calls on tables: kinds 1 to 3, 8 and 13. */
+/* The calls on tables: kinds 1 to 3, 8, 13 and 15. */
 #include "answer.h"
 #include "eelbasket.h"
 #include "fault.h"
@@ -70,6 +70,19 @@ void answer_margin(void) {
     struct eelbasket_margin told = eelbasket_margin(lend_tasks(tasks), tasks, station, step);
     put_verdict(told.number, told.place);
     put_number((uint64_t)told.margin, 8);
+}
+
+void answer_relief(void) {
+    struct eelbasket_station station = take_settings().station;
+    size_t tasks = (size_t)take_number(2);
+    size_t without_len = (size_t)take_number(1);
+    const struct eelbasket_task *rows = lend_tasks(tasks);
+    uint32_t *without = lend_to_write("the steps without each task", without_len * sizeof *without, NUMBER_BEFORE);
+    struct eelbasket_relief told = eelbasket_relief(rows, tasks, station, without, without_len);
+    put_verdict(told.number, told.place);
+    put_number(told.step, 4);
+    put_number(told.more, 4);
+    for (size_t i = 0; i < without_len; i++) put_number(without[i], 4);
 }
 
 static const uint16_t *lend_proposal(size_t entries) {

@@ -38,6 +38,14 @@ pub struct Margin {
 }
 
 #[repr(C)]
+pub struct Relief {
+    pub number: u32,
+    pub step: u32,
+    pub more: u32,
+    pub place: usize,
+}
+
+#[repr(C)]
 pub struct Results {
     pub rows: [Granted; MOST_TASKS],
     pub n: usize,
@@ -116,6 +124,13 @@ extern "C" {
     ) -> Told;
     pub fn eelbasket_margin(rows: *const Task, tasks: usize, station: Station, step: u32)
         -> Margin;
+    pub fn eelbasket_relief(
+        rows: *const Task,
+        tasks: usize,
+        station: Station,
+        without: *mut u32,
+        without_len: usize,
+    ) -> Relief;
     pub fn eelbasket_check_proposal(
         rows: *const Task,
         tasks: usize,

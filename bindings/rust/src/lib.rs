@@ -3,8 +3,8 @@
 //!
 //! Each function here is a call of the proved library (`include/eelbasket.h`) with Rust's own types. Every call is total: any numbers and
 //! bytes may be passed, and bad ones are refused. A [`Refusal`] has the number that the documents give it, its place, and a sentence on what to
-//! look at; a refused call leaves what was lent as it was. Nothing here allocates but [`find`], [`check_proposal`], [`Sheet`] and
-//! [`filled`].
+//! look at; a refused call leaves what was lent as it was, but for what [`relief_into`] tells. Nothing here allocates but [`find`],
+//! [`relief()`], [`check_proposal`], [`Sheet`] and [`filled`].
 //!
 //! ```
 //! use eelbasket::{find, Policy, Refusal, Station, Task};
@@ -31,6 +31,7 @@ mod kinds;
 mod office;
 mod proposal;
 mod refusal;
+mod relief;
 mod sheets;
 
 pub use clock::Clock;
@@ -40,4 +41,5 @@ pub use kinds::{Edition, Granted, Policy, Station, Task, WideTask, MOST_TASKS};
 pub use office::{export, import};
 pub use proposal::{check_proposal, check_proposal_into};
 pub use refusal::Refusal;
+pub use relief::{relief, relief_into, Relief};
 pub use sheets::{change_over, check, fill, filled, Part, Sheet, Which, LONGEST_SHEET};

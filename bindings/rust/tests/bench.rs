@@ -1,8 +1,9 @@
 //! "Bench settings to try", with document 01's answers, and what the requests give for them.
 
 use eelbasket::{
-    check, check_proposal, filled, find, margin, quick, Clock, Edition, Granted, Kept, Looked,
-    Plan, Policy, Refusal, Sheet, Station, Task, LONGEST_SHEET, MOST_TASKS,
+    check, check_proposal, filled, find, margin, quick, relief, relief_into, Clock, Edition,
+    Granted, Kept, Looked, Plan, Policy, Refusal, Relief, Sheet, Station, Task, LONGEST_SHEET,
+    MOST_TASKS,
 };
 
 /// Case B's task.
@@ -92,6 +93,19 @@ fn case_k_by_first_fit() {
     let refusal = Err(Refusal::PolicyNotServed);
     assert_eq!(looked(&case_k(), station), Looked { answer: refusal, looks: 0 });
     assert_eq!(find(&case_k(), Station { edition: Edition::Charge, ..station }), Ok(plan));
+}
+
+#[test]
+fn case_i_is_relieved_by_a_processor_or_by_any_task() {
+    let tasks = [Task::new(1, 3, 3, 0); 3];
+    let relieved = Relief { more: Some(0), without: vec![Some(0); 3] };
+    assert_eq!(relief(&tasks, Station::new(Policy::Pooled, 1)), Ok(Some(relieved)));
+    assert_eq!(relief(&tasks[1..], Station::new(Policy::Pooled, 1)), Ok(None));
+    let mut without = [7; 4];
+    let told = relief_into(&tasks, Station::new(Policy::Pooled, 1), &mut without);
+    assert_eq!((told, without), ((Err(Refusal::NoStepPasses), 1), [1, 1, 1, 7]));
+    let short = relief_into(&tasks, Station::new(Policy::Pooled, 1), &mut without[..2]);
+    assert_eq!((short, without), ((Err(Refusal::OutputTooShort(3)), 0), [1, 1, 1, 7]));
 }
 
 #[test]
@@ -246,6 +260,6 @@ fn calls(text: &str) -> Vec<&str> {
 #[test]
 fn the_calls_are_those_of_the_header() {
     let header = calls(include_str!("../../../include/eelbasket.h"));
-    assert_eq!(header.len(), 16);
+    assert_eq!(header.len(), 17);
     assert_eq!(calls(include_str!("../src/boundary.rs")), header);
 }

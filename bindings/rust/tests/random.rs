@@ -3,8 +3,8 @@
 
 use eelbasket::{
     change_over, check, check_proposal, check_proposal_into, export, filled, import, margin, plain,
-    quick, wide, Clock, Edition, Granted, Index, Kept, Looked, Policy, Refusal, Sheet, Station,
-    Task, Which, WideTask,
+    quick, relief, relief_into, wide, Clock, Edition, Granted, Index, Kept, Looked, Policy,
+    Refusal, Relief, Sheet, Station, Task, Which, WideTask,
 };
 use second::answer::{BUFFER_SENTINEL, PERIOD_SENTINEL, PROCESSOR_SENTINEL, ROW_SENTINEL};
 use second::call::{Call, Proposing, Rooms, Settings, Table, WideTable, Writing};
@@ -74,6 +74,28 @@ fn same_quick(table: &Table, rooms: Rooms) {
     let (answer, looks) = by::finder::quick(&table.question(), &mut due.0, &mut due.1);
     assert_eq!(looked, Looked { answer: ours(answer), looks: u32::from(looks) });
     assert_eq!((periods, processors), due);
+}
+
+/// The number for one processor more, and the output; with room for just the tasks, the steps that both tell.
+fn same_relief(table: &Table, room: u8) {
+    let tasks = rows(&table.rows, table.count, task);
+    let mut without = vec![PERIOD_SENTINEL; usize::from(room)];
+    let mut other = without.clone();
+    let told = relief_into(&tasks, station(table.settings), &mut without);
+    let (answer, more) = by::relief::relief(&table.question(), &mut other);
+    assert_eq!((told, &without), ((ours(answer), more), &other));
+    if tasks.len() == usize::from(room) {
+        let steps = |relieved: Relief| (relieved.more, relieved.without);
+        let none = |number: u32| number.checked_sub(1);
+        let expected = match told {
+            (Ok(_), _) => Ok(None),
+            (Err(Refusal::NoStepPasses), more) => {
+                Ok(Some((none(more), other.into_iter().map(none).collect())))
+            }
+            (Err(refusal), _) => Err(refusal),
+        };
+        assert_eq!(relief(&tasks, station(table.settings)).map(|told| told.map(steps)), expected);
+    }
 }
 
 fn same_margin(table: &Table, step: u32) {
@@ -237,6 +259,7 @@ fn same(call: &Call) {
         Call::Export(asked) => same_export(asked),
         Call::Proposal(asked) => same_proposal(asked),
         Call::Keep(asked) => same_keep(asked),
+        Call::Relief(table, room) => same_relief(table, *room),
     }
 }
 

@@ -9,11 +9,13 @@ use Rattle.kinds.specs.declared.Settings.{Settings}
 use Rattle.kinds.specs.Answer.{Handed}
 use Rattle.outcome.specs.Plan.{Outcome}
 use Rattle.proposal.specs.Proposal as proposal
+use Rattle.relief.specs.Relief.{Relieved}
 use Rattle.c_numbers.specs.declared.ToldVerdict.{ToldVerdict}
 use Rattle.c_numbers.proofs.Once.{told-verdict-one}
 use Rattle.c_tables.specs.declared.Told.{Told}
 use Rattle.c_tables.specs.declared.ToldMargin.{ToldMargin}
-use Rattle.c_tables.specs.Told.{toldHanded, toldMargin, ToldMeets, ToldLooked, ToldProposal}
+use Rattle.c_tables.specs.declared.ToldRelief.{ToldRelief}
+use Rattle.c_tables.specs.Told.{toldHanded, toldMargin, ToldMeets, ToldLooked, ToldProposal, ToldRelieved}
 
 -- number, place, step and looks
 told-same : (r q : Told) → toldHanded r ≡ toldHanded q → r .looks ≡ q .looks → r ≡ q
@@ -40,3 +42,11 @@ told-margin-one h r q a b = let e = a ∙ sym b in λ i. record { number = e i .
 pub told-proposal-one : (o : proposal.Outcome) (r q : ToldVerdict) (loads other : List ℕ) → ToldProposal o r loads → ToldProposal o q other
     → (r ≡ q) × (loads ≡ other)
 told-proposal-one o r q loads other a b = (told-verdict-one (o .handed) r q (a .answers) (b .answers), a .leaves ∙ sym (b .leaves))
+
+-- the relief
+pub told-relief-one : (o : Relieved) (r q : ToldRelief) (without other : List ℕ) → ToldRelieved o r without → ToldRelieved o q other
+    → (r ≡ q) × (without ≡ other)
+told-relief-one o r q without other a b =
+    let e = a .answers ∙ sym (b .answers) in
+    let m = a .tells ∙ sym (b .tells) in
+    (λ i. record { number = e i .number; step = e i .value; more = m i; place = e i .place }, a .leaves ∙ sym (b .leaves))

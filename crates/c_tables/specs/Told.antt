@@ -13,16 +13,21 @@ use Rattle.policy.specs.Under.{mostLooks}
 use Rattle.outcome.specs.Plan.{Outcome, outcome}
 use Rattle.quick_finder.specs.Looked.{looks}
 use Rattle.proposal.specs.Proposal as proposal
+use Rattle.relief.specs.Relief.{Relieved}
 use Rattle.c_numbers.specs.declared.ToldVerdict.{ToldVerdict}
 use Rattle.c_numbers.specs.Numbers.{toldVerdict}
 use Rattle.c_tables.specs.declared.Told.{Told}
 use Rattle.c_tables.specs.declared.ToldMargin.{ToldMargin}
+use Rattle.c_tables.specs.declared.ToldRelief.{ToldRelief}
 
 abbrev pub toldHanded : Told → Handed ℕ
 toldHanded r = record { number = r .number; place = r .place; value = r .step }
 
 abbrev pub toldMargin : ToldMargin → Handed ℤ
 toldMargin r = record { number = r .number; place = r .place; value = r .margin }
+
+abbrev pub toldAnswer : ToldRelief → Handed ℕ
+toldAnswer r = record { number = r .number; place = r .place; value = r .step }
 
 -- the plain finder's promise; it makes no looks
 pub record ToldMeets (o : Outcome) (r : Told) (periods processors : List ℕ) : Type 0 where
@@ -43,3 +48,9 @@ pub record ToldLooked (s : Settings) (rows : List Task) (n : ℕ) (oldPeriods ol
 pub record ToldProposal (o : proposal.Outcome) (r : ToldVerdict) (loads : List ℕ) : Type 0 where
   pub answers : toldVerdict r ≡ o .handed
   pub leaves : loads ≡ o .loads
+
+-- the relief's promise
+pub record ToldRelieved (o : Relieved) (r : ToldRelief) (without : List ℕ) : Type 0 where
+  pub answers : toldAnswer r ≡ o .handed
+  pub tells : r .more ≡ o .more
+  pub leaves : without ≡ o .without

@@ -14,9 +14,10 @@ ghost use Rattle.kinds.specs.Answer.{handed};
 ghost use Rattle.outcome.specs.Plan.{outcome};
 ghost use Rattle.margin.specs.Margin.{marginHanded};
 ghost use Rattle.proposal.specs.Proposal as checker;
+ghost use Rattle.relief.specs.Relief.{relieved};
 ghost use Rattle.wide_finder.specs.Wide as wide;
 ghost use Rattle.c_numbers.specs.Numbers.{settingsOf};
-ghost use Rattle.c_tables.specs.Told.{toldHanded, toldMargin, ToldMeets, ToldLooked, ToldProposal};
+ghost use Rattle.c_tables.specs.Told.{toldHanded, toldMargin, ToldMeets, ToldLooked, ToldProposal, ToldRelieved};
 
 // Number, step, looks and place. A refusal's step is 0; the plain finder makes no looks.
 #[repr(C)]
@@ -33,6 +34,15 @@ pub struct ToldMargin {
     pub number: u32,
     pub place: usize,
     pub margin: i64,
+}
+
+// Number, step and place of the plain finder, and with 7 the least step with one processor more, as a number.
+#[repr(C)]
+pub struct ToldRelief {
+    pub number: u32,
+    pub step: u32,
+    pub more: u32,
+    pub place: usize,
 }
 
 // An answer in numbers, with its looks.
@@ -101,6 +111,21 @@ pub fn margin_told(table: Table, station: Station, step: u32) -> ToldMargin
             place: refusal.place(),
             margin: 0,
         },
+    }
+}
+
+// What would relieve a table by value that no step passes.
+pub fn relief_told(table: Table, station: Station, without: &mut [u32]) -> ToldRelief
+    ensures { λ r. ⌜ ToldRelieved (relieved (settingsOf station) (table .rows) (table .n) (now (without .entry))) r (now (without .exit)) ⌝ }
+{
+    let relief = relief::relief_of(table, settings_of(station), without);
+    let answer = relief.answer;
+    let told = tell(answer, 0);
+    ToldRelief {
+        number: told.number,
+        step: told.step,
+        more: relief.more,
+        place: told.place,
     }
 }
 

@@ -14,6 +14,8 @@ use Rattle.margin.specs.Margin.{marginHanded}
 use Rattle.margin.proofs.Margins.{margin-handed-same}
 use Rattle.proposal.specs.Proposal as proposal
 use Rattle.proposal.proofs.Calls as calls
+use Rattle.relief.specs.Relief.{relieved}
+use Rattle.relief.proofs.Reliefs.{relieved-same}
 use Rattle.wide_task.specs.declared.WideTask.{WideTask}
 use Rattle.wide_task.specs.WideTask as wide-task
 use Rattle.wide_finder.specs.Wide as wide
@@ -22,7 +24,8 @@ use Rattle.office.proofs.Answers.{handed-same, after-same}
 use Rattle.c_numbers.specs.declared.ToldVerdict.{ToldVerdict}
 use Rattle.c_numbers.specs.declared.ToldCount.{ToldCount}
 use Rattle.c_tables.specs.declared.Told.{Told}
-use Rattle.c_tables.specs.Told.{ToldMeets, ToldLooked, ToldProposal}
+use Rattle.c_tables.specs.declared.ToldRelief.{ToldRelief}
+use Rattle.c_tables.specs.Told.{ToldMeets, ToldLooked, ToldProposal, ToldRelieved}
 use Rattle.c_texts.specs.Texts.{ToldExports}
 
 -- where a table takes them all, its records are the lent ones
@@ -45,6 +48,10 @@ module _ (s : Settings) (rows : List Task) where
       → ToldProposal (proposal.outcome s (tableOf rows .rows) (length rows) k proposed old) r loads
       → ToldProposal (proposal.outcome s rows (length rows) k proposed old) r loads
   told-proposal-over k proposed old r loads x = rw (← proposal-over k proposed old) x
+
+  pub told-relief-over : (old : List ℕ) (r : ToldRelief) (new : List ℕ)
+      → ToldRelieved (relieved s (tableOf rows .rows) (length rows) old) r new → ToldRelieved (relieved s rows (length rows) old) r new
+  told-relief-over old r new x = rw (← relieved-same s (tableOf rows .rows) rows (length rows) old (agree rows)) x
 
   module _ (periods processors : List ℕ) (r : Told) (ps qs : List ℕ) where
     pub told-meets-over : ToldMeets (outcome true s (tableOf rows .rows) (length rows) periods processors) r ps qs

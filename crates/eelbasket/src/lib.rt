@@ -11,6 +11,7 @@ use c_numbers::Station;
 use c_numbers::ToldVerdict;
 use c_tables::Told;
 use c_tables::ToldMargin;
+use c_tables::ToldRelief;
 use kinds::Task;
 use wide_task::WideTask;
 ghost use mathlib.Core.Bool.{true};
@@ -19,9 +20,10 @@ ghost use lib.ListN.{length};
 ghost use Rattle.outcome.specs.Plan.{outcome};
 ghost use Rattle.margin.specs.Margin.{marginHanded};
 ghost use Rattle.proposal.specs.Proposal as checker;
+ghost use Rattle.relief.specs.Relief.{relieved};
 ghost use Rattle.wide_finder.specs.Wide as wide;
 ghost use Rattle.c_numbers.specs.Numbers.{settingsOf};
-ghost use Rattle.c_tables.specs.Told.{toldMargin, ToldMeets, ToldLooked, ToldProposal};
+ghost use Rattle.c_tables.specs.Told.{toldMargin, ToldMeets, ToldLooked, ToldProposal, ToldRelieved};
 
 // The plain finder over lent records.
 #[no_mangle]
@@ -58,6 +60,19 @@ pub extern "C" fn eelbasket_margin(rows: &[Task], station: Station, step: u32) -
     ensures { λ r. ⌜ toldMargin r ≡ marginHanded (settingsOf station) (now (rows .entry)) (length (now (rows .entry))) step ⌝ }
 {
     c_tables::margin_told(lent_rows::gather(rows), station, step)
+}
+
+// What would relieve lent records that no step passes.
+#[no_mangle]
+pub extern "C" fn eelbasket_relief(
+    rows: &[Task],
+    station: Station,
+    without: &mut [u32],
+) -> ToldRelief
+    ensures { λ r. ⌜ ToldRelieved (relieved (settingsOf station) (now (rows .entry)) (length (now (rows .entry))) (now (without .entry)))
+        r (now (without .exit)) ⌝ }
+{
+    c_tables::relief_told(lent_rows::gather(rows), station, without)
 }
 
 // The checker of a proposal over lent records, at any step.

@@ -48,7 +48,7 @@ fn accept(table: Table, index: Index) -> Changed
 }
 
 // The first n records of a table without the one at a place, and zeros past them.
-fn without(old: Table, place: usize, n: usize) -> Table
+pub fn without(old: Table, place: usize, n: usize) -> Table
     requires { ⌜ (n ≤ mostTasks) × (place < n → n < mostTasks) ⌝ }
     ensures { λ r. ⌜ r ≡ table (paddedTo noTask mostTasks (leftRow (old .rows) place) n) n ⌝ }
 {

@@ -9,14 +9,17 @@ use kinds::Table;
 use kinds::Verdict;
 use policy::Weights;
 use springs::Columns;
+ghost use mathlib.Core.Bool.{false};
 ghost use mathlib.Core.Path.{_≡_};
 ghost use Prim.Native.Nat.{_≤_, _<_};
+ghost use Rattle.kinds.specs.Answer.{handed};
 ghost use Rattle.kinds.specs.Limits.{mostTasks};
 ghost use Rattle.springs.specs.Spring.{saturations};
 ghost use Rattle.springs.specs.Columns.{springIn};
 ghost use Rattle.springs.specs.Handover.{SumIs, Springy, Beside};
 ghost use Rattle.policy.specs.Weighed.{weighedAt};
 ghost use Rattle.policy.specs.Handover.{Light};
+ghost use Rattle.outcome.specs.Plan.{found};
 ghost use Rattle.quick_finder.specs.Search.{dueAfter, OneLook};
 ghost use Rattle.quick_finder.specs.Handover.{Searchable, MaySearch, SearchEnds, SearchUnder, SearchedIn};
 ghost use Rattle.quick_finder.specs.Looked.{MeetsLooked};
@@ -63,6 +66,23 @@ pub fn find(table: Table, settings: Settings, periods: &mut [u32], processors: &
         answer,
         looks: ended.looks,
     }
+}
+
+// The answer, for outputs of which the shorter has so much room.
+pub fn decide(table: Table, settings: Settings, room: usize) -> Answer
+    ensures { λ r. ⌜ handed r ≡ found false settings (table .rows) (table .n) room ⌝ }
+{
+    let n = table.n;
+    let mut block = [0u32; Columns::ROOM];
+    let gate = admission::gate_of(settings, false, n, room);
+    let Verdict::Accepted = gate else {
+        return outcome::decide(gate, Step::Nothing);
+    };
+    let bad = springs::springs_of(table, settings.swap, settings.notch, &mut block);
+    let admission = admission::judge(bad, n);
+    let ended = search_in(admission, settings, &mut block, n);
+    let step = ended.step;
+    outcome::decide(admission, step)
 }
 
 // The search of an admitted call, on the springs in the block. A refused one has no step and makes no look.

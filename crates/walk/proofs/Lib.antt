@@ -1,6 +1,7 @@
 pub mod Gets
 pub mod Thin
 pub mod ThinM
+pub mod ThinVm
 pub mod ThinVmm
 pub mod ThinVv
 pub mod ThinVvsm

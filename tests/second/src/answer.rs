@@ -10,6 +10,7 @@ use crate::definition::office::{export, import};
 use crate::definition::program::program;
 use crate::definition::proposal::check_proposal;
 use crate::definition::reader::read;
+use crate::definition::relief::relief;
 use crate::definition::wide::find_wide;
 use crate::definition::writer::write;
 
@@ -171,6 +172,17 @@ fn proposal_answer(proposing: &Proposing) -> Vec<u8> {
     bytes
 }
 
+fn relief_answer(table: &Table, room: u8) -> Vec<u8> {
+    let mut without = vec![PERIOD_SENTINEL; usize::from(room)];
+    let (answer, more) = relief(&table.question(), &mut without);
+    let mut bytes = Vec::new();
+    put_verdict(&mut bytes, &answer);
+    bytes.extend(answer.unwrap_or(0).to_le_bytes());
+    bytes.extend(more.to_le_bytes());
+    put_outputs(&mut bytes, &without, &[]);
+    bytes
+}
+
 /// The answer's bytes, without their length.
 pub fn answer(call: &Call) -> Vec<u8> {
     match call {
@@ -188,5 +200,6 @@ pub fn answer(call: &Call) -> Vec<u8> {
         Call::Export(exporting) => export_answer(exporting),
         Call::Proposal(proposing) => proposal_answer(proposing),
         Call::Keep(keeping) => keeping.answer(),
+        Call::Relief(table, room) => relief_answer(table, *room),
     }
 }

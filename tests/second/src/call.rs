@@ -90,10 +90,11 @@ pub enum Call {
     Export(Exporting),
     Proposal(Proposing),
     Keep(Keeping),
+    Relief(Table, u8),
 }
 
 /// The names of the kinds of call, from kind 1.
-pub const KIND_NAMES: [&str; 14] = [
+pub const KIND_NAMES: [&str; 15] = [
     "plain finder",
     "quick finder",
     "margin",
@@ -108,6 +109,7 @@ pub const KIND_NAMES: [&str; 14] = [
     "export",
     "proposal",
     "kept order",
+    "relief",
 ];
 
 /// The rows or results that the stream has of a count.
@@ -299,6 +301,7 @@ impl Call {
             Call::Export(..) => 12,
             Call::Proposal(..) => 13,
             Call::Keep(..) => 14,
+            Call::Relief(..) => 15,
         }
     }
 
@@ -336,6 +339,11 @@ impl Call {
             }
             Call::Proposal(proposing) => put_proposing(&mut bytes, proposing),
             Call::Keep(keeping) => keeping.put(&mut bytes),
+            Call::Relief(table, room) => {
+                table.put_head(&mut bytes);
+                bytes.push(*room);
+                put_rows(&mut bytes, &table.rows);
+            }
         }
         bytes
     }

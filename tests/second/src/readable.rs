@@ -95,6 +95,10 @@ pub fn call_text(call: &Call) -> String {
         }
         Call::Clock(run) => text.push_str(&run.text()),
         Call::Keep(keeping) => text.push_str(&keeping.text()),
+        Call::Relief(table, room) => {
+            text.push_str(&table_lines(table));
+            let _ = writeln!(text, "  room: {room} entries");
+        }
         Call::Import { entries, text: lines } => {
             let _ = writeln!(text, "  room: {entries} rows");
             let _ = writeln!(text, "  text: {:?}", String::from_utf8_lossy(lines));
@@ -255,6 +259,12 @@ fn fields_text(call: &Call, answer: &[u8]) -> Option<String> {
             let verdict = fields.verdict()?;
             let loads = fields.entries(proposing.room, 4, u64::from(PERIOD_SENTINEL))?;
             format!("{verdict}  loads: {loads}\n")
+        }
+        Call::Relief(_, room) => {
+            let verdict = fields.verdict()?;
+            let (step, more) = (fields.number(4)?, fields.number(4)?);
+            let without = fields.entries(*room, 4, u64::from(PERIOD_SENTINEL))?;
+            format!("{verdict}  step {step}, one processor more {more}\n  without: {without}\n")
         }
         Call::Keep(_) => format!("{}{}", fields.verdict()?, kept_text(&mut fields.rest)?),
         Call::Program(_) => program_text(fields.take(answer.len())?),

@@ -11,7 +11,7 @@ use super::tables::{
 };
 use super::wide_tables::random_wide;
 use crate::call::{present, Call, Rooms, Settings, Table, Writing};
-use crate::definition::kinds::{Record, Sheet};
+use crate::definition::kinds::{Record, Sheet, MOST_TASKS};
 use crate::definition::program::program;
 use crate::definition::share::springs;
 use crate::random::Random;
@@ -28,8 +28,9 @@ pub fn random_call(random: &mut Random, index: usize) -> Call {
         return long_scan(random);
     }
     match random.between(0, 99) {
-        0..=17 => plain(random),
-        18..=35 => quick(random),
+        0..=15 => plain(random),
+        16..=31 => quick(random),
+        32..=35 => relief(random),
         36..=45 => margin(random),
         46..=50 => Call::Read(sheet(random)),
         51..=55 => Call::Write(writing(random)),
@@ -69,6 +70,30 @@ fn several_cores(random: &mut Random) -> Call {
     let table = random_wide(random);
     let rooms = rooms(random, table.rows.len());
     Call::Wide(table, rooms)
+}
+
+/// A table that a processor was taken from or a task put among, or as it comes, so that many are refused by 7.
+fn relief(random: &mut Random) -> Call {
+    let mut table = table(random, &EVERY);
+    let rows = &mut table.rows;
+    match random.between(0, 5) {
+        0..=1 if table.settings.m > 1 => table.settings.m -= 1,
+        0..=3 if rows.len() < MOST_TASKS && usize::from(table.count) == rows.len() => {
+            let Settings { w, q, .. } = table.settings;
+            rows.insert(random.place(rows.len() + 1), added(random, w, q));
+            table.count += 1;
+        }
+        _ => {}
+    }
+    let room = rooms(random, table.rows.len()).periods;
+    Call::Relief(table, room)
+}
+
+/// A rigid task on a notch, with any load.
+fn added(random: &mut Random, w: u16, q: u16) -> Record {
+    let period = u32::from(q.max(1)) * random.small(1, 1_000);
+    let cost = random.between(1, u64::from(period)).saturating_sub(2 * u64::from(w));
+    Record::new(cost as u32, period, period, 0)
 }
 
 /// A proposal for a table of any policy, at which the checker does not look; first-fit tables come often, since theirs nearly fit.

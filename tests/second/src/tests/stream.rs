@@ -147,6 +147,10 @@ fn the_rows_present_are_those_of_the_count_and_at_most_32() {
                 assert_eq!(exporting.rows.len(), usize::from(exporting.count).min(32));
                 assert!(exporting.room <= 1_500);
             }
+            Call::Relief(table, room) => {
+                assert_eq!(table.rows.len(), usize::from(table.count).min(32));
+                assert!(room <= 40);
+            }
             Call::Import { entries, .. } => assert!(entries <= 40),
             Call::Proposal(Proposing { table, proposal, room, .. }) => {
                 assert_eq!(table.rows.len(), usize::from(table.count).min(32));
@@ -195,12 +199,12 @@ fn random_calls_reach_every_answer_under_policy_5() {
 #[test]
 fn the_first_15000_calls_reach_every_number_that_a_call_can_give() {
     let calls = Calls::of_seed(1);
-    let mut reached = vec![BTreeSet::new(); 15];
+    let mut reached = vec![BTreeSet::new(); 16];
     for index in 0..15_000 {
         let call = calls.call(index);
         reached[usize::from(call.kind())].insert(number_of(&call, &answer(&call)));
     }
-    let expected: [&[u8]; 14] = [
+    let expected: [&[u8]; 15] = [
         &[0, 1, 2, 3, 5, 6, 7, 15],
         &[0, 1, 2, 3, 4, 5, 6, 7, 15],
         &[0, 1, 2, 3, 4, 6, 15],
@@ -215,6 +219,7 @@ fn the_first_15000_calls_reach_every_number_that_a_call_can_give() {
         &[0, 3, 5],
         &[0, 2, 3, 5, 6, 13, 14],
         &[0, 2, 3, 6, 12],
+        &[0, 1, 2, 3, 5, 6, 7, 15],
     ];
     for (index, numbers) in expected.iter().enumerate() {
         assert_eq!(reached[index + 1], numbers.iter().copied().collect(), "kind {}", index + 1);
