@@ -1,6 +1,6 @@
 -- What is handed on: `taken-through`, `handed-taken` and `refused-keeps` say what `Tidies` means, the others that it holds of what the call leaves.
 -- Assumes nothing.
-use Rattle.ground.proofs.Kit.{ℕ, _+_, _≤_, _<_, Bool, true, false, List, [], _++_, _≡_, refl, sym, _∙_, ap, subst, arith, eqb, length, take, drop}
+use Rattle.ground.proofs.Kit.{ℕ, _+_, _≤_, _<_, Bool, true, false, List, [], _++_, _≡_, refl, sym, _∙_, ap, subst, arith, length, take, drop, length-append}
 use Rattle.ground.proofs.Kit.{eq-eqb, ne-eqb, eqb-true}
 use lib.Seq.{take-at}
 use Rattle.ground.proofs.Cases.{by-bool, true-false}
@@ -181,6 +181,28 @@ module _ (text old : List ℕ) where
       let long : length on ≡ k = sym (ap (λ (h : Handed ℕ). h .value) a) in
       let front : take k new ≡ on = ap (take k) n ∙ take-at on (drop (length on) old) k long in
       rw front t
+
+  front-fits : (on new : List ℕ) (k : ℕ) → accepted k ≡ accepted (length on) → new ≡ on ++ drop (length on) old → k ≤ length new
+  front-fits on new k a n =
+      omega (arith, ap (λ (h : Handed ℕ). h .value) a, ap length n, length-append on (drop (length on) old))
+
+  -- what is handed on stands inside the output
+  pub count-fits : (r : Counted) (new : List ℕ) → Tidies text old r new → (k : ℕ) → r ≡ Count k → k ≤ length new
+  count-fits r new h k e =
+      let a : accepted k ≡ tidyHanded text (h .candidate) = sym (ap handedCount e) ∙ h .answer in
+      by-bool (isTaken text)
+      (λ t.
+      let on = on-text text (h .candidate) t in
+      front-fits text new k (a ∙ on .handed) (h .output ∙ output-is text (h .candidate) old _ _ on))
+      (λ t.
+      by-bool (isTaken (h .candidate))
+      (λ c.
+      let on = on-candidate text (h .candidate) t c in
+      front-fits (h .candidate) new k (a ∙ on .handed) (h .output ∙ output-is text (h .candidate) old _ _ on))
+      (λ c.
+      let on = on-nothing text (h .candidate) t c in
+      let zero : strict text .number ≡ 0 = sym (ap (λ (x : Handed ℕ). x .number) (a ∙ on .handed)) in
+      true-false (eq-eqb (strict text .number) 0 zero) t))
 
   -- what is handed on is a text that the strict import takes
   pub handed-taken : (k : ℕ) (new : List ℕ) → Tidies text old (Count k) new → isTaken (take k new) ≡ true

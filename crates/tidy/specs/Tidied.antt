@@ -29,7 +29,7 @@ abbrev pub tidyHanded : List ℕ → List ℕ → Handed ℕ
 tidyHanded text candidate =
     pick (isTaken text) (accepted (length text)) (pick (isTaken candidate) (accepted (length candidate)) (strict text))
 
--- how many bytes a text may have for which there is a candidate
+-- how many bytes a text may have for which there is a candidate; the programs read one more
 abbrev pub longestLoose : ℕ
 longestLoose = 16384
 
