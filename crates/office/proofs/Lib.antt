@@ -8,3 +8,4 @@ pub mod Calls
 pub mod Examples
 pub mod Landing
 pub mod Exactly
+pub mod Longest

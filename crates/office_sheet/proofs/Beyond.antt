@@ -1,7 +1,7 @@
 -- The front of a long input tells all: one byte past the longest text settles the reading of a text, and one past the longest sheet that of
 -- a sheet.
 -- Assumes nothing.
-use Rattle.ground.proofs.Kit.{ℕ, zero, suc, _+_, _-_, _*_, _≤_, _<_, List, [], _∷_, _++_, append-nil, append-assoc, _≡_, refl, sym, _∙_, ap, ⊎-elim, arith}
+use Rattle.ground.proofs.Kit.{ℕ, zero, suc, _+_, _-_, _≤_, _<_, List, [], _∷_, _++_, append-nil, append-assoc, _≡_, refl, sym, _∙_, ap, ⊎-elim, arith}
 use Rattle.ground.proofs.Kit.{length, take, drop, length-append, length-drop, take-append-drop, length-take-le}
 use lib.Seq.{take-all, drop-at}
 use Rattle.ground.proofs.Cases.{by-le}
@@ -11,35 +11,20 @@ use Rattle.kinds.specs.declared.Refusal.the-variants.{TooManyTasks, BadLine}
 use Rattle.kinds.specs.declared.Sheet.{Sheet}
 use Rattle.kinds.specs.Limits.{mostTasks}
 use Rattle.kinds.specs.Answer.{Handed}
-use Rattle.numeral.proofs.Digits.{few-digits}
 use Rattle.sheet.specs.Sections.{longestSheet}
 use Rattle.sheet.proofs.Beyond.{front-reads}
 use Rattle.office.specs.declared.Line.{Line}
 use Rattle.office.specs.declared.Line.the-variants as line
-use Rattle.office.specs.Text.{lineOf, textOf, Fits, AllFit, longestLine, longestText}
+use Rattle.office.specs.Text.{lineOf, textOf, AllFit, longestText}
 use Rattle.office.specs.Reading.{lineAt, Reading, Rows, Not, readFrom, readText}
 use Rattle.office.specs.Carrying.{importHanded}
 use Rattle.office.proofs.Lines.{from-many, from-bad, from-more}
 use Rattle.office.proofs.LinesBack.{line-got, line-back, line-rest, line-starts, no-line}
-use Rattle.office.proofs.RoundTrip.{export-of-import, import-refused}
+use Rattle.office.proofs.RoundTrip.{import-refused}
+use Rattle.office.proofs.Longest.{line-most, text-most, taken-most}
 use Rattle.office.proofs.Texts.{text-empty, text-cons}
-use Rattle.office.proofs.Widths.{line-long}
 use Rattle.refusal_line.specs.Line.{orLine}
 use Rattle.office_sheet.specs.Written.{enteredText, entered, takenTable, takenOut}
-
--- no line is longer than the longest
-line-most : (t : Task) → Fits t → length (lineOf t) ≤ longestLine
-line-most t f =
-    let a = few-digits 9 (t .c) (omega (arith, f .c)) in
-    let b = few-digits 9 (t .tmin) (omega (arith, f .tmin)) in
-    let c = few-digits 9 (t .tmax) (omega (arith, f .tmax)) in
-    let d = few-digits 9 (t .e) (omega (arith, f .e)) in
-    omega (arith, line-long t)
-
-text-most : (rows : List Task) → AllFit rows → length (textOf rows) ≤ longestLine * length rows
-text-most [] f = omega (arith, ap length text-empty)
-text-most (t ∷ rows) f =
-    omega (arith, ap length (text-cons t rows), length-append (lineOf t) (textOf rows), line-most t (f .0), text-most rows (f .1))
 
 -- rows that stand at a place of a text are read, and the reading goes on after them
 read-past : (s : List ℕ) (these : List Task) (more : ℕ) (rows : List Task) (at : ℕ) (rest : List ℕ)
@@ -118,9 +103,7 @@ module _ (p q : List ℕ) (long : longestText < length p) where
         ∙ from-bad before (p ++ q) place (31 - length before) within (still-bad less b (lineAt (p ++ q) place) refl))
 
   same-reading : (reading : Reading) → readText p ≡ reading → readText (p ++ q) ≡ reading
-  same-reading (Rows rows) e =
-      let b = export-of-import p rows e in
-      absurd (omega (arith, ap length (b .text), text-most rows (b .fit), b .few))
+  same-reading (Rows rows) e = absurd (omega (arith, taken-most p rows e))
   same-reading (Not r) e =
       let s = import-refused p r e in
       ⊎-elim

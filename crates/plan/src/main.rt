@@ -1,6 +1,6 @@
 // The program behind `./plan`: shows the plan of the office's text on standard input, with the settings that its words name, or writes the filled
 // sheet where the first word is `--sheet`. The settings are given in their order on a sheet, and the last ones may be left out. What cannot be
-// planned is told in words.
+// planned is told in words. The text may be as people give it: `tidy::tidied` makes the exact text of it, and one byte more is read than it takes.
 use fill::SheetPlan;
 use kinds::Answer;
 use kinds::Counted;
@@ -126,11 +126,44 @@ fn put_asked(table_text: &[u8], as_sheet: bool, out: &mut [u8]) -> usize {
     }
 }
 
+// Puts the names of the tasks of a text below its plan.
+fn put_names(given: &[u8], out: &mut [u8], at: usize) -> usize {
+    let mut names = [0u8; task_names::ROOM];
+    task_names::keep_names(given, &mut names);
+    task_names::put_names(out, at, &names, Table::MOST_TASKS)
+}
+
+// Puts what an exact text comes to, with the names that the text has as it was given.
+fn put_named_plan(given: &[u8], exact: &[u8], as_sheet: bool, out: &mut [u8]) -> usize {
+    let put = put_asked(exact, as_sheet, out);
+    if as_sheet {
+        return put;
+    }
+    put_names(given, out, put)
+}
+
+// Puts what a text comes to as it was given: through its exact text, or by itself where it has none.
+fn put_tidy_plan(given: &[u8], as_sheet: bool, out: &mut [u8]) -> usize {
+    let mut exact = [0u8; office::LONGEST];
+    let Counted::Count(k) = tidy::tidied(given, &mut exact) else {
+        return put_asked(given, as_sheet, out);
+    };
+    put_named_plan(given, &exact[..k], as_sheet, out)
+}
+
+// Tells people what they should know of a text.
+fn tell(given: &[u8]) {
+    let mut told = [0u8; tidy_words::LONGEST];
+    let k = tidy_words::put_told(given, &mut told);
+    tidy_words::tell(&told, k);
+}
+
 fn main() {
     let as_sheet = wants_sheet();
-    let mut table_text = [0u8; office::LONGEST + 1];
-    let n = io::read_full(STDIN_FILENO, &mut table_text);
-    let mut out = [0u8; view_text::LONGEST];
-    let k = put_asked(&table_text[..n], as_sheet, &mut out);
+    let mut given = [0u8; tidy::LONGEST + 1];
+    let n = io::read_full(STDIN_FILENO, &mut given);
+    tell(&given[..n]);
+    let mut out = [0u8; view_text::LONGEST + task_names::LONGEST];
+    let k = put_tidy_plan(&given[..n], as_sheet, &mut out);
     text::write(&out, k);
 }

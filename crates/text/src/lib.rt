@@ -22,7 +22,7 @@ pub fn words(out: &mut [u8], at: usize, bytes: &[u8]) -> usize {
     next
 }
 
-fn repeated(out: &mut [u8], at: usize, one: u8, count: usize) -> usize {
+pub fn repeated(out: &mut [u8], at: usize, one: u8, count: usize) -> usize {
     let mut next = at;
     for _ in 0..count {
         next = byte(out, next, one);
