@@ -1,4 +1,4 @@
--- What an admission has checked, and that it looks at the first n records only.
+-- What an admission has checked.
 -- Assumes nothing.
 use Rattle.ground.proofs.Kit.{ℕ, _≤_, _<_, Bool, true, false, not, List, _≡_, refl, ap, _⊎_, inl, inr, arith, eqb, ltb, eqb-true, ltb-false}
 use lib.Dec.{lit≤, lit<}
@@ -17,9 +17,7 @@ use Rattle.kinds.specs.Refusal.{numberOf}
 use Rattle.kinds.specs.Limits.{mostTasks, mostProcessors, shareEdition, chargeEdition}
 use Rattle.kinds.specs.Policy.{meant, isWeighed, isFirstFit, isOneCore, isWithdrawn, isFurther, Served}
 use Rattle.kinds.proofs.Policies.{known-served}
-use Rattle.kinds.specs.Task.{at}
 use Rattle.share.specs.Table.{firstBad}
-use Rattle.share.proofs.Tables.{bad-same}
 use Rattle.admission.specs.Admission.{andThen, knows, misset, unsuited, noEdition, missetNumbers, missetUnder}
 use Rattle.admission.specs.Admission.{gate, served, roomy, gateOf, recordsGood, admission}
 
@@ -215,20 +213,6 @@ admitted serves s rows n room e =
       one-core = one-core-set (meant (s .policy)) (s .m) (set .1);
       none-bad = ltb-false _ _ (unchecked _ _ _ (a .1) .0);
     }
-
--- the admission looks at the first n records, and where there are too many at none
-module _ (serves : Bool) (s : Settings) (xs ys : List Task) (n room : ℕ) where
-  pub admission-same : ((i : ℕ) → i < n → at xs i ≡ at ys i) → admission serves s xs n room ≡ admission serves s ys n room
-  unfolding admission
-  admission-same same = let e = bad-same (s .swap) (s .notch) xs ys n same in rw e
-
-  pub admission-many : mostTasks < n → admission serves s xs n room ≡ admission serves s ys n room
-  unfolding admission
-  admission-many h = by (gateOf serves s n room) refl
-    where
-      by : (a : Verdict) → gateOf serves s n room ≡ a → andThen a (recordsGood (s .swap) (s .notch) xs n) ≡ andThen a (recordsGood (s .swap) (s .notch) ys n)
-      by Accepted e = absurd (omega (arith, all-passed serves s n room e .few))
-      by (Refused r) e = refl
 
 -- where policy 4 is not asked, it does not matter whether the call serves it
 pub admission-serves : (s : Settings) (rows : List Task) (n room : ℕ) → isFirstFit (meant (s .policy)) ≡ false

@@ -1,4 +1,5 @@
 pub mod Chain
+pub mod Gated
 pub mod Opened
 pub mod Exactly
 pub mod Sentences

@@ -1,13 +1,13 @@
 -- The start: which periods are taken, the clock that is started, and that no second answer fits.
 -- Assumes nothing.
-use Rattle.ground.proofs.Kit.{ℕ, _+_, _≤_, _<_, true, not, List, _≡_, sym, _∙_, ap, arith, length, getD, set, take, replicate, length-set, length-replicate}
+use Rattle.ground.proofs.Kit.{ℕ, _+_, _≤_, _<_, true, not, List, _≡_, refl, sym, _∙_, ap, arith, length, getD, set, take, replicate, length-set, length-replicate}
 use Rattle.ground.proofs.Kit.{le-leb, leb-true, lt-ltb, le-ltb}
 use lib.Seq.{take-length}
 use Rattle.ground.specs.First.{IsFirst}
-use Rattle.ground.specs.Padded.{padded}
+use Rattle.ground.specs.Laid.{padded}
 use Rattle.ground.proofs.Cases.{by-bool, by-le, true-false, both-true}
 use Rattle.ground.proofs.First.{first-is}
-use Rattle.ground.proofs.Padding.{padded-none, padded-more}
+use Rattle.ground.proofs.Laid.{padded-more}
 use Rattle.kinds.specs.declared.Refusal.the-variants.{TooManyTasks, BadPeriod}
 use Rattle.kinds.specs.Answer.{Handed, accepted, refused}
 use Rattle.kinds.specs.Limits.{longestPeriod, mostTasks}
@@ -82,7 +82,7 @@ pub record Column (xs out : List ℕ) (i : ℕ) : Type 0 where
   pub long : length out ≡ mostTasks
 
 pub column-none : (xs : List ℕ) → Column xs (replicate mostTasks 0) 0
-column-none xs = record { is = sym (padded-none 0 mostTasks); long = length-replicate {A = ℕ} mostTasks 0 }
+column-none xs = record { is = refl; long = length-replicate {A = ℕ} mostTasks 0 }
 
 pub column-more : (xs out : List ℕ) (i v : ℕ) → i < length xs → v ≡ getD xs i 0 → Column xs out i → Column xs (set out i v) (i + 1)
 column-more xs out i v l e w = record {

@@ -7,7 +7,7 @@ use lib.Dec.{leb, ltb}
 use lib.ListN.{length, getD, replicate}
 use Rattle.ground.specs.Choice.{both}
 use Rattle.ground.specs.First.{firstBelow}
-use Rattle.ground.specs.Padded.{padded}
+use Rattle.ground.specs.Laid.{padded}
 use Rattle.kinds.specs.declared.Refusal.the-variants.{TooManyTasks, BadPeriod}
 use Rattle.kinds.specs.Answer.{Handed, accepted, refused, check, handedWith}
 use Rattle.kinds.specs.Limits.{longestPeriod, mostTasks}

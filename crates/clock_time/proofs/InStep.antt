@@ -3,7 +3,7 @@
 use Rattle.ground.proofs.Kit.{ℕ, _+_, _%_, _≤_, _<_, max, List, [], _∷_, _≡_, refl, sym, _∙_, ap, arith, length, replicate, length-set, length-replicate}
 use Rattle.ground.proofs.Kit.{getD-replicate, getD-set-same, getD-set-other}
 use Rattle.ground.proofs.Cases.{by-eq}
-use Rattle.ground.proofs.Padding.{padded-long, padded-at}
+use Rattle.ground.proofs.Laid.{padded-long, padded-at}
 use Rattle.kinds.specs.Answer.{Handed, accepted}
 use Rattle.kinds.specs.Limits.{longestPeriod, mostTasks}
 use Rattle.clock.specs.declared.Clock.{Clock}

@@ -1,13 +1,12 @@
 -- The division gives the least passing step of a stretch whose first step fails and whose last one, the next saturation step, passes.
 -- Assumes nothing.
-use Rattle.ground.proofs.Kit.{ℕ, zero, suc, _+_, _-_, _*_, _≤_, _<_, max, min, Bool, true, false, _≡_, refl, sym, add-one, arith, le-leb, leb-true}
+use Rattle.ground.proofs.Kit.{ℕ, zero, suc, _+_, _-_, _*_, _≤_, _<_, max, min, Bool, true, false, _≡_, refl, add-one, arith, le-leb, leb-true}
 use mathlib.Core.Logic.{_↔_}
 use native.Mathlib.Nat.{min-eq-left, min-eq-right}
 use Rattle.ground.specs.Folds.{sumTo, maxTo}
 use Rattle.ground.specs.Least.{LeastAt, Rising}
 use Rattle.ground.proofs.Cases.{by-le, true-false, false-of}
-use Rattle.ground.proofs.Folds.{sum-none, sum-more, sum-line, term-le-sum}
-use Rattle.kinds.specs.Limits.{greatestElasticity}
+use Rattle.ground.proofs.Folds.{sum-line, term-le-sum}
 use Rattle.policy.specs.declared.Weights.{Weights}
 use Rattle.policy.specs.Sides.{left}
 use Rattle.policy.specs.Weighed.{weighed, weighedAt}
@@ -17,7 +16,6 @@ use Rattle.springs.specs.Spring.{shareOn, saturationOn, sharesOn, saturations}
 use Rattle.springs.proofs.Springs.{shares-fall}
 use Rattle.division.specs.Next.{Next}
 use Rattle.division.specs.Division.{slope, slopeSum, need, needTo, divided}
-use Rattle.division.specs.Handover.{FallIs}
 use Rattle.division.proofs.Lines.{share-line, slope-some, need-iff, need-flat, both-ways}
 
 need-to-iff : (w : Weights) (springs : ℕ → Spring) (p q j sum sum′ fall n : ℕ) → 0 < fall → sum ≡ sum′ + j * fall → p + j < q
@@ -31,7 +29,6 @@ need-to-iff w springs p q j sum sum′ fall (suc n) pos es l hq =
     (need-iff w sum sum′ _ _ fall _ j pos es (share-line (springs n) p q j (hq n (omega arith)) l))
 
 slope-within : (springs : ℕ → Spring) (n p i : ℕ) → i < n → slope (springs i) p ≤ slopeSum springs n p
-unfolding slopeSum
 slope-within springs n p i l = term-le-sum (λ i. slope (springs i) p) n i l
 
 -- where a saturation step is ahead, something falls
@@ -42,7 +39,7 @@ something-falls springs n p q x =
 -- inside a stretch the test holds from the needed step on
 stretch : (w : Weights) (springs : ℕ → Spring) (n p q j : ℕ) → Next (saturations springs) n p q → p + j < q
     → (needTo w springs p (sumTo (sharesOn springs p) n) (slopeSum springs n p) n ≤ j) ↔ (weighedAt w springs n (p + j) ≡ true)
-unfolding slopeSum weighed
+unfolding weighed
 stretch w springs n p q j x l =
     let t : _ ↔ _ =
     need-to-iff w springs p q j _ (sumTo (sharesOn springs (p + j)) n) _ n (something-falls springs n p q x)
@@ -85,16 +82,6 @@ unfolding divided
 divided-most w springs n p q = omega arith
 
 -- the walks of the division, where the code has i + 1
-pub fall-none : (springs : ℕ → Spring) (p : ℕ) → FallIs springs 0 p 0
-unfolding slopeSum
-fall-none springs p = record { is = sym (sum-none _); most = omega arith }
-
-pub fall-more : (springs : ℕ → Spring) (p i fall x : ℕ) → FallIs springs i p fall → x ≡ slope (springs i) p → x ≤ greatestElasticity
-    → FallIs springs (i + 1) p (fall + x)
-unfolding slopeSum
-fall-more springs p i fall x f e h =
-    record { is = omega (arith, sum-more (λ j. slope (springs j) p) i, f .is); most = omega (arith, f .most) }
-
 pub need-none : (w : Weights) (springs : ℕ → Spring) (p sum fall : ℕ) → needTo w springs p sum fall 0 ≡ need w sum fall 0 0
 unfolding needTo
 need-none w springs p sum fall = refl

@@ -14,7 +14,7 @@ use Rattle.springs.specs.Spring.{shareOn, saturationOn, sharesOn}
 unfoldable pub slope : Spring → ℕ → ℕ
 slope s p = pick (ltb p (saturationOn s)) (s .elasticity) 0
 
-unfoldable pub slopeSum : (ℕ → Spring) → ℕ → ℕ → ℕ
+abbrev pub slopeSum : (ℕ → Spring) → ℕ → ℕ → ℕ
 slopeSum springs n p = sumTo (λ i. slope (springs i) p) n
 
 -- the steps that are needed after p if the task with the share x and the slope d has the max; the sum falls by `fall`

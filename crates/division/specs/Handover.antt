@@ -3,6 +3,7 @@
 use Prim.Native.Nat.{ℕ, _-_, _*_, _≤_}
 use mathlib.Core.List.{List}
 use mathlib.Core.Path.{_≡_}
+use Rattle.ground.specs.Folds.{AddedUp}
 use Rattle.kinds.specs.Limits.{scale, greatestElasticity, mostTasks}
 use Rattle.policy.specs.declared.Weights.{Weights}
 use Rattle.policy.specs.Sides.{left}
@@ -12,12 +13,11 @@ use Rattle.springs.specs.Columns.{springIn}
 use Rattle.springs.specs.Handover.{Springy}
 use Rattle.division.specs.declared.Line.{Line}
 use Rattle.division.specs.Next.{Next}
-use Rattle.division.specs.Division.{slopeSum}
+use Rattle.division.specs.Division.{slope}
 
 -- by how much the sum of the shares falls
-pub record FallIs (springs : ℕ → Spring) (n p r : ℕ) : Type 0 where
-  pub is : r ≡ slopeSum springs n p
-  pub most : r ≤ greatestElasticity * n
+abbrev pub FallIs : (ℕ → Spring) → ℕ → ℕ → ℕ → Type 0
+FallIs springs n p r = AddedUp (λ i. slope (springs i) p) greatestElasticity n r
 
 -- a line whose division is safe
 pub record Falling (r : Line) : Type 0 where

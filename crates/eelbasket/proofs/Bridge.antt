@@ -1,7 +1,7 @@
 -- What the calls on a table tell of the table of the lent records, they tell of the records.
 -- Assumes nothing.
 use Rattle.ground.proofs.Kit.{ℕ, _≤_, _<_, min, Bool, true, false, List, _≡_, _∙_, length}
-use Rattle.ground.proofs.Padding.{padded-at}
+use Rattle.ground.proofs.Laid.{padded-at}
 use Rattle.kinds.specs.declared.Settings.{Settings}
 use Rattle.kinds.specs.declared.Task.{Task}
 use Rattle.kinds.specs.Limits.{mostTasks}

@@ -3,6 +3,8 @@
 use Rattle.ground.proofs.Kit.{ℕ, suc, _+_, _≤_, List, [], _∷_, _++_, _≡_, refl, sym, _∙_, ap, arith, length, set, drop, length-append}
 use native.Mathlib.Nat.{add-zero}
 use lib.Seq.{sets, sets-eq, length-sets}
+use Rattle.ground.specs.Folds.{joinTo}
+use Rattle.ground.proofs.Joins.{join-none, join-more, join-longer}
 use Rattle.field.specs.Handover.{stored, Put}
 
 sets-append : (out : List ℕ) (at : ℕ) (xs ys : List ℕ) → sets (sets out at xs) (at + length xs) ys ≡ sets out at (xs ++ ys)
@@ -48,6 +50,14 @@ put-long {out} {new} {at} {size} {next} {run} p = ap length (p .new-is) ∙ stor
 -- the size of a run, counted another way
 pub put-sized : {out new : List ℕ} {at m n next : ℕ} {run : List ℕ} → m ≡ n → Put out at m run next new → Put out at n run next new
 put-sized e p = rw (← e) p
+
+-- runs by number, joined: none yet, and one more
+pub put-no-run : (f : ℕ → List ℕ) (out : List ℕ) (at : ℕ) → Put out at (length (joinTo f 0)) (joinTo f 0) at out
+put-no-run f out at = rw (join-none f) (put-none out at)
+
+pub put-run : (f : ℕ → List ℕ) (i : ℕ) {out mid new : List ℕ} {at next end : ℕ} → Put out at (length (joinTo f i)) (joinTo f i) next mid
+    → Put mid next (length (f i)) (f i) end new → Put out at (length (joinTo f (i + 1))) (joinTo f (i + 1)) end new
+put-run f i p q = put-sized (sym (join-longer f i)) (rw (join-more f i) (put-then p q))
 
 -- a place 2 or 3 on, as `sets` counts it
 pub two-on : (at : ℕ) → at + 2 ≡ suc (suc at)

@@ -3,7 +3,8 @@
 use Rattle.ground.proofs.Kit.{[], _∷_, _≡_, refl}
 use Rattle.ground.specs.First.{firstFrom, firstBelow}
 use Rattle.ground.specs.Least.{leastUpTo}
-use Rattle.ground.specs.Folds.{sumTo, maxTo, listTo}
+use Rattle.ground.specs.Folds.{sumTo, maxTo, listTo, joinTo}
+use Rattle.ground.specs.Laid.{over}
 use Rattle.kinds.specs.Task.{isWithin, isGood}
 use Rattle.share.specs.Share.{shareAt, saturationAt, periodAt, loadAt}
 use Rattle.share.specs.Table.{fullCompression, firstBad, periodsAt, pricedRows}
@@ -13,7 +14,6 @@ use Rattle.outcome.specs.Plan.{processorsAt, found}
 use Rattle.plain_finder.specs.Asked.{asked}
 use Rattle.field.specs.Number.{numberAt, bytesOf}
 use Rattle.sheet.specs.Sections.{settingsFit, resultsFit}
-use Rattle.sheet.specs.Rows.{over}
 use Rattle.sheet.specs.Reading.{settingsCount, taskCount, resultCount, sheetIn, readRows, readSheet}
 use Rattle.writer.specs.Encode.{taskBytes, grantedBytes, rowsBytes, settingsBytes, encode}
 use Rattle.numeral.specs.Decimal.{digitsIn, decimal}
@@ -29,7 +29,7 @@ whole-case : filled
 unfolding
     filled planned plannedSheet withPlan resultsOf firstFrom firstBelow leastUpTo sumTo maxTo listTo isWithin isGood shareAt saturationAt periodAt loadAt
     fullCompression firstBad periodsAt pricedRows passes leastStep gate admission processorsAt found asked numberAt bytesOf settingsFit resultsFit
-    over settingsCount taskCount resultCount sheetIn readRows readSheet taskBytes grantedBytes rowsBytes settingsBytes encode
+    over settingsCount taskCount resultCount sheetIn readRows readSheet taskBytes grantedBytes rowsBytes joinTo settingsBytes encode
 whole-case = refl
 
 -- Ask 2: "A record with C + 2w above Tmin is refused by 6": the same case with three settings and w = 3
@@ -37,7 +37,7 @@ swap-refused : filled
     (3 ∷ 0 ∷ 1 ∷ 0 ∷ 1 ∷ 0 ∷ 3 ∷ 0 ∷ 1 ∷ 0 ∷ 6 ∷ 0 ∷ 0 ∷ 0 ∷ 10 ∷ 0 ∷ 0 ∷ 0 ∷ 20 ∷ 0 ∷ 0 ∷ 0 ∷ 232 ∷ 3 ∷ 0 ∷ 0 ∷ 0 ∷ 0 ∷ [])
     ≡ refusalLine 6 0
 unfolding
-    filled planned plannedSheet firstFrom firstBelow isWithin isGood firstBad gate admission found asked numberAt settingsFit resultsFit over settingsCount
+    filled planned plannedSheet firstFrom firstBelow isWithin isGood firstBad gate admission found asked numberAt settingsFit resultsFit listTo over settingsCount
     taskCount resultCount sheetIn readRows readSheet
 swap-refused = refl
 
@@ -46,7 +46,7 @@ notch-refused : filled
     (4 ∷ 0 ∷ 1 ∷ 0 ∷ 1 ∷ 0 ∷ 0 ∷ 0 ∷ 3 ∷ 0 ∷ 1 ∷ 0 ∷ 6 ∷ 0 ∷ 0 ∷ 0 ∷ 10 ∷ 0 ∷ 0 ∷ 0 ∷ 20 ∷ 0 ∷ 0 ∷ 0 ∷ 232 ∷ 3 ∷ 0 ∷ 0 ∷ 0 ∷ 0 ∷ [])
     ≡ refusalLine 6 0
 unfolding
-    filled planned plannedSheet firstFrom firstBelow isWithin isGood firstBad gate admission found asked numberAt settingsFit resultsFit over
+    filled planned plannedSheet firstFrom firstBelow isWithin isGood firstBad gate admission found asked numberAt settingsFit resultsFit listTo over
     settingsCount taskCount resultCount sheetIn readRows readSheet
 notch-refused = refl
 
@@ -56,7 +56,7 @@ edition-refused : filled
     ∷ 1 ∷ 0 ∷ 6 ∷ 0 ∷ 0 ∷ 0 ∷ 10 ∷ 0 ∷ 0 ∷ 0 ∷ 20 ∷ 0 ∷ 0 ∷ 0 ∷ 232 ∷ 3 ∷ 0 ∷ 0 ∷ 0 ∷ 0 ∷ [])
     ≡ refusalLine 2 0
 unfolding
-    filled planned plannedSheet gate admission found asked numberAt settingsFit resultsFit over settingsCount taskCount resultCount sheetIn readRows
+    filled planned plannedSheet gate admission found asked numberAt settingsFit resultsFit listTo over settingsCount taskCount resultCount sheetIn readRows
     readSheet
 edition-refused = refl
 

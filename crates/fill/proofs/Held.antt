@@ -1,8 +1,10 @@
 -- The numbers of a sheet that was read and planned fit their fields, so that it reads back as it is.
 -- Assumes nothing.
 use Rattle.ground.proofs.Kit.{ℕ, zero, suc, _+_, _*_, _≤_, _<_, true, List, _≡_, sym, _∙_, ap, arith, length, getD}
+use Rattle.ground.specs.Laid.{paddedTo}
 use Rattle.ground.proofs.Buffer.{list-in}
 use Rattle.ground.proofs.Cases.{by-bool, by-le}
+use Rattle.ground.proofs.Laid.{over-long, over-in, over-out, padded-to-long, padded-to-in, padded-to-out}
 use Rattle.kinds.specs.declared.Task.{Task}
 use Rattle.kinds.specs.declared.Granted.{Granted}
 use Rattle.kinds.specs.declared.Sheet.{Sheet}
@@ -25,9 +27,8 @@ use Rattle.outcome.proofs.Found.{Accepting, accepting}
 use Rattle.plain_finder.specs.Asked.{asked}
 use Rattle.field.specs.Number.{Bytes, u16At, numberAt, limit}
 use Rattle.sheet.specs.Sections.{settingSize, taskSize, numbersPlace, recordsPlace}
-use Rattle.sheet.specs.Rows.{taskAt, noGranted, paddedRows}
+use Rattle.sheet.specs.Rows.{taskAt, noGranted}
 use Rattle.sheet.specs.Reading.{settingsCount, taskCount, numbersIn, sheetIn}
-use Rattle.sheet.proofs.Padding.{over-long, over-in, over-out, padded-long, padded-in, padded-out}
 use Rattle.sheet.proofs.Whole.{Whole, few-settings}
 use Rattle.writer.specs.Canonical.{grantedIn, TaskHeld, GrantedHeld, SheetHeld}
 use Rattle.fill.specs.Results.{entryAt, resultsOf, planPeriods, planProcessors, withPlan}
@@ -40,9 +41,9 @@ number-held s bytes (suc size) place = omega (arith, bytes place, number-held s 
 
 -- what holds of each row that is used, and of an unused place, holds at each number
 rows-held : {A : Type 0} (P : A → Type 0) (none : A) (f : ℕ → A) (n : ℕ) → n ≤ mostTasks → P none → ((i : ℕ) → i < n → P (f i)) → (i : ℕ)
-    → P (getD (paddedRows none f n) i none)
+    → P (getD (paddedTo none mostTasks f n) i none)
 rows-held P none f n few unused used i =
-    by-le n i (λ h. rw (padded-out none f n i h) unused) (λ h. rw (padded-in none f n i h few) (used i h))
+    by-le n i (λ h. rw (padded-to-out none mostTasks f n i h) unused) (λ h. rw (padded-to-in none mostTasks f n i h few) (used i h))
 
 -- the results of a plan, and the unused places after them
 abbrev planAt : Sheet → ℕ → ℕ → Granted
@@ -50,11 +51,11 @@ planAt x k = entryAt (planPeriods x k) (planProcessors x k)
 
 pub plan-room : (x : Sheet) (k : ℕ) → length (withPlan x k .results .rows) ≡ mostTasks
 unfolding withPlan resultsOf
-plan-room x k = padded-long noGranted (planAt x k) (x .table .n)
+plan-room x k = padded-to-long noGranted mostTasks (planAt x k) (x .table .n)
 
 pub plan-unused : (x : Sheet) (k i : ℕ) → x .table .n ≤ i → grantedIn (withPlan x k) i ≡ noGranted
 unfolding withPlan resultsOf
-plan-unused x k i = padded-out noGranted (planAt x k) (x .table .n) i
+plan-unused x k i = padded-to-out noGranted mostTasks (planAt x k) (x .table .n) i
 
 module _ (x : Sheet) (k : ℕ) (few : x .table .n ≤ mostTasks) (e : asked x ≡ accepted k) where
   accepts : Accepting true (x .settings) (x .table .rows) (x .table .n) (x .table .n) k
@@ -137,7 +138,7 @@ planned-held s bytes w k e =
       settings = settings-held s bytes w;
       tasks = rows-held TaskHeld noTask tasks (taskCount s) (w .few)
           (record { c = omega arith; tmin = omega arith; tmax = omega arith; e = omega arith }) (λ i l. held i);
-      tasks-room = padded-long noTask tasks (taskCount s);
+      tasks-room = padded-to-long noTask mostTasks tasks (taskCount s);
       results = results-held (sheetIn s) k (w .few) e;
       results-room = plan-room (sheetIn s) k;
     }

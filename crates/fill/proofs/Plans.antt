@@ -2,8 +2,10 @@
 -- Assumes nothing.
 use Rattle.ground.proofs.Kit.{ℕ, _+_, _≤_, _<_, min, true, List, [], _++_, _≡_, refl, sym, _∙_, ap, ap₂, arith, eqb, length, getD, set, drop, eq-eqb}
 use lib.ListN.{List·getD-append}
+use Rattle.ground.specs.Laid.{paddedTo}
 use Rattle.ground.proofs.Buffer.{list-long}
 use Rattle.ground.proofs.Cases.{by-bool}
+use Rattle.ground.proofs.Laid.{over-more, over-cong}
 use Rattle.kinds.specs.declared.Granted.{Granted}
 use Rattle.kinds.specs.declared.Results.{Results}
 use Rattle.kinds.specs.declared.Sheet.{Sheet}
@@ -18,8 +20,7 @@ use Rattle.outcome.specs.Plan.{processorsAt, periodsAfter, processorsAfter, out
 use Rattle.plain_finder.specs.Asked.{asked}
 use Rattle.plain_finder.proofs.Asked.{asked-roomy}
 use Rattle.sheet.specs.Sections.{longestSheet, settingsFit, resultsFit}
-use Rattle.sheet.specs.Rows.{granted, noGranted, noResults, paddedRows}
-use Rattle.sheet.proofs.Padding.{over-more, over-cong}
+use Rattle.sheet.specs.Rows.{granted, noGranted, noResults}
 use Rattle.sheet.proofs.Stages.{settings-few}
 use Rattle.kinds.specs.declared.Counted.{Counted}
 use Rattle.writer.specs.Encode.{encode, lengthOf}
@@ -30,8 +31,8 @@ use Rattle.fill.specs.Results.{entryAt, resultsOf, planPeriods, planProc
 use Rattle.fill.specs.Fill.{plannedSheet, Fills}
 
 -- the rows of a results section, one by one
-module _ (periods processors : List ℕ) (rows : List Granted) (i : ℕ) (is : rows ≡ paddedRows noGranted (entryAt periods processors) i) where
-  pub rows-more : set rows i (entryAt periods processors i) ≡ paddedRows noGranted (entryAt periods processors) (i + 1)
+module _ (periods processors : List ℕ) (rows : List Granted) (i : ℕ) (is : rows ≡ paddedTo noGranted mostTasks (entryAt periods processors) i) where
+  pub rows-more : set rows i (entryAt periods processors i) ≡ paddedTo noGranted mostTasks (entryAt periods processors) (i + 1)
   rows-more = ap (λ (l : List Granted). set l i (entryAt periods processors i)) is ∙ sym (over-more noResults (entryAt periods processors) i)
 
   pub rows-done : (n : ℕ) → i ≡ n → record { rows = rows; n = n } ≡ resultsOf periods processors n

@@ -3,11 +3,13 @@
 use Prim.Native.Nat.{ℕ}
 use mathlib.Core.List.{List}
 use lib.ListN.{getD}
+use Rattle.ground.specs.Laid.{paddedTo}
 use Rattle.kinds.specs.declared.Granted.{Granted}
 use Rattle.kinds.specs.declared.Results.{Results}
 use Rattle.kinds.specs.declared.Sheet.{Sheet}
+use Rattle.kinds.specs.Limits.{mostTasks}
 use Rattle.outcome.specs.Plan.{periodsUnder, processorsUnder}
-use Rattle.sheet.specs.Rows.{granted, noGranted, paddedRows}
+use Rattle.sheet.specs.Rows.{granted, noGranted}
 
 -- entry i of the periods and of the processors
 abbrev pub entryAt : List ℕ → List ℕ → ℕ → Granted
@@ -15,7 +17,7 @@ entryAt periods processors i = granted (getD periods i 0) (getD processors i 0)
 
 -- their first n entries, and then unused places
 unfoldable pub resultsOf : List ℕ → List ℕ → ℕ → Results
-resultsOf periods processors n = record { rows = paddedRows noGranted (entryAt periods processors) n; n = n }
+resultsOf periods processors n = record { rows = paddedTo noGranted mostTasks (entryAt periods processors) n; n = n }
 
 -- the periods and the processors of a sheet's plan at step k
 abbrev pub planPeriods : Sheet → ℕ → List ℕ

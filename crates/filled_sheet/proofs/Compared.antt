@@ -3,6 +3,7 @@
 use Rattle.ground.proofs.Kit.{ℕ, _≤_, _<_, true, List, _≡_, sym, _∙_, ap, length, le-leb, lt-leb}
 use Rattle.ground.specs.First.{firstBelow}
 use Rattle.ground.proofs.First.{first-cong}
+use Rattle.ground.proofs.Laid.{padded-to-in}
 use Rattle.kinds.specs.declared.Sheet.{Sheet}
 use Rattle.kinds.specs.declared.Refusal.{Refusal}
 use Rattle.kinds.specs.declared.Refusal.the-variants.{NoResults, WrongResult}
@@ -14,7 +15,6 @@ use Rattle.kinds.proofs.Chain.{comes-first, goes-on}
 use Rattle.outcome.specs.Plan.{outcome, Meets}
 use Rattle.plain_finder.specs.Asked.{asked}
 use Rattle.sheet.specs.Rows.{noGranted}
-use Rattle.sheet.proofs.Padding.{padded-in}
 use Rattle.writer.specs.Canonical.{grantedIn}
 use Rattle.fill.specs.Results.{entryAt, resultsOf, planPeriods, planProcessors, withPlan}
 use Rattle.fill.proofs.Plans.{answers, entry-is}
@@ -24,7 +24,7 @@ use Rattle.filled_sheet.specs.Checked.{differ, unlike, differsAt, firstD
 pub planned-at : (x : Sheet) (k i : ℕ) → x .table .n ≤ mostTasks → i < x .table .n
     → grantedIn (withPlan x k) i ≡ entryAt (planPeriods x k) (planProcessors x k) i
 unfolding withPlan resultsOf
-planned-at x k i few l = padded-in noGranted (entryAt (planPeriods x k) (planProcessors x k)) (x .table .n) i l few
+planned-at x k i few l = padded-to-in noGranted mostTasks (entryAt (planPeriods x k) (planProcessors x k)) (x .table .n) i l few
 
 module _ (x : Sheet) (few : x .table .n ≤ mostTasks) (ps qs ps′ qs′ : List ℕ) (long-ps : length ps ≡ mostTasks) (long-qs : length qs ≡ mostTasks)
     (a : Answer) (m : Meets (outcome true (x .settings) (x .table .rows) (x .table .n) ps qs) a ps′ qs′) where

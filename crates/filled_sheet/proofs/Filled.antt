@@ -4,6 +4,7 @@
 use Rattle.ground.proofs.Kit.{ℕ, _≤_, List, _≡_, refl, sym, _∙_, ap, ap₂, arith, length}
 use lib.Seq.{ext-getD}
 use Rattle.ground.proofs.Cases.{by-le}
+use Rattle.ground.proofs.Laid.{padded-to-long, padded-to-out}
 use Rattle.kinds.specs.declared.Granted.{Granted}
 use Rattle.kinds.specs.declared.Sheet.{Sheet}
 use Rattle.kinds.specs.Limits.{mostTasks}
@@ -12,7 +13,6 @@ use Rattle.plain_finder.specs.Asked.{asked}
 use Rattle.field.specs.Number.{Bytes}
 use Rattle.sheet.specs.Rows.{noGranted}
 use Rattle.sheet.specs.Reading.{sheetIn, readSheet}
-use Rattle.sheet.proofs.Padding.{padded-long, padded-out}
 use Rattle.sheet.proofs.Whole.{whole, whole-accepted}
 use Rattle.writer.specs.Encode.{encode}
 use Rattle.writer.specs.Canonical.{grantedIn}
@@ -44,11 +44,11 @@ filled-accepted s bytes x read k e =
 -- the results of a sheet that agrees are those of its plan, the unused places included
 read-room : (s : List ℕ) (x : Sheet) → readSheet s ≡ accepted x → length (x .results .rows) ≡ mostTasks
 unfolding sheetIn
-read-room s x e = rw (whole s x e .1) (padded-long noGranted _ _)
+read-room s x e = rw (whole s x e .1) (padded-to-long noGranted mostTasks _ _)
 
 read-unused : (s : List ℕ) (x : Sheet) → readSheet s ≡ accepted x → (i : ℕ) → x .results .n ≤ i → grantedIn x i ≡ noGranted
 unfolding sheetIn
-read-unused s x e i = rw (whole s x e .1) (padded-out noGranted _ _ i)
+read-unused s x e i = rw (whole s x e .1) (padded-to-out noGranted mostTasks _ _ i)
 
 plan-counted : (x : Sheet) (k : ℕ) → x .table .n ≡ withPlan x k .results .n
 unfolding withPlan resultsOf

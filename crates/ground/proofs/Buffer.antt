@@ -2,7 +2,7 @@
 -- Assumes nothing.
 use Rattle.ground.proofs.Kit.{ℕ, zero, suc, _+_, _-_, _≤_, _<_, List, [], _∷_, _++_, append-nil, append-assoc, _≡_, refl, _∙_, ap, add-one, arith}
 use Rattle.ground.proofs.Kit.{length, getD, set, drop, length-set, length-append}
-use lib.Seq.{set-at, drop-cons, getD-at, getD-append-add, getD-drop}
+use lib.Seq.{set-at, drop-cons, getD-at, getD-append-add, getD-drop, ext-getD}
 use Rattle.ground.specs.Folds.{listTo}
 use Rattle.ground.proofs.Cases.{by-le}
 
@@ -35,6 +35,12 @@ list-at none f (suc n) i rest h =
 
 pub list-in : {A : Type 0} (none : A) (f : ℕ → A) (n i : ℕ) → i < n → getD (listTo f n) i none ≡ f i
 list-in none f n i l = rw (append-nil (listTo f n)) at (list-at none f n i [] l)
+
+-- all of a list
+pub list-all : {A : Type 0} (none : A) (xs : List A) → listTo (λ i. getD xs i none) (length xs) ≡ xs
+list-all {A} none xs =
+    let entry : ℕ → A = λ i. getD xs i none in
+    ext-getD none _ _ (list-long entry (length xs)) (λ i l. list-in none entry (length xs) i (rw (list-long entry (length xs)) at l))
 
 pub list-past : (f : ℕ → ℕ) (n i : ℕ) (old : List ℕ) → n ≤ i → getD (listTo f n ++ drop n old) i 0 ≡ getD old i 0
 list-past f n i old h =

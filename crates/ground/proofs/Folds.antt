@@ -2,7 +2,7 @@
 -- Assumes nothing.
 use Rattle.ground.proofs.Kit.{ℕ, zero, suc, _+_, _*_, _≤_, _<_, max, Bool, true, false, _≡_, refl, sym, _∙_, ap, add-one, arith}
 use Rattle.ground.specs.Choice.{bit}
-use Rattle.ground.specs.Folds.{sumTo, maxTo, countTo, anyTo}
+use Rattle.ground.specs.Folds.{sumTo, AddedUp, maxTo, countTo, anyTo}
 use Rattle.ground.proofs.Cases.{by-bool, by-le}
 
 -- sums
@@ -23,6 +23,13 @@ pub sum-most : (f : ℕ → ℕ) (n b : ℕ) → ((i : ℕ) → i < n → f i �
 unfolding sumTo
 sum-most f zero b h = omega arith
 sum-most f (suc n) b h = omega (arith, sum-most f n b (λ i l. h i (omega arith)), h n (omega arith))
+
+-- a walk that adds the terms up
+pub added-none : (f : ℕ → ℕ) (each : ℕ) → AddedUp f each 0 0
+added-none f each = record { is = sym (sum-none f); most = omega arith }
+
+pub added-more : (f : ℕ → ℕ) (each i sum x : ℕ) → AddedUp f each i sum → x ≡ f i → x ≤ each → AddedUp f each (i + 1) (sum + x)
+added-more f each i sum x s e h = record { is = omega (arith, sum-more f i, s .is, e); most = omega (arith, s .most, h) }
 
 pub term-le-sum : (f : ℕ → ℕ) (n i : ℕ) → i < n → f i ≤ sumTo f n
 unfolding sumTo

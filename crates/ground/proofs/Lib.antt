@@ -7,7 +7,8 @@ pub mod Sums
 pub mod Totals
 pub mod Products
 pub mod Buffer
-pub mod Padding
+pub mod Joins
+pub mod Laid
 pub mod First
 pub mod Least
 pub mod Halving

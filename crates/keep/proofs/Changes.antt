@@ -4,8 +4,7 @@
 use Rattle.ground.proofs.Kit.{ℕ, _+_, _-_, _≤_, _<_, Bool, true, false, List, _≡_, refl, sym, _∙_, ap, arith, eqb, leb, ltb, eq-eqb, ne-eqb, le-leb, lt-leb}
 use Rattle.ground.proofs.Kit.{leb-true, leb-false, lt-ltb, le-ltb, ltb-false}
 use borrow.Author.Tests.{eqb-false}
-use Rattle.ground.specs.Folds.{listTo}
-use Rattle.ground.specs.Padded.{padded}
+use Rattle.ground.specs.Laid.{paddedTo}
 use Rattle.kinds.specs.declared.Task.{Task}
 use Rattle.kinds.specs.declared.Table.{Table}
 use Rattle.kinds.specs.declared.Index.{Index}
@@ -182,7 +181,7 @@ freed-joins w q rows n place t e g =
 
 -- Ask 6: "with zeros past their ends after an accepted change", and "the index equals the one worked out afresh"
 pub record Settled (w : ℕ) (k : Kept) : Type 0 where
-  pub rows-are : k .table .rows ≡ padded noTask mostTasks (listTo (at (k .table .rows)) (k .table .n))
+  pub rows-are : k .table .rows ≡ paddedTo noTask mostTasks (at (k .table .rows)) (k .table .n)
   pub index-is : k .index ≡ indexUnder w (k .table .rows) (k .table .n)
 
 -- a task that has joined at the end and leaves again leaves what was kept
@@ -216,7 +215,7 @@ pub record Sound (w : ℕ) (old : Kept) (h : Handed Kept) : Type 0 where
   pub kept : (h .number ≡ 0 → ⊥) → h .value ≡ old
 
 changed-sound : (w : ℕ) (v : Verdict) (old : Kept) (rows : List Task) (n : ℕ)
-    → (v ≡ Accepted → rows ≡ padded noTask mostTasks (listTo (at rows) n)) → Sound w old (changed v old (fresh w rows n))
+    → (v ≡ Accepted → rows ≡ paddedTo noTask mostTasks (at rows) n) → Sound w old (changed v old (fresh w rows n))
 changed-sound w Accepted old rows n e = record { settled = λ z. record { rows-are = e refl; index-is = refl }; kept = λ d. absurd (d refl) }
 changed-sound w (Refused r) old rows n e = record { settled = λ z. absurd (omega (arith, refusal-numbered r)); kept = λ d. refl }
 

@@ -3,6 +3,7 @@
 use Rattle.ground.proofs.Kit.{_∷_, _≡_, refl, replicate}
 use Rattle.ground.specs.First.{firstFrom, firstBelow}
 use Rattle.ground.specs.Folds.{countTo, listTo}
+use Rattle.ground.specs.Laid.{over}
 use Rattle.kinds.specs.declared.Task.{Task}
 use Rattle.kinds.specs.declared.Refusal.the-variants.{Misset, BadRecord, NoSuchRecord}
 use Rattle.kinds.specs.Answer.{accepted, refused}
@@ -29,7 +30,7 @@ joins : joined 0 1 found slow ≡ accepted (record {
   table = table (slow ∷ fast ∷ slow ∷ replicate 29 noTask) 3;
   index = record { entries = 1 ∷ 0 ∷ 2 ∷ replicate 29 0; n = 3 };
 })
-unfolding slow fast found joined mayJoin joinedRows firstBad isGood isWithin firstBelow firstFrom indexBy listTo ofRank rankOf countTo saturationAt pricedRows
+unfolding slow fast found joined mayJoin joinedRows firstBad isGood isWithin firstBelow firstFrom indexBy listTo over ofRank rankOf countTo saturationAt pricedRows
 joins = refl
 
 -- the first leaves: the second moves down, and zeros stand past it
@@ -37,12 +38,12 @@ leaves : left 0 1 found 0 ≡ accepted (record {
   table = table (fast ∷ replicate 31 noTask) 1;
   index = record { entries = replicate 32 0; n = 1 };
 })
-unfolding slow fast found left mayLeave leftRows firstBad isGood isWithin firstBelow firstFrom indexBy listTo ofRank rankOf countTo saturationAt pricedRows
+unfolding slow fast found left mayLeave leftRows firstBad isGood isWithin firstBelow firstFrom indexBy listTo over ofRank rankOf countTo saturationAt pricedRows
 leaves = refl
 
 -- refused changes alter nothing
 bad-joins : joined 0 1 found noTask ≡ refused found (BadRecord 2)
-unfolding slow fast found joined mayJoin joinedRows firstBad isGood isWithin firstBelow firstFrom listTo
+unfolding slow fast found joined mayJoin joinedRows firstBad isGood isWithin firstBelow firstFrom listTo over
 bad-joins = refl
 
 missing-leaves : left 0 1 found 2 ≡ refused found (NoSuchRecord 2)

@@ -1,15 +1,13 @@
 -- The records after a join and after a leave: which stand where, zeros past them, and which of them is the first bad one.
 -- Assumes nothing.
-use Rattle.ground.proofs.Kit.{ℕ, _+_, _-_, _≤_, _<_, true, false, not, List, _≡_, refl, sym, _∙_, ap, arith, length, set, lt-ltb, le-ltb}
-use Rattle.ground.specs.Folds.{listTo}
-use Rattle.ground.specs.Padded.{padded}
-use Rattle.ground.proofs.Buffer.{list-cong}
+use Rattle.ground.proofs.Kit.{ℕ, _+_, _-_, _≤_, _<_, true, false, not, List, _≡_, refl, sym, _∙_, ap, arith, length, set, length-replicate, lt-ltb, le-ltb}
+use Rattle.ground.specs.Laid.{paddedTo}
 use Rattle.ground.proofs.Cases.{by-le}
 use Rattle.ground.proofs.First.{first-unique, first-none}
-use Rattle.ground.proofs.Padding.{padded-long, padded-next, padded-in, padded-out}
+use Rattle.ground.proofs.Laid.{over-none, over-more, over-cong, padded-to-long, padded-to-in, padded-to-out}
 use Rattle.kinds.specs.declared.Task.{Task}
 use Rattle.kinds.specs.Limits.{mostTasks}
-use Rattle.kinds.specs.Task.{at, noTask, priced, isGood}
+use Rattle.kinds.specs.Task.{at, noTask, noTasks, priced, isGood}
 use Rattle.share.specs.Table.{firstBad, pricedRows}
 use Rattle.share.proofs.Tables.{priced-at, first-bad-is}
 use Rattle.order.specs.Gone.{leftFrom}
@@ -18,51 +16,50 @@ use Rattle.keep.specs.Keep.{joinedRow, leftRow, joinedRows, leftRows}
 
 -- rows with zeros past them are their own first n, with zeros past them
 padded-again : (f : ℕ → Task) (n : ℕ) → n ≤ mostTasks
-    → padded noTask mostTasks (listTo f n) ≡ padded noTask mostTasks (listTo (at (padded noTask mostTasks (listTo f n))) n)
+    → paddedTo noTask mostTasks f n ≡ paddedTo noTask mostTasks (at (paddedTo noTask mostTasks f n)) n
 padded-again f n few =
-    ap (padded noTask mostTasks)
-    (list-cong f (at (padded noTask mostTasks (listTo f n))) n (λ i l. sym (padded-in noTask mostTasks f n i l few)))
+    over-cong noTasks f (at (paddedTo noTask mostTasks f n)) n (λ i l. sym (padded-to-in noTask mostTasks f n i l few))
 
 -- the walk that copies the records without one of them
 pub record Copied (f : ℕ → Task) (n : ℕ) (rows : List Task) (i : ℕ) : Type 0 where
   pub at-most : i ≤ n
-  pub is : rows ≡ padded noTask mostTasks (listTo f i)
+  pub is : rows ≡ paddedTo noTask mostTasks f i
   pub long : length rows ≡ mostTasks
 
-pub copied-none : (f : ℕ → Task) (n : ℕ) (rows : List Task) → rows ≡ padded noTask mostTasks (listTo f 0) → Copied f n rows 0
-copied-none f n rows e = record { at-most = omega arith; is = e; long = ap length e ∙ padded-long noTask mostTasks (listTo f 0) }
+pub copied-none : (f : ℕ → Task) (n : ℕ) → Copied f n noTasks 0
+copied-none f n = record { at-most = omega arith; is = sym (over-none noTasks f); long = length-replicate mostTasks noTask }
 
 pub copied-more : (f : ℕ → Task) (n : ℕ) (rows : List Task) (i : ℕ) (t : Task) → Copied f n rows i → i < n → t ≡ f i → Copied f n (set rows i t) (i + 1)
 copied-more f n rows i t w l e =
-    let q : set rows i t ≡ padded noTask mostTasks (listTo f (i + 1)) = rw (w .is, e) (sym (padded-next noTask mostTasks f i)) in
-    record { at-most = omega arith; is = q; long = ap length q ∙ padded-long noTask mostTasks (listTo f (i + 1)) }
+    let q : set rows i t ≡ paddedTo noTask mostTasks f (i + 1) = rw (w .is, e) (sym (over-more noTasks f i)) in
+    record { at-most = omega arith; is = q; long = ap length q ∙ padded-to-long noTask mostTasks f (i + 1) }
 
 module _ (rows : List Task) (n : ℕ) (t : Task) where
   last-is : joinedRow rows n t n ≡ t
   last-is = let h : n ≤ n = omega arith in rw (le-ltb n n h)
 
   -- a task put after the records
-  pub joined-is : set (padded noTask mostTasks (listTo (leftRow rows n) n)) n t ≡ joinedRows rows n t
+  pub joined-is : set (paddedTo noTask mostTasks (leftRow rows n) n) n t ≡ joinedRows rows n t
   unfolding joinedRows
   joined-is =
-      let e = list-cong (leftRow rows n) (joinedRow rows n t) n (λ i l. rw (lt-ltb i n l)) in
-      rw (e, padded-next noTask mostTasks (joinedRow rows n t) n, last-is)
+      let e = over-cong noTasks (leftRow rows n) (joinedRow rows n t) n (λ i l. rw (lt-ltb i n l)) in
+      rw (e, over-more noTasks (joinedRow rows n t) n, last-is)
 
   module _ (few : n < mostTasks) where
     -- Ask 6: "A task joins at the end of the table"
     pub joined-keeps : (i : ℕ) → i < n → at (joinedRows rows n t) i ≡ at rows i
     unfolding joinedRows
-    joined-keeps i l = padded-in noTask mostTasks (joinedRow rows n t) (n + 1) i (omega arith) (omega arith) ∙ rw (lt-ltb i n l)
+    joined-keeps i l = padded-to-in noTask mostTasks (joinedRow rows n t) (n + 1) i (omega arith) (omega arith) ∙ rw (lt-ltb i n l)
 
     pub joined-last : at (joinedRows rows n t) n ≡ t
     unfolding joinedRows
-    joined-last = padded-in noTask mostTasks (joinedRow rows n t) (n + 1) n (omega arith) (omega arith) ∙ last-is
+    joined-last = padded-to-in noTask mostTasks (joinedRow rows n t) (n + 1) n (omega arith) (omega arith) ∙ last-is
 
     pub joined-past : (i : ℕ) → n < i → at (joinedRows rows n t) i ≡ noTask
     unfolding joinedRows
-    joined-past i h = padded-out noTask mostTasks (joinedRow rows n t) (n + 1) i (omega arith) (omega arith)
+    joined-past i h = padded-to-out noTask mostTasks (joinedRow rows n t) (n + 1) i (omega arith)
 
-    pub joined-padded : joinedRows rows n t ≡ padded noTask mostTasks (listTo (at (joinedRows rows n t)) (n + 1))
+    pub joined-padded : joinedRows rows n t ≡ paddedTo noTask mostTasks (at (joinedRows rows n t)) (n + 1)
     unfolding joinedRows
     joined-padded = padded-again (joinedRow rows n t) (n + 1) (omega arith)
 
@@ -110,7 +107,7 @@ module _ (rows : List Task) (n : ℕ) (t : Task) where
 module _ (rows : List Task) (n place : ℕ) (few : n ≤ mostTasks) where
   pub left-at : (i : ℕ) → i < n - 1 → at (leftRows rows n place) i ≡ at rows (leftFrom place i)
   unfolding leftRows
-  left-at i l = padded-in noTask mostTasks (leftRow rows place) (n - 1) i l (omega arith)
+  left-at i l = padded-to-in noTask mostTasks (leftRow rows place) (n - 1) i l (omega arith)
 
   -- Ask 6: "leaves from any place, and later records move down by one"
   pub left-before : (i : ℕ) → i < n - 1 → i < place → at (leftRows rows n place) i ≡ at rows i
@@ -121,9 +118,9 @@ module _ (rows : List Task) (n place : ℕ) (few : n ≤ mostTasks) where
 
   pub left-past : (i : ℕ) → n - 1 ≤ i → at (leftRows rows n place) i ≡ noTask
   unfolding leftRows
-  left-past i h = padded-out noTask mostTasks (leftRow rows place) (n - 1) i (omega arith) h
+  left-past i h = padded-to-out noTask mostTasks (leftRow rows place) (n - 1) i h
 
-  pub left-padded : leftRows rows n place ≡ padded noTask mostTasks (listTo (at (leftRows rows n place)) (n - 1))
+  pub left-padded : leftRows rows n place ≡ paddedTo noTask mostTasks (at (leftRows rows n place)) (n - 1)
   unfolding leftRows
   left-padded = padded-again (leftRow rows place) (n - 1) (omega arith)
 
@@ -148,12 +145,12 @@ module _ (rows : List Task) (n place : ℕ) (few : n ≤ mostTasks) where
 
 -- what joined last and leaves again leaves the records that were there, with zeros past them
 pub joined-left : (rows : List Task) (n : ℕ) (t : Task) → n < mostTasks
-    → leftRows (joinedRows rows n t) (n + 1) n ≡ padded noTask mostTasks (listTo (at rows) n)
+    → leftRows (joinedRows rows n t) (n + 1) n ≡ paddedTo noTask mostTasks (at rows) n
 unfolding leftRows
 joined-left rows n t few =
     let e : n + 1 - 1 ≡ n = omega arith in
     rw (
       e,
-      list-cong (leftRow (joinedRows rows n t) n) (at rows) n
+      over-cong noTasks (leftRow (joinedRows rows n t) n) (at rows) n
           (λ i l. ap (at (joinedRows rows n t)) (sym (from-before n i l)) ∙ joined-keeps rows n t few i l),
     )

@@ -4,8 +4,7 @@ use Prim.Native.Nat.{ℕ, _+_, _-_}
 use mathlib.Core.List.{List}
 use lib.Dec.{eqb, leb, ltb}
 use Rattle.ground.specs.Choice.{pick}
-use Rattle.ground.specs.Folds.{listTo}
-use Rattle.ground.specs.Padded.{padded}
+use Rattle.ground.specs.Laid.{paddedTo}
 use Rattle.kinds.specs.declared.Task.{Task}
 use Rattle.kinds.specs.declared.Table.{Table}
 use Rattle.kinds.specs.declared.Index.{Index}
@@ -38,10 +37,10 @@ leftRow rows place i = at rows (leftFrom place i)
 
 -- the records afterwards, "with zeros past their ends"
 unfoldable pub joinedRows : List Task → ℕ → Task → List Task
-joinedRows rows n t = padded noTask mostTasks (listTo (joinedRow rows n t) (n + 1))
+joinedRows rows n t = paddedTo noTask mostTasks (joinedRow rows n t) (n + 1)
 
 unfoldable pub leftRows : List Task → ℕ → ℕ → List Task
-leftRows rows n place = padded noTask mostTasks (listTo (leftRow rows place) (n - 1))
+leftRows rows n place = paddedTo noTask mostTasks (leftRow rows place) (n - 1)
 
 -- "q = 0 is refused by 2 first"; "a join to 32 tasks, or any change of a table said to hold more, is refused by 3 at that count; then a
 -- bad record, in the table or (at the count) joining, by 6"

@@ -8,9 +8,9 @@ use kinds::Verdict;
 use springs::Columns;
 ghost use mathlib.Core.Path.{_≡_};
 ghost use Prim.Native.Nat.{_+_, _≤_, _<_};
-ghost use Rattle.ground.specs.Folds.{listTo};
+ghost use Rattle.ground.specs.Laid.{paddedTo};
 ghost use Rattle.kinds.specs.Limits.{mostTasks};
-ghost use Rattle.kinds.specs.Task.{table, tableWith};
+ghost use Rattle.kinds.specs.Task.{noTask, table};
 ghost use Rattle.kinds.specs.Answer.{accepted, refused};
 ghost use Rattle.keep.specs.Keep.{kept, leftRow, joinedRows, joined, left, handedChange};
 
@@ -50,7 +50,7 @@ fn accept(table: Table, index: Index) -> Changed
 // The first n records of a table without the one at a place, and zeros past them.
 fn without(old: Table, place: usize, n: usize) -> Table
     requires { ⌜ (n ≤ mostTasks) × (place < n → n < mostTasks) ⌝ }
-    ensures { λ r. ⌜ r ≡ tableWith (listTo (leftRow (old .rows) place) n) n ⌝ }
+    ensures { λ r. ⌜ r ≡ table (paddedTo noTask mostTasks (leftRow (old .rows) place) n) n ⌝ }
 {
     let mut rows = [Task::NONE; Table::MOST_TASKS];
     for i in 0..n {

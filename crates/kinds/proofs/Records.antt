@@ -3,7 +3,7 @@
 -- Assumes nothing.
 use Rattle.ground.proofs.Kit.{ℕ, _+_, _*_, _≤_, true, List, _≡_, arith, length, eq-eqb, eqb-true, le-leb, leb-true}
 use Rattle.ground.proofs.Cases.{both-true}
-use Rattle.ground.proofs.Padding.{padded-at}
+use Rattle.ground.proofs.Laid.{padded-at}
 use Rattle.kinds.specs.declared.Task.{Task}
 use Rattle.kinds.specs.Limits.{mostTasks}
 use Rattle.kinds.specs.Task.{noTask, at, tableOf, priced, Good, OnNotch, isWithin, isOnNotch, isGood}

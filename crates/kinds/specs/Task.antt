@@ -5,9 +5,9 @@ use mathlib.Core.Bool.{Bool}
 use mathlib.Core.List.{List}
 use mathlib.Core.Path.{_≡_}
 use lib.Dec.{leb, eqb}
-use lib.ListN.{length, getD}
+use lib.ListN.{length, getD, replicate}
 use Rattle.ground.specs.Choice.{both}
-use Rattle.ground.specs.Padded.{padded}
+use Rattle.ground.specs.Laid.{padded}
 use Rattle.kinds.specs.declared.Task.{Task}
 use Rattle.kinds.specs.declared.Table.{Table}
 use Rattle.kinds.specs.Limits.{longestPeriod, greatestElasticity, mostTasks}
@@ -18,6 +18,10 @@ task c tmin tmax e = record { c = c; tmin = tmin; tmax = tmax; e = e }
 -- an unused place
 abbrev pub noTask : Task
 noTask = task 0 0 0 0
+
+-- a table's places, none of them used
+abbrev pub noTasks : List Task
+noTasks = replicate mostTasks noTask
 
 -- the record number i
 abbrev pub at : List Task → ℕ → Task

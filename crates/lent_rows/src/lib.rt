@@ -4,10 +4,10 @@ ghost use mathlib.Core.List.{[]};
 ghost use mathlib.Core.Path.{_≡_};
 ghost use Prim.Native.Nat.{_≤_, min};
 ghost use lib.ListN.{length};
+ghost use Rattle.ground.specs.Laid.{over};
 ghost use Rattle.kinds.specs.Limits.{mostTasks};
-ghost use Rattle.kinds.specs.Task.{tableOf, tableWith};
+ghost use Rattle.kinds.specs.Task.{at, tableOf, tableWith};
 ghost use Rattle.wide_task.specs.WideTask as wide;
-ghost use Rattle.lent_rows.specs.Handover.{filled};
 use kinds::Table;
 use kinds::Task;
 use wide_task::WideTable;
@@ -73,7 +73,7 @@ pub fn gather_wide(rows: &[WideTask]) -> WideTable
 // The rows of a table that count, into the front of a lent slice, and nothing past them.
 pub fn scatter(table: Table, out: &mut [Task])
     requires { ⌜ (table .n ≤ mostTasks) × (table .n ≤ length (now out)) ⌝ }
-    ensures { λ _. ⌜ now (out .exit) ≡ filled (table .rows) (now (out .entry)) (table .n) ⌝ }
+    ensures { λ _. ⌜ now (out .exit) ≡ over (now (out .entry)) (at (table .rows)) (table .n) ⌝ }
 {
     let n = table.n;
     let mut i: usize = 0;

@@ -3,6 +3,7 @@
 use Rattle.ground.proofs.Kit.{ℕ, _≤_, _<_, List, [], _++_, append-nil, _≡_, refl, sym, _∙_, ap, ap₂, arith, length, drop, ne-eqb, lt-ltb, le-ltb}
 use lib.ListN.{drop-of-length-le}
 use Rattle.ground.proofs.Cases.{by-le}
+use Rattle.ground.proofs.Joins.{join-cong}
 use Rattle.kinds.specs.declared.Task.{Task}
 use Rattle.kinds.specs.declared.Table.{Table}
 use Rattle.kinds.specs.declared.Refusal.{Refusal}
@@ -18,12 +19,11 @@ use Rattle.field.proofs.Stores.{stored-front}
 use Rattle.kinds.specs.declared.Counted.{Counted}
 use Rattle.kinds.specs.declared.Counted.the-variants.{Count, Refused}
 use Rattle.office.specs.declared.Imported.{Imported}
-use Rattle.office.specs.Text.{textTo}
+use Rattle.office.specs.Text.{lineOf, rowLine, textTo}
 use Rattle.office.specs.Reading.{Rows, Not, readText, rowsOf}
 use Rattle.office.specs.Carrying.{carry, importHanded, exportHanded, afterCarry, Imports, Exports, Reads}
 use Rattle.office.specs.Handover.{importedNot}
 use Rattle.office.proofs.Lines.{Going, going-end}
-use Rattle.office.proofs.Texts.{text-same}
 
 -- a refused call leaves what it was lent
 pub after-refused : {A : Type 0} (r : Refusal) (new old : List A) → afterCarry (refused 0 r) new old ≡ old
@@ -142,21 +142,15 @@ read-one text room r q a b =
 
 -- ---- rows that agree as far as they count are exported alike
 module _ (rows other : List Task) (n : ℕ) (agree : n ≤ mostTasks → (i : ℕ) → i < n → at rows i ≡ at other i) where
+  text-same : ((i : ℕ) → i < n → at rows i ≡ at other i) → textTo rows n ≡ textTo other n
+  text-same same = join-cong (rowLine rows) (rowLine other) n (λ i l. ap lineOf (same i l))
+
   pub handed-same : (room : ℕ) → exportHanded rows n room ≡ exportHanded other n room
-  handed-same room =
-      by-le n mostTasks
-      (λ h.
-      let e : length (textTo other n) ≡ length (textTo rows n) = ap length (sym (text-same rows other n (agree h))) in
-      few-of rows n room h (length (textTo rows n)) refl ∙ sym (few-of other n room h (length (textTo rows n)) (sym e)))
-      (λ h. many-of rows n room h ∙ sym (many-of other n room h))
+  unfolding exportHanded
+  handed-same room = by-le n mostTasks (λ h. rw (text-same (agree h))) (λ h. rw (lt-ltb mostTasks n h))
 
   pub after-same : (old : List ℕ)
       → afterCarry (exportHanded rows n (length old)) (textTo rows n) old
       ≡ afterCarry (exportHanded other n (length old)) (textTo other n) old
-  after-same old =
-      by-le n mostTasks
-      (λ h. rw (handed-same (length old), text-same rows other n (agree h)))
-      (λ h.
-      let x = many-of rows n (length old) h in
-      let y = many-of other n (length old) h in
-      rw (x, y) (after-refused (TooManyTasks n) (textTo rows n) old ∙ sym (after-refused (TooManyTasks n) (textTo other n) old)))
+  unfolding exportHanded
+  after-same old = by-le n mostTasks (λ h. rw (text-same (agree h))) (λ h. rw (lt-ltb mostTasks n h))

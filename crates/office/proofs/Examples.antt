@@ -1,11 +1,12 @@
 -- Texts read and written by computation over the definitions, as one table under one claim. Assumes nothing.
 use Rattle.ground.proofs.Kit.{ℕ, zero, suc, List, [], _∷_, _++_, _≡_, refl}
+use Rattle.ground.specs.Folds.{joinTo}
 use Rattle.kinds.specs.declared.Task.{Task}
 use Rattle.kinds.specs.declared.Refusal.the-variants.{TooManyTasks, BadLine}
 use Rattle.kinds.specs.Task.{task, noTask}
 use Rattle.numeral.specs.Decimal.{decimal, digitsIn}
 use Rattle.numeral.specs.Scan.{digits, valueFrom, plain, numberAt, numeralAt}
-use Rattle.office.specs.Text.{numberThen, lineOf, textTo, textOf}
+use Rattle.office.specs.Text.{numberThen, lineOf, textOf}
 use Rattle.office.specs.Reading.{Reading, Rows, Not, lineAt, readFrom, readText}
 
 record Case : Type 0 where
@@ -69,5 +70,5 @@ all-read = (refl, (refl, (refl, (refl, (refl, (refl, (refl, (refl, (refl, (refl,
 
 -- the text of one task
 pub one-line : textOf (task 6 10 20 1000 ∷ []) ≡ 54 ∷ 44 ∷ 49 ∷ 48 ∷ 44 ∷ 50 ∷ 48 ∷ 44 ∷ 49 ∷ 48 ∷ 48 ∷ 48 ∷ 10 ∷ []
-unfolding textTo lineOf numberThen decimal digitsIn
+unfolding joinTo lineOf numberThen decimal digitsIn
 one-line = refl

@@ -1,12 +1,13 @@
 -- The ways through a line and through a text, and the turns of an import.
 -- Assumes nothing.
 use Rattle.ground.proofs.Kit.{ℕ, zero, suc, _+_, _-_, _≤_, _<_, List, [], _∷_, _++_, _≡_, refl, sym, _∙_, ap, arith, length, set, length-append, lt-ltb}
-use Rattle.ground.proofs.Kit.{le-ltb}
+use Rattle.ground.proofs.Kit.{replicate, le-ltb}
+use Rattle.ground.specs.Laid.{padded}
+use Rattle.ground.proofs.Laid.{laid-next}
 use Rattle.kinds.specs.declared.Task.{Task}
 use Rattle.kinds.specs.declared.Refusal.the-variants.{TooManyTasks, BadLine}
 use Rattle.kinds.specs.Limits.{mostTasks}
 use Rattle.kinds.specs.Task.{task, noTask}
-use Rattle.ground.specs.Padded.{padded}
 use Rattle.numeral.specs.declared.Numeral.the-variants as numeral
 use Rattle.numeral.specs.Scan.{numeralAt}
 use Rattle.office.specs.declared.Line.the-variants as line
@@ -58,12 +59,6 @@ module _ (rows : List Task) (s : List ℕ) (at : ℕ) where
   unfolding readFrom
   from-more more h t next e = rw (lt-ltb at (length s) h, e)
 
--- the next row of a padded list
-pub padded-next : {A : Type 0} (none : A) (k : ℕ) (xs : List A) (x : A) → set (padded none k xs) (length xs) x ≡ padded none k (xs ++ (x ∷ []))
-padded-next none zero xs x = refl
-padded-next none (suc k) [] x = refl
-padded-next {A} none (suc k) (y ∷ ys) x = ap (λ (zs : List A). y ∷ zs) (padded-next none k ys x)
-
 -- an import that has read some rows and come to a place: what is left of the text gives the whole reading
 pub record Going (s : List ℕ) (array : List Task) (at n : ℕ) : Type 0 where
   pub rows : List Task
@@ -107,5 +102,5 @@ module _ (s : List ℕ) (array : List Task) (at n : ℕ) (g : Going s array at n
           placed =
               ap (λ (l : List Task). set l n t) (g .placed)
               ∙ (ap (λ (k : ℕ). set (padded noTask mostTasks (g .rows)) k t) (sym (g .count))
-              ∙ padded-next noTask mostTasks (g .rows) t);
+              ∙ laid-next (g .rows) (replicate mostTasks noTask) t);
         }

@@ -1,8 +1,9 @@
 -- Document 02, Ask 11: the text of a table. "`6,10,20,1000` and the newline is the whole text for one such task."
 -- Assumes nothing.
-use Prim.Native.Nat.{ℕ, zero, suc, _+_, _*_, _≤_}
+use Prim.Native.Nat.{ℕ, _+_, _*_, _≤_}
 use mathlib.Core.List.{List, [], _∷_, _++_}
 use lib.ListN.{length}
+use Rattle.ground.specs.Folds.{joinTo}
 use Rattle.kinds.specs.declared.Task.{Task}
 use Rattle.kinds.specs.Limits.{mostTasks}
 use Rattle.kinds.specs.Task.{at}
@@ -26,10 +27,13 @@ lineOf t =
     numberThen (t .c) comma
     ++ (numberThen (t .tmin) comma ++ (numberThen (t .tmax) comma ++ numberThen (t .e) newline))
 
+-- the line of row i
+abbrev pub rowLine : List Task → ℕ → List ℕ
+rowLine rows i = lineOf (at rows i)
+
 -- the lines of the first n rows, in order
-unfoldable pub textTo : List Task → ℕ → List ℕ
-textTo rows zero = []
-textTo rows (suc n) = textTo rows n ++ lineOf (at rows n)
+abbrev pub textTo : List Task → ℕ → List ℕ
+textTo rows n = joinTo (rowLine rows) n
 
 abbrev pub textOf : List Task → List ℕ
 textOf rows = textTo rows (length rows)

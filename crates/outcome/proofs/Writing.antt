@@ -1,20 +1,14 @@
 -- What an answer leaves in the two lent outputs.
 -- Assumes nothing.
 use Rattle.ground.proofs.Kit.{ℕ, true, false, List, _++_, _≡_, refl, sym, _∙_, ap, arith, drop, ne-eqb}
-use Rattle.ground.specs.Folds.{listTo}
 use Rattle.ground.proofs.Cases.{by-bool, true-false}
 use Rattle.kinds.specs.declared.Settings.{Settings}
 use Rattle.kinds.specs.declared.Answer.{Answer}
 use Rattle.kinds.specs.declared.Answer.the-variants.{Accepted, Refused}
-use Rattle.kinds.specs.declared.Refusal.{Refusal}
-use Rattle.kinds.specs.Answer.{handed, isAccepted, after}
-use Rattle.kinds.specs.Policy.{meant}
+use Rattle.kinds.specs.Answer.{handed, isAccepted, stepOf, after}
 use Rattle.kinds.specs.Refusal.{numberOf}
 use Rattle.kinds.proofs.Refusals.{refusal-numbered}
-use Rattle.springs.specs.declared.Spring.{Spring}
-use Rattle.springs.specs.Spring.{periodsOn, loadsOn}
-use Rattle.outcome.specs.Plan.{processorOn}
-use Rattle.outcome.specs.Handover.{MayGrant, Grantable, Leaves}
+use Rattle.outcome.specs.Handover.{MayGrant, Grantable, Written}
 
 -- a refused call writes nothing
 pub written-kept : (a : Answer) (front : List ℕ) (n : ℕ) (old : List ℕ) → isAccepted a ≡ false → after (handed a) front n old ≡ old
@@ -35,18 +29,19 @@ module _ (answer : Answer) (s : Settings) (n : ℕ) where
       let at-step : MayGrant (Accepted k) s block n a b = rw e at may in
       at-step refl
 
-  module _ (springs : ℕ → Spring) (periods processors : List ℕ) where
-    pub leaves-refused : (r : Refusal) → answer ≡ Refused r → Leaves (handed answer) s springs n periods processors periods processors
-    leaves-refused r e =
-        let placed = listTo (processorOn (meant (s .policy)) (s .m) (loadsOn s springs 0)) n in
-        rw e
-        (record {
-          periods-are = sym (written-kept (Refused r) (listTo (periodsOn (s .notch) springs 0) n) n periods refl);
-          processors-are = sym (written-kept (Refused r) placed n processors refl);
-        })
+-- what stands in the two outputs after each of the two answers
+pub written-refused : (answer : Answer) (granted placed : ℕ → List ℕ) (n : ℕ) (periods processors : List ℕ) → isAccepted answer ≡ false
+    → Written (handed answer) granted placed n periods processors periods processors
+written-refused answer granted placed n periods processors e =
+    let k = handed answer .value in
+    record {
+      periods-are = sym (written-kept answer (granted k) n periods e);
+      processors-are = sym (written-kept answer (placed k) n processors e);
+    }
 
-    pub leaves-accepted : (k : ℕ) (new-periods new-processors : List ℕ) → answer ≡ Accepted k
-        → new-periods ≡ listTo (periodsOn (s .notch) springs k) n ++ drop n periods
-        → new-processors ≡ listTo (processorOn (meant (s .policy)) (s .m) (loadsOn s springs k)) n ++ drop n processors
-        → Leaves (handed answer) s springs n periods processors new-periods new-processors
-    leaves-accepted k new-periods new-processors e f g = rw e (record { periods-are = f; processors-are = g })
+pub written-accepted : (answer : Answer) (granted placed : ℕ → List ℕ) (n : ℕ) (periods processors new-periods new-processors : List ℕ) (k : ℕ)
+    → isAccepted answer ≡ true → k ≡ stepOf answer → new-periods ≡ granted k ++ drop n periods → new-processors ≡ placed k ++ drop n processors
+    → Written (handed answer) granted placed n periods processors new-periods new-processors
+written-accepted (Accepted j) granted placed n periods processors new-periods new-processors k t e f g =
+    record { periods-are = rw e at f; processors-are = rw e at g }
+written-accepted (Refused r) granted placed n periods processors new-periods new-processors k t e f g = true-false t refl

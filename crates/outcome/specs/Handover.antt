@@ -46,7 +46,13 @@ pub record Grantable (s : Settings) (block : List ℕ) (n k periods processors :
 abbrev pub MayGrant : Answer → Settings → List ℕ → ℕ → ℕ → ℕ → Type 0
 MayGrant answer s block n periods processors = isAccepted answer ≡ true → Grantable s block n (stepOf answer) periods processors
 
--- what the writing of a plan leaves in the two outputs
-pub record Leaves (h : Handed ℕ) (s : Settings) (springs : ℕ → Spring) (n : ℕ) (oldPeriods oldProcessors periods processors : List ℕ) : Type 0 where
-  pub periods-are : periods ≡ after h (listTo (periodsOn (s .notch) springs (h .value)) n) n oldPeriods
-  pub processors-are : processors ≡ after h (listTo (processorOn (meant (s .policy)) (s .m) (loadsOn s springs (h .value))) n) n oldProcessors
+-- two outputs as a call leaves them that hands back h, where a step grants these entries
+pub record Written (h : Handed ℕ) (granted placed : ℕ → List ℕ) (n : ℕ) (oldPeriods oldProcessors periods processors : List ℕ) : Type 0 where
+  pub periods-are : periods ≡ after h (granted (h .value)) n oldPeriods
+  pub processors-are : processors ≡ after h (placed (h .value)) n oldProcessors
+
+-- what the writing of a plan leaves there
+abbrev pub Leaves : Handed ℕ → Settings → (ℕ → Spring) → ℕ → List ℕ → List ℕ → List ℕ → List ℕ → Type 0
+Leaves h s springs n oldPeriods oldProcessors periods processors =
+    Written h (λ k. listTo (periodsOn (s .notch) springs k) n) (λ k. listTo (processorOn (meant (s .policy)) (s .m) (loadsOn s springs k)) n) n
+    oldPeriods oldProcessors periods processors

@@ -60,6 +60,11 @@ pub record Outcome : Type 0 where
   pub periods : List ℕ
   pub processors : List ℕ
 
+-- a finder's call on any kind of task: what it hands back, and over what stood in its two outputs n entries each of what the step grants
+abbrev pub settled : Handed ℕ → (ℕ → List ℕ) → (ℕ → List ℕ) → ℕ → List ℕ → List ℕ → Outcome
+settled h periods processors n oldPeriods oldProcessors =
+    record { handed = h; periods = after h (periods (h .value)) n oldPeriods; processors = after h (processors (h .value)) n oldProcessors }
+
 -- the admission, and the least passing step where it admits; a finder serves policy 4, or does not
 unfoldable pub found : Bool → Settings → List Task → ℕ → ℕ → Handed ℕ
 found serves s rows n room = decided (admission serves s rows n room) (leastUnder s rows n)
@@ -67,8 +72,7 @@ found serves s rows n room = decided (admission serves s rows n room) (leastUnde
 -- a finder's call, with the two outputs as they are lent
 unfoldable pub outcome : Bool → Settings → List Task → ℕ → List ℕ → List ℕ → Outcome
 outcome serves s rows n periods processors =
-    let h = found serves s rows n (min (length periods) (length processors)) in
-    record { handed = h; periods = periodsAfter h s rows n periods; processors = processorsAfter h s rows n processors }
+    settled (found serves s rows n (min (length periods) (length processors))) (periodsUnder s rows n) (processorsUnder s rows n) n periods processors
 
 -- an answer and the two outputs at exit are those of the outcome
 pub record Meets (o : Outcome) (answer : Answer) (periods processors : List ℕ) : Type 0 where

@@ -100,7 +100,7 @@ margin-fails p m load n f t =
 module _ (p : Policy) (m : ℕ) (load : ℕ → ℕ) (n : ℕ) (w : Weights) (sum max l : ℕ) (f : isWeighed p ≡ true)
     (is : w ≡ weightsOf p m n) (t : TotalIs load n sum max) (el : l ≡ left w sum max) where
   left-worked-out : l ≡ leftSide p m (sumTo load n) (maxTo load n)
-  left-worked-out = rw (← t .sum-is, ← t .max-is) (el ∙ (ap (λ (v : Weights). left v sum max) is ∙ one-left p m n sum max f))
+  left-worked-out = rw (← t .added .is, ← t .max-is) (el ∙ (ap (λ (v : Weights). left v sum max) is ∙ one-left p m n sum max f))
 
   right-worked-out : w .r ≡ rightSide p m n (maxTo load n)
   right-worked-out = ap (λ (v : Weights). v .r) is ∙ one-right p m n (maxTo load n) f

@@ -2,7 +2,7 @@
 -- Assumes nothing.
 use Prim.Native.Nat.{ℕ, _*_, _≤_}
 use mathlib.Core.Path.{_≡_}
-use Rattle.ground.specs.Folds.{sumTo, maxTo}
+use Rattle.ground.specs.Folds.{AddedUp, maxTo}
 use Rattle.kinds.specs.Limits.{scale, mostProcessors}
 use Rattle.policy.specs.declared.Weights.{Weights}
 
@@ -18,7 +18,6 @@ pub record SideIs (side r : ℕ) : Type 0 where
 
 -- the sum and the max of the loads of n tasks
 pub record TotalIs (load : ℕ → ℕ) (n sum max : ℕ) : Type 0 where
-  pub sum-is : sum ≡ sumTo load n
+  pub added : AddedUp load scale n sum
   pub max-is : max ≡ maxTo load n
-  pub sum-most : sum ≤ scale * n
   pub max-most : max ≤ scale

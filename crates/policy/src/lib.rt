@@ -18,7 +18,7 @@ ghost use Rattle.fit.specs.Fit.{loadIn};
 ghost use Rattle.fit.specs.Handover.{Loads};
 ghost use Rattle.policy.specs.Sides.{weightsOf, mostSum, left, marginOf};
 ghost use Rattle.policy.specs.Passing.{passes, passesAt};
-ghost use Rattle.policy.specs.Weighed.{chargedAt};
+ghost use Rattle.policy.specs.Weighed.{weighed, chargedAt};
 ghost use Rattle.policy.specs.Handover.{Light, SideIs, TotalIs};
 
 // The test of a policy that is weighed is sum + b · max ≤ r.
@@ -87,6 +87,21 @@ pub fn total_of(block: &[u32; Columns::ROOM], n: usize) -> Total
     }
 }
 
+// Whether the test holds for the first n loads, with their sum at hand: where it is above the right side or the max does not count, they are not
+// walked over.
+fn weighs_summed(w: Weights, block: &[u32; Columns::ROOM], n: usize, sum: u64) -> bool
+    requires { ⌜ Light w × Loads (now block) n × (sum ≡ sumTo (loadIn (now block)) n) ⌝ }
+    ensures { λ r. ⌜ r ≡ weighed w (loadIn (now (block .entry))) n ⌝ }
+{
+    if w.r < sum {
+        return false;
+    }
+    if w.b == 0 {
+        return true;
+    }
+    weighs(w, total_of(block, n))
+}
+
 // Whether n tasks with these loads pass the test of a policy that is served on m processors.
 pub fn passes(policy: Policy, m: u16, block: &[u32; Columns::ROOM], n: usize) -> bool
     requires { ⌜ Loads (now block) n × (1 ≤ m) × (m ≤ mostProcessors) × Served policy ⌝ }
@@ -131,7 +146,8 @@ pub fn passes_summed(
     passes(policy, m, block, n)
 }
 
-// Whether the tasks of a block pass at step k on their charges, which it then holds.
+// Whether the tasks of a block pass at step k on their charges, which it then holds. The sum is held to the most here: with a second caller
+// `passes_summed` would be a call for each step of edition 1.
 pub fn passes_charged(
     policy: Policy,
     m: u16,
@@ -144,7 +160,10 @@ pub fn passes_charged(
     ensures { λ r. ⌜ (r ≡ passesAt policy m (chargesOn notch (springIn (now (block .entry)))) n k)
         × Beside (now (block .entry)) (now (block .exit)) ⌝ }
 {
-    springs::charges_at(notch, block, n, k);
+    let sum = springs::charges_at(notch, block, n, k);
+    if most_sum(policy, m, n) < sum {
+        return false;
+    }
     passes(policy, m, block, n)
 }
 
@@ -159,8 +178,8 @@ pub fn weighs_charged(
     requires { ⌜ Light w × Chargeable notch (now block) n ⌝ }
     ensures { λ r. ⌜ (r ≡ chargedAt w notch (springIn (now (block .entry))) n k) × Beside (now (block .entry)) (now (block .exit)) ⌝ }
 {
-    springs::charges_at(notch, block, n, k);
-    weighs(w, total_of(block, n))
+    let sum = springs::charges_at(notch, block, n, k);
+    weighs_summed(w, block, n, sum)
 }
 
 // The total of the shares at step k.

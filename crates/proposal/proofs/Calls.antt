@@ -3,7 +3,6 @@
 -- Assumes nothing.
 use Rattle.ground.proofs.Kit.{ℕ, _+_, _≤_, _<_, List, _++_, _≡_, refl, sym, _∙_, ap, subst, _⊎_, arith, length, getD, drop, ne-eqb, lt-ltb, le-ltb}
 use Rattle.ground.specs.Folds.{sumTo, listTo}
-use Rattle.ground.proofs.Cases.{by-le}
 use Rattle.ground.proofs.First.{first-cong}
 use Rattle.ground.proofs.Folds.{sum-cong}
 use Rattle.ground.proofs.Buffer.{list-at, list-cong}
@@ -155,23 +154,17 @@ module _ (s : Settings) (rows : List Task) (n k : ℕ) (proposal old : List ℕ)
 pub no-second-answer : (o : Outcome) (v w : Verdict) (ls ls′ : List ℕ) → Meets o v ls → Meets o w ls′ → (v ≡ w) × (ls ≡ ls′)
 no-second-answer o v w ls ls′ x y = (verdict-one v w (x .answers ∙ sym (y .answers)), x .leaves ∙ sym (y .leaves))
 
--- a call that the gate refuses is answered alike whatever the records
+-- tables that agree on the first n records are answered alike; where n is too large, any two are
 module _ (s : Settings) (xs ys : List Task) (n k : ℕ) (proposal old : List ℕ) where
-  outcome-many : mostTasks < n → outcome s xs n k proposal old ≡ outcome s ys n k proposal old
+  pub outcome-same : (n ≤ mostTasks → (i : ℕ) → i < n → at xs i ≡ at ys i) → outcome s xs n k proposal old ≡ outcome s ys n k proposal old
   unfolding outcome judged admission
-  outcome-many h = by (gateOf s n (length proposal) (length old)) refl
+  outcome-same same = by (gateOf s n (length proposal) (length old)) refl
     where
       by : (g : Verdict) → gateOf s n (length proposal) (length old) ≡ g → outcome s xs n k proposal old ≡ outcome s ys n k proposal old
-      by Accepted e = absurd (omega (arith, gate-passed s n (length proposal) (length old) e .few .few))
+      by Accepted e =
+          let first = same (gate-passed s n (length proposal) (length old) e .few .few) in
+          rw (bad-same (s .swap) (s .notch) xs ys n first, loads-same s xs ys n first)
       by (Refused r) e = rw (e, ne-eqb (numberOf r) 0 (apart r))
-
-  outcome-agrees : ((i : ℕ) → i < n → at xs i ≡ at ys i) → outcome s xs n k proposal old ≡ outcome s ys n k proposal old
-  unfolding outcome judged admission
-  outcome-agrees same = rw (bad-same (s .swap) (s .notch) xs ys n same, loads-same s xs ys n same)
-
-  -- tables that agree on the first n records are answered alike; where n is too large, any two are
-  pub outcome-same : (n ≤ mostTasks → (i : ℕ) → i < n → at xs i ≡ at ys i) → outcome s xs n k proposal old ≡ outcome s ys n k proposal old
-  outcome-same same = by-le n mostTasks (λ h. outcome-agrees (same h)) (λ h. outcome-many h)
 
 -- proposals that both have n entries, and agree on those, are answered alike, and so are any two that have fewer
 module _ (s : Settings) (rows : List Task) (n k : ℕ) (p q old : List ℕ) where

@@ -1,19 +1,15 @@
 -- One promise for every call: no second answer, looks included; the plain finder's outcome where policy 4 is not asked; and it depends on
 -- the first n records only.
 -- Assumes nothing.
-use Rattle.ground.proofs.Kit.{ℕ, _≤_, _<_, true, false, List, _≡_, refl, sym, _∙_, ap, ap₂, arith}
-use Rattle.ground.proofs.Cases.{by-le}
+use Rattle.ground.proofs.Kit.{ℕ, _≤_, _<_, true, false, List, _≡_, refl, sym, _∙_, ap₂}
 use Rattle.kinds.specs.declared.Task.{Task}
 use Rattle.kinds.specs.declared.Answer.{Answer}
 use Rattle.kinds.specs.declared.Settings.{Settings}
 use Rattle.kinds.specs.Limits.{mostTasks}
 use Rattle.kinds.specs.Policy.{meant, isFirstFit}
 use Rattle.kinds.specs.Task.{at}
-use Rattle.policy.specs.Under.{looksUnder}
 use Rattle.policy.proofs.Under.{looks-under-same}
-use Rattle.kinds.specs.declared.Verdict as verdict
-use Rattle.admission.specs.Admission.{admission}
-use Rattle.admission.proofs.Chain.{admitted, admission-same, admission-many}
+use Rattle.admission.proofs.Gated.{answer-same}
 use Rattle.outcome.specs.Plan.{outcome, Meets}
 use Rattle.outcome.proofs.Outcomes.{no-second-answer, outcome-serves}
 use Rattle.quick_finder.specs.declared.Looked.{Looked}
@@ -36,17 +32,8 @@ module _ (s : Settings) (rows : List Task) (n : ℕ) (periods processors : List 
       → Meets (outcome true s rows n periods processors) (r .answer) ps qs
   as-plain f r ps qs x = rw (outcome-serves s rows n periods processors f) (x .meets)
 
--- a call that is not admitted has no looks, whatever a search would make
-after-apart : (a : verdict.Verdict) (j k : ℕ) → (a ≡ verdict.the-variants.Accepted → ⊥) → looksAfter a j ≡ looksAfter a k
-after-apart verdict.the-variants.Accepted j k h = absurd (h refl)
-after-apart (verdict.the-variants.Refused r) j k h = refl
-
+-- the looks of tables that agree as far as they count
 module _ (s : Settings) (xs ys : List Task) (n : ℕ) (same : n ≤ mostTasks → (i : ℕ) → i < n → at xs i ≡ at ys i) where
   pub looks-agree : (room : ℕ) → looks s xs n room ≡ looks s ys n room
   unfolding looks
-  looks-agree room =
-      by-le n mostTasks
-      (λ few. ap₂ looksAfter (admission-same false s xs ys n room (same few)) (looks-under-same s xs ys n (same few)))
-      (λ many.
-      ap (λ (a : verdict.Verdict). looksAfter a (looksUnder s xs n)) (admission-many false s xs ys n room many)
-      ∙ after-apart (admission false s ys n room) _ _ (λ e. omega (arith, admitted false s ys n room e .passed .few)))
+  looks-agree room = answer-same looksAfter (λ r x y. refl) false s xs ys n room _ _ same (λ e. looks-under-same s xs ys n e)

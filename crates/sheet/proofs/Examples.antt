@@ -1,6 +1,8 @@
 -- Readings worked out over the definition: counts are judged as soon as they are there, and document 01's whole case is a sheet.
 -- Assumes nothing.
 use Rattle.ground.proofs.Kit.{_+_, [], _∷_, _≡_, refl, replicate}
+use Rattle.ground.specs.Folds.{listTo}
+use Rattle.ground.specs.Laid.{over}
 use Rattle.kinds.specs.declared.Policy.the-variants.{Pooled}
 use Rattle.kinds.specs.declared.Refusal.the-variants.{TooManyTasks, SheetEnds, WrongSettingsCount, WrongResultCount, BytesAfterLast}
 use Rattle.kinds.specs.Limits.{mostSettings}
@@ -8,7 +10,7 @@ use Rattle.kinds.specs.Task.{task, noTask}
 use Rattle.kinds.specs.Answer.{accepted, refused}
 use Rattle.field.specs.Number.{numberAt}
 use Rattle.sheet.specs.Sections.{settingsFit, resultsFit}
-use Rattle.sheet.specs.Rows.{noGranted, over}
+use Rattle.sheet.specs.Rows.{noGranted}
 use Rattle.sheet.specs.Reading.{noSheet, settingsCount, taskCount, resultCount, sheetIn, readRows, readSheet}
 
 ends-in-a-count : readSheet (9 ∷ []) ≡ refused noSheet (SheetEnds 1)
@@ -57,7 +59,7 @@ whole-case : readSheet
       table = record { rows = task 6 10 20 1000 ∷ replicate 31 noTask; n = 1 };
       results = record { rows = replicate 32 noGranted; n = 0 };
     })
-unfolding readSheet readRows settingsCount taskCount resultCount settingsFit numberAt resultsFit sheetIn over
+unfolding readSheet readRows settingsCount taskCount resultCount settingsFit numberAt resultsFit sheetIn listTo over
 whole-case = refl
 
 -- with 3 q and the edition are filled in, with 4 the edition, and with 5 all are as they stand there
@@ -69,7 +71,7 @@ three-settings : readSheet (3 ∷ 0 ∷ 1 ∷ 0 ∷ 2 ∷ 0 ∷ 7 ∷ 0 ∷ 0 �
       table = record { rows = replicate 32 noTask; n = 0 };
       results = record { rows = replicate 32 noGranted; n = 0 };
     })
-unfolding readSheet readRows settingsCount taskCount resultCount settingsFit numberAt resultsFit sheetIn over
+unfolding readSheet readRows settingsCount taskCount resultCount settingsFit numberAt resultsFit sheetIn listTo over
 three-settings = refl
 
 four-settings : readSheet (4 ∷ 0 ∷ 1 ∷ 0 ∷ 2 ∷ 0 ∷ 7 ∷ 0 ∷ 5 ∷ 0 ∷ 0 ∷ 0 ∷ 0 ∷ 0 ∷ [])
@@ -80,7 +82,7 @@ four-settings : readSheet (4 ∷ 0 ∷ 1 ∷ 0 ∷ 2 ∷ 0 ∷ 7 ∷ 0 ∷ 5 ∷
       table = record { rows = replicate 32 noTask; n = 0 };
       results = record { rows = replicate 32 noGranted; n = 0 };
     })
-unfolding readSheet readRows settingsCount taskCount resultCount settingsFit numberAt resultsFit sheetIn over
+unfolding readSheet readRows settingsCount taskCount resultCount settingsFit numberAt resultsFit sheetIn listTo over
 four-settings = refl
 
 five-settings : readSheet (5 ∷ 0 ∷ 1 ∷ 0 ∷ 2 ∷ 0 ∷ 7 ∷ 0 ∷ 5 ∷ 0 ∷ 2 ∷ 0 ∷ 0 ∷ 0 ∷ 0 ∷ 0 ∷ [])
@@ -91,5 +93,5 @@ five-settings : readSheet (5 ∷ 0 ∷ 1 ∷ 0 ∷ 2 ∷ 0 ∷ 7 ∷ 0 ∷ 5 ∷
       table = record { rows = replicate 32 noTask; n = 0 };
       results = record { rows = replicate 32 noGranted; n = 0 };
     })
-unfolding readSheet readRows settingsCount taskCount resultCount settingsFit numberAt resultsFit sheetIn over
+unfolding readSheet readRows settingsCount taskCount resultCount settingsFit numberAt resultsFit sheetIn listTo over
 five-settings = refl

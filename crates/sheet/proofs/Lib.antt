@@ -1,4 +1,3 @@
-pub mod Padding
 pub mod RowFields
 pub mod Stages
 pub mod HeadSteps

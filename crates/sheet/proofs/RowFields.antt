@@ -2,10 +2,11 @@
 -- Assumes nothing.
 use Rattle.ground.proofs.Kit.{ℕ, _+_, _*_, _≤_, _<_, Bool, true, false, List, _≡_, refl, sym, _∙_, ap, arith, length, set, le-leb, lt-leb}
 use Rattle.ground.proofs.Cases.{by-le, true-false}
+use Rattle.ground.proofs.Laid.{over-more}
 use Rattle.kinds.specs.declared.Task.{Task}
 use Rattle.kinds.specs.declared.Granted.{Granted}
 use Rattle.kinds.specs.Settings.{fillIns}
-use Rattle.kinds.specs.Task.{task}
+use Rattle.kinds.specs.Task.{task, noTasks}
 use Rattle.field.specs.Number.{u16At, u32At}
 use Rattle.field.proofs.Fields.{Got, there, missing, got-by, missed-by}
 use Rattle.sheet.specs.declared.TaskField.{TaskField}
@@ -16,8 +17,7 @@ use Rattle.sheet.specs.declared.SettingRows.{SettingRows}
 use Rattle.sheet.specs.declared.TaskRows.{TaskRows}
 use Rattle.sheet.specs.declared.GrantedRows.{GrantedRows}
 use Rattle.sheet.specs.Sections.{settingSize, taskSize, grantedSize}
-use Rattle.sheet.specs.Rows.{granted, taskAt, grantedAt, noTasks, noResults, taskField, grantedField, rowsAt, rowsBy, madeSettings, madeTasks, madeGranted, settingRows, taskRows, grantedRows}
-use Rattle.sheet.proofs.Padding.{over-more}
+use Rattle.sheet.specs.Rows.{granted, taskAt, grantedAt, noResults, taskField, grantedField, rowsAt, rowsBy, madeSettings, madeTasks, madeGranted, settingRows, taskRows, grantedRows}
 
 module _ (s : List ℕ) (at : ℕ) where
   pub task-there : at + taskSize ≤ length s → taskField s at ≡ task-field.Value (taskAt s at) (at + taskSize)

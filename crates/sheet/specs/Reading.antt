@@ -12,11 +12,12 @@ use Rattle.kinds.specs.declared.Refusal.{Refusal}
 use Rattle.kinds.specs.declared.Refusal.the-variants.{TooManyTasks, SheetEnds, WrongSettingsCount, WrongResultCount, BytesAfterLast}
 use Rattle.kinds.specs.Limits.{mostSettings, mostTasks}
 use Rattle.kinds.specs.Settings.{fillIns, settingsOf}
+use Rattle.kinds.specs.Task.{noTasks}
 use Rattle.kinds.specs.Answer.{Handed, accepted, judged, handedWith}
 use Rattle.field.specs.Number.{u16At}
 use Rattle.sheet.specs.declared.Reading.{Reading}
 use Rattle.sheet.specs.Sections.{settingSize, taskSize, grantedSize, settingsPlace, numbersPlace, tasksPlace, recordsPlace, resultsPlace, grantedPlace, endPlace, settingsFit, resultsFit}
-use Rattle.sheet.specs.Rows.{taskAt, grantedAt, noTasks, noResults, rowsAt}
+use Rattle.sheet.specs.Rows.{taskAt, grantedAt, noResults, rowsAt}
 
 -- document 01: "A refused reading hands back a sheet of zeros (policy: the further choice 0)"; nothing is filled in there
 unfoldable pub noSheet : Sheet

@@ -1,16 +1,17 @@
 -- The rows of a section: a setting, a task record, a result, and so many of them from a place on.
 -- Assumes nothing.
-use Prim.Native.Nat.{ℕ, zero, suc, _+_, _*_}
+use Prim.Native.Nat.{ℕ, _+_, _*_}
 use mathlib.Core.Bool.{Bool, true, false}
 use mathlib.Core.List.{List}
 use lib.Dec.{leb}
-use lib.ListN.{length, set, replicate}
+use lib.ListN.{length, replicate}
 use Rattle.ground.specs.Choice.{pick}
+use Rattle.ground.specs.Laid.{over}
 use Rattle.kinds.specs.declared.Task.{Task}
 use Rattle.kinds.specs.declared.Granted.{Granted}
 use Rattle.kinds.specs.Limits.{mostTasks}
 use Rattle.kinds.specs.Settings.{fillIns}
-use Rattle.kinds.specs.Task.{task, noTask}
+use Rattle.kinds.specs.Task.{task, noTasks}
 use Rattle.field.specs.Number.{u16At, u32At}
 use Rattle.field.specs.Field.{fieldBy}
 use Rattle.sheet.specs.declared.TaskField.{TaskField}
@@ -43,19 +44,7 @@ taskField s at = fieldBy task-field.Value task-field.Missing taskSize taskAt s a
 unfoldable pub grantedField : List ℕ → ℕ → GrantedField
 grantedField s at = fieldBy granted-field.Value granted-field.Missing grantedSize grantedAt s at
 
--- a list whose first n entries are f 0, f 1, .., laid over those that stood there
-unfoldable pub over : {A : Type 0} → List A → (ℕ → A) → ℕ → List A
-over rest f zero = rest
-over rest f (suc n) = set (over rest f n) n (f n)
-
--- n rows, f 0, f 1, .., and then unused places up to the most tasks
-abbrev pub paddedRows : {A : Type 0} → A → (ℕ → A) → ℕ → List A
-paddedRows none f n = over (replicate mostTasks none) f n
-
 -- unused places only
-abbrev pub noTasks : List Task
-noTasks = replicate mostTasks noTask
-
 abbrev pub noResults : List Granted
 noResults = replicate mostTasks noGranted
 

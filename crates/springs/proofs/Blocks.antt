@@ -6,7 +6,7 @@ use mathlib.Core.Path.{fun-ext}
 use Rattle.ground.specs.Folds.{listTo, sumTo}
 use Rattle.ground.proofs.Buffer.{list-cong}
 use Rattle.ground.proofs.Cases.{by-eq, by-bool}
-use Rattle.ground.proofs.Folds.{sum-none, sum-more, sum-cong, max-to-le}
+use Rattle.ground.proofs.Folds.{sum-cong, max-to-le}
 use Rattle.kinds.specs.declared.Task.{Task}
 use Rattle.kinds.specs.declared.Settings.{Settings}
 use Rattle.kinds.specs.Limits.{scale, mostTasks}
@@ -17,7 +17,7 @@ use Rattle.share.specs.Table.{periodsAt}
 use Rattle.springs.specs.declared.Spring.{Spring}
 use Rattle.springs.specs.Spring.{springOf, shareOn, saturationOn, sharesOn, periodsOn, chargesOn, loadsOn}
 use Rattle.springs.specs.Columns.{room, springIn, fullIn}
-use Rattle.springs.specs.Handover.{SumIs, Springy, Chargeable, Loaded, Beside, Put, Sprung}
+use Rattle.springs.specs.Handover.{Springy, Chargeable, Loaded, Beside, Put, Sprung}
 use Rattle.springs.proofs.Springs.{share-on, saturation-on, share-most, saturation-low, charge-most, good-within, good-allowed}
 
 -- a walk that writes loads
@@ -109,13 +109,6 @@ module _ (s : Settings) (springs : ℕ → Spring) (k n : ℕ) (old new : List �
 
   pub as-charges : testsCharge s ≡ true → Loaded (chargesOn (s .notch) springs k) n old new → Loaded (loadsOn s springs k) n old new
   as-charges e w = record { long = w .long; are = λ i l. rw e (w .are i l); rest = w .rest }
-
--- a walk that adds the shares up
-pub sum-start : (springs : ℕ → Spring) (k : ℕ) → SumIs springs 0 k 0
-sum-start springs k = record { is = sym (sum-none (sharesOn springs k)); most = omega arith }
-
-pub sum-on : (springs : ℕ → Spring) (k i sum x : ℕ) → SumIs springs i k sum → x ≡ shareOn (springs i) k → x ≤ scale → SumIs springs (i + 1) k (sum + x)
-sum-on springs k i sum x t e most = record { is = omega (arith, sum-more (sharesOn springs k) i, t .is, e); most = omega (arith, t .most, most) }
 
 -- the loads that a walk has written, summed
 pub sum-loaded : (load : ℕ → ℕ) (n : ℕ) (old new : List ℕ) → Loaded load n old new → sumTo load n ≡ sumTo (λ i. getD new i 0) n

@@ -1,13 +1,13 @@
 -- Springs: their shares, periods and charges, and that those of a good record are the record's.
 -- Assumes nothing.
-use Rattle.ground.proofs.Kit.{ℕ, _+_, _≤_, Bool, false, not, _≡_, refl, sym, arith}
+use Rattle.ground.proofs.Kit.{ℕ, _+_, _-_, _*_, _≤_, _<_, Bool, false, not, _≡_, refl, sym, arith}
 use Rattle.ground.proofs.Cases.{by-bool, true-false}
 use Rattle.kinds.specs.declared.Task.{Task}
 use Rattle.kinds.specs.Limits.{scale, longestPeriod}
 use Rattle.kinds.specs.Task.{priced, Good, OnNotch, isGood}
 use Rattle.kinds.proofs.Records.{good-is}
 use Rattle.rule.specs.Rule.{periodOf, notchedUp}
-use Rattle.rule.proofs.Shares.{part-falls, share-falls, saturation-high}
+use Rattle.rule.proofs.Shares.{part-falls, share-falls, share-rigid, share-saturated, share-above, saturation-high}
 use Rattle.rule.proofs.Periods.{period-shortest, period-rises, notched-from, notched-least, notched-rises, charge-high}
 use Rattle.share.specs.Share.{costOf, leastOf, shareAt, saturationAt, periodAt, chargeAt}
 use Rattle.share.proofs.Tasks.{least-some, largest-most, least-largest, at-zero}
@@ -48,6 +48,22 @@ share-most s w k = omega (arith, share-high s w k, w .largest-most)
 pub shares-fall : (s : Spring) (j k : ℕ) → j ≤ k → shareOn s k ≤ shareOn s j
 unfolding shareOn
 shares-fall s j k h = share-falls (s .largest) (s .least) (s .elasticity) j k h
+
+-- before its saturation step a share has fallen by less than it can, from then on it is the least, and a rigid one stays the largest
+module _ (s : Spring) (w : Within s) (k : ℕ) where
+  pub share-before : k < s .saturation → (k * s .elasticity ≤ s .largest) × (shareOn s k ≡ s .largest - k * s .elasticity)
+  unfolding shareOn saturationOn
+  share-before h =
+      let above = share-above (s .largest) (s .least) (s .elasticity) k (omega (arith, w .saturated)) .1 in
+      (omega (arith, above), omega (arith, above))
+
+  pub share-after : s .saturation ≤ k → 1 ≤ s .elasticity → shareOn s k ≡ s .least
+  unfolding shareOn saturationOn
+  share-after h some = share-saturated (s .largest) (s .least) (s .elasticity) k some (omega (arith, w .saturated))
+
+  pub share-stays : s .elasticity ≡ 0 → shareOn s k ≡ s .largest
+  unfolding shareOn
+  share-stays z = share-rigid (s .largest) (s .least) (s .elasticity) k (w .least-largest) z
 
 -- document 01: "K is never above 999,999"
 pub saturation-low : (s : Spring) → Within s → 1 ≤ s .least → s .saturation ≤ 999999

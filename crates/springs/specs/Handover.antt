@@ -1,10 +1,10 @@
 -- What the functions of the springs and their callers hand each other: springs within their limits, and a block that holds what it should.
 -- Assumes nothing.
-use Prim.Native.Nat.{ℕ, _*_, _≤_, _<_}
+use Prim.Native.Nat.{ℕ, _≤_, _<_}
 use mathlib.Core.List.{List}
 use mathlib.Core.Path.{_≡_}
 use lib.ListN.{length, getD}
-use Rattle.ground.specs.Folds.{sumTo}
+use Rattle.ground.specs.Folds.{sumTo, AddedUp}
 use Rattle.kinds.specs.declared.Task.{Task}
 use Rattle.kinds.specs.Limits.{scale, greatestElasticity, longestPeriod, mostTasks}
 use Rattle.kinds.specs.Task.{at}
@@ -14,9 +14,8 @@ use Rattle.springs.specs.Spring.{springOf, saturationOn, sharesOn, perio
 use Rattle.springs.specs.Columns.{room, springIn}
 
 -- the sum of the shares at step k
-pub record SumIs (springs : ℕ → Spring) (n k sum : ℕ) : Type 0 where
-  pub is : sum ≡ sumTo (sharesOn springs k) n
-  pub most : sum ≤ scale * n
+abbrev pub SumIs : (ℕ → Spring) → ℕ → ℕ → ℕ → Type 0
+SumIs springs n k sum = AddedUp (sharesOn springs k) scale n sum
 
 -- the least share is at most the largest, no number is above a good task's, and the saturation step is that of the shares
 pub record Within (s : Spring) : Type 0 where

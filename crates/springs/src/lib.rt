@@ -105,14 +105,18 @@ pub fn springs_of(table: Table, swap: u16, notch: u16, block: &mut [u32; Columns
     n
 }
 
-// The share at step k of a spring.
+// The share at step k of a spring. Before the saturation step 32 bits hold what it has fallen by, so that no walk needs 64.
 pub fn share_on(spring: Spring, k: u32) -> u32
     requires { ⌜ Within spring ⌝ }
     ensures { λ r. ⌜ (r ≡ shareOn spring k) × (r ≤ scale) ⌝ }
 {
-    let largest = ground::widened(spring.largest);
-    let least = ground::widened(spring.least);
-    rule::share_at(largest, least, spring.elasticity, k) as u32
+    if k < spring.saturation {
+        return spring.largest - k * spring.elasticity;
+    }
+    if spring.elasticity == 0 {
+        return spring.largest;
+    }
+    spring.least
 }
 
 // Writes the shares of step k, and returns their sum. 32 bits hold it, and are twice as fast as 64.
@@ -194,14 +198,18 @@ fn charge_at(notch: u16, spring: Spring, k: u32) -> u32
     rule::part(ground::widened(spring.cost), period) as u32
 }
 
-// Writes the charges of step k.
-pub fn charges_at(notch: u16, block: &mut [u32; Columns::ROOM], n: usize, k: u32)
+// Writes the charges of step k, and returns their sum.
+pub fn charges_at(notch: u16, block: &mut [u32; Columns::ROOM], n: usize, k: u32) -> u64
     requires { ⌜ Chargeable notch (now block) n ⌝ }
-    ensures { λ _. ⌜ Loaded (chargesOn notch (springIn (now (block .entry))) k) n (now (block .entry)) (now (block .exit)) ⌝ }
+    ensures { λ r. ⌜ Summed (chargesOn notch (springIn (now (block .entry))) k) n (now (block .entry)) (now (block .exit)) r ⌝ }
 {
+    let mut sum: u32 = 0;
     for i in 0..n {
-        block[i] = charge_at(notch, spring_in(block, i), k);
+        let charge = charge_at(notch, spring_in(block, i), k);
+        block[i] = charge;
+        sum += charge;
     }
+    ground::widened(sum)
 }
 
 // Writes what the settings' edition tests and places at step k: the charges under edition 2, else the shares.

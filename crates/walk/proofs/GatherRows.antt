@@ -45,8 +45,8 @@ use denote.Triple.Statement.{Triple}
 use denote.Triple.Table.{entered}
 use denote.Triple.Walked.{Stays, stay-none-slice, walkOf, goes-none-slice, Walks, walked, walk-meets}
 use denote.Exit.{yes}
-use Rattle.ground.specs.Padded.{padded}
-use Rattle.ground.proofs.Padding.{padded-long, padded-more, padded-all}
+use Rattle.ground.specs.Laid.{padded}
+use Rattle.ground.proofs.Laid.{padded-long, padded-more, padded-all}
 use Rattle.walk.proofs.Gets.{Asks, Says, Callee, cites, gets-is}
 use Rattle.walk.proofs.Item.{item}
 use Rattle.walk.proofs.Tabled.{Tabled, Capped, Empty, rowTy, tableTy, step, step-is, tableBy, counted, rows-in, rows-there}

@@ -33,7 +33,7 @@ use denote.Struct.Field.{Field}
 use denote.Struct.Laws as LL
 use denote.Struct.Struct.{Struct}
 use denote.Triple.Clauses.{Ended}
-use Rattle.ground.specs.Padded.{padded}
+use Rattle.ground.specs.Laid.{padded}
 use Rattle.walk.proofs.Thin.{Valued, ty, val}
 
 -- ---- a struct of numbers, of these widths

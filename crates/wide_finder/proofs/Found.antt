@@ -89,4 +89,4 @@ pub meets : (m : ℕ) (answer : Answer) (rows : List WideTask) (n : ℕ) (period
     → Meets (outcome m rows n periods cores) answer new-periods new-cores
 unfolding outcome
 meets m answer rows n periods cores new-periods new-cores e l =
-    record { answers = e; grants = rw e at (l .periods-are); places = rw e at (l .cores-are) }
+    record { answers = e; grants = rw e at (l .periods-are); places = rw e at (l .processors-are) }

@@ -1,7 +1,6 @@
 pub mod Tables
 pub mod Passing
 pub mod Found
-pub mod Writing
 pub mod Outcomes
 pub mod Demand
 pub mod Worked

@@ -20,12 +20,11 @@ cores-fit m rows n k e = leb-true (coresSum rows n k) m e
 
 -- no task alone needs more than all do
 pub cores-within : (rows : List WideTask) (n k i : ℕ) → i < n → coresAt (at rows i) k ≤ coresSum rows n k
-unfolding coresSum
 cores-within rows n k i l = term-le-sum (λ j. coresAt (at rows j) k) n i l
 
 -- a step that passes is followed by steps that pass
 pub passes-rising : (m : ℕ) (rows : List WideTask) (n : ℕ) → ((i : ℕ) → i < n → Good (at rows i)) → Rising (passesAt m rows n)
-unfolding passesAt coresSum
+unfolding passesAt
 passes-rising m rows n g j k h p =
     let s = sum-le (λ i. coresAt (at rows i) k) (λ i. coresAt (at rows i) j) n (λ i l. cores-fall (at rows i) (g i l) j k h) in
     let b = leb-true (sumTo (λ i. coresAt (at rows i) j) n) m p in
@@ -58,5 +57,5 @@ two-each rows (suc n) k g =
 
 pub nine-never-pass : (m : ℕ) (rows : List WideTask) (n k : ℕ) → ((i : ℕ) → i < n → Good (at rows i)) → m ≤ mostProcessors → 9 ≤ n
     → passesAt m rows n k ≡ false
-unfolding passesAt coresSum
+unfolding passesAt
 nine-never-pass m rows n k g h l = lt-leb _ m (omega (arith, two-each rows n k g))

@@ -1,22 +1,22 @@
--- What is said of full compression, of the first bad record and of the sum of the cores, and the walks over a table that work them out.
+-- What is said of full compression and of the first bad record, and that the rules look at the first n records only.
 -- Assumes nothing.
-use Rattle.ground.proofs.Kit.{ℕ, _+_, _≤_, _<_, false, not, List, _≡_, sym, _∙_, ap, arith, leb}
+use Rattle.ground.proofs.Kit.{ℕ, _≤_, _<_, false, not, List, _≡_, _∙_, ap, arith, leb}
 use Rattle.ground.specs.First.{IsFirst}
 use Rattle.ground.specs.Folds.{maxTo}
 use Rattle.ground.specs.Least.{leastUpTo}
 use Rattle.ground.proofs.Buffer.{list-cong}
 use Rattle.ground.proofs.Cases.{by-bool, true-false}
 use Rattle.ground.proofs.First.{first-is, first-cong}
-use Rattle.ground.proofs.Folds.{sum-none, sum-more, sum-cong, max-to-le, max-cong}
+use Rattle.ground.proofs.Folds.{sum-cong, max-to-le, max-cong}
 use Rattle.ground.proofs.Least.{least-cong}
 use Rattle.kinds.specs.Limits.{mostTasks}
 use Rattle.wide_task.specs.declared.WideTask.{WideTask}
 use Rattle.wide_task.specs.declared.WideTable.{WideTable}
 use Rattle.wide_task.specs.WideTask.{at, Good, isGood}
 use Rattle.wide_task.specs.Cores.{saturationAt, periodAt, coresAt}
-use Rattle.wide_task.specs.Handover.{StepIs, CoresIs}
-use Rattle.wide_finder.specs.Table.{fullCompression, firstBad, coresSum, passesAt, leastStep, periodsAt, coreCountsAt}
-use Rattle.wide_finder.specs.Handover.{GoodTable, SumIs}
+use Rattle.wide_task.specs.Handover.{StepIs}
+use Rattle.wide_finder.specs.Table.{fullCompression, firstBad, passesAt, leastStep, periodsAt, coreCountsAt}
+use Rattle.wide_finder.specs.Handover.{GoodTable}
 use Rattle.wide_task.proofs.Records.{good-is}
 use Rattle.wide_task.proofs.Tasks.{saturation-most}
 
@@ -31,19 +31,6 @@ pub full-done : (t : WideTable) (greatest : ℕ) → GoodTable t → greatest �
     → StepIs (fullCompression (t .rows) (t .n)) greatest
 unfolding fullCompression
 full-done t greatest g e = record { is = e; most = omega (arith, e, full-most (t .rows) (t .n) (g .good)) }
-
--- the walk that adds the cores up
-pub sum-start : (rows : List WideTask) (k : ℕ) → SumIs rows 0 k 0
-unfolding coresSum
-sum-start rows k = record { is = sym (sum-none (λ j. coresAt (at rows j) k)); most = omega arith }
-
-pub sum-next : (rows : List WideTask) (i k sum c r : ℕ) → SumIs rows i k sum → CoresIs (at rows i) k c → r ≡ sum + c → SumIs rows (i + 1) k r
-unfolding coresSum
-sum-next rows i k sum c r p q e =
-    record {
-      is = omega (arith, sum-more (λ j. coresAt (at rows j) k) i, p .is, q .is);
-      most = omega (arith, p .most, q .most);
-    }
 
 -- the first bad record in words: those before it are good, and it is not
 pub first-bad-is : (rows : List WideTask) (n : ℕ) → IsFirst (λ i. not (isGood (at rows i))) n (firstBad rows n)
@@ -70,7 +57,7 @@ module _ (xs ys : List WideTask) (n : ℕ) (same : (i : ℕ) → i < n → at xs
   full-same = max-cong (λ i. saturationAt (at xs i)) (λ i. saturationAt (at ys i)) n (λ i l. ap saturationAt (same i l))
 
   passes-same : (m k : ℕ) → passesAt m xs n k ≡ passesAt m ys n k
-  unfolding passesAt coresSum
+  unfolding passesAt
   passes-same m k =
       ap (λ (s : ℕ). leb s m)
       (sum-cong (λ i. coresAt (at xs i) k) (λ i. coresAt (at ys i) k) n (λ i l. ap (λ (t : WideTask). coresAt t k) (same i l)))

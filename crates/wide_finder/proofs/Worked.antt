@@ -10,7 +10,7 @@ use Rattle.wide_task.specs.declared.WideTask.{WideTask}
 use Rattle.wide_task.specs.Limits.{mostShare, mostSteps, mostCores}
 use Rattle.wide_task.specs.WideTask.{wideTask, isGood}
 use Rattle.wide_task.specs.Cores.{coresOf, largestOf, shareAt, saturationAt, periodAt, coresAt}
-use Rattle.wide_finder.specs.Table.{fullCompression, firstBad, coresSum, passesAt, leastStep, periodsAt, coreCountsAt}
+use Rattle.wide_finder.specs.Table.{fullCompression, firstBad, passesAt, leastStep, periodsAt, coreCountsAt}
 use Rattle.wide_finder.specs.Wide.{admission, found, outcome}
 
 -- Ask 4: "For C = 30, L = 5 the count is 5 at T = 10 and 2 at T = 20."
@@ -98,6 +98,6 @@ bench =
     ∷ []
 
 pub bench-right : Right bench
-unfolding bench outcome found admission gate leastStep leastUpTo firstBelow firstFrom passesAt coresSum fullCompression firstBad sumTo maxTo
+unfolding bench outcome found admission gate leastStep leastUpTo firstBelow firstFrom passesAt fullCompression firstBad sumTo maxTo
     listTo periodsAt coreCountsAt shareAt saturationAt periodAt coresAt isGood
 bench-right = (refl, (refl, (refl, (refl, (refl, (refl, (refl, (refl, (refl, (refl, (refl, (refl, (refl, (refl, (refl, tt)))))))))))))))

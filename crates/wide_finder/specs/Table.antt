@@ -21,7 +21,7 @@ unfoldable pub firstBad : List WideTask → ℕ → ℕ
 firstBad rows n = firstBelow (λ i. not (isGood (at rows i))) n
 
 -- the cores that all need at step k
-unfoldable pub coresSum : List WideTask → ℕ → ℕ → ℕ
+abbrev pub coresSum : List WideTask → ℕ → ℕ → ℕ
 coresSum rows n k = sumTo (λ i. coresAt (at rows i) k) n
 
 -- Ask 4: "A table of such tasks passes at a step when the cores add up to at most m"

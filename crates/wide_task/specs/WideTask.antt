@@ -6,7 +6,7 @@ use mathlib.Core.List.{List}
 use lib.Dec.{leb, ltb}
 use lib.ListN.{length, getD}
 use Rattle.ground.specs.Choice.{both}
-use Rattle.ground.specs.Padded.{padded}
+use Rattle.ground.specs.Laid.{padded}
 use Rattle.kinds.specs.Limits.{longestPeriod, greatestElasticity, mostTasks}
 use Rattle.wide_task.specs.declared.WideTask.{WideTask}
 use Rattle.wide_task.specs.declared.WideTable.{WideTable}

@@ -2,15 +2,16 @@
 -- Assumes nothing.
 use Rattle.ground.proofs.Kit.{ℕ, zero, suc, _+_, _*_, _≤_, List, _≡_, refl, mul-le-mul-left, arith, length}
 use native.Mathlib.Nat.{mul-zero, mul-suc}
-use Rattle.kinds.specs.Task.{noTask}
+use Rattle.ground.specs.Folds.{joinTo}
+use Rattle.ground.proofs.Laid.{over-long, over-in}
+use Rattle.kinds.specs.Task.{noTask, noTasks}
 use Rattle.kinds.specs.Settings.{fillIns, settingsOf}
 use Rattle.kinds.proofs.Numbers.{numbers-back}
 use Rattle.field.specs.Number.{Bytes, u16At, bytesOf}
 use Rattle.field.proofs.Parts.{Part, part-none, part-then, part-whole, number-stands}
 use Rattle.sheet.specs.Sections.{settingSize, taskSize, grantedSize, settingsPlace, numbersPlace, tasksPlace, recordsPlace, resultsPlace, grantedPlace}
-use Rattle.sheet.specs.Rows.{taskAt, grantedAt, noGranted, noTasks, noResults, rowsAt}
+use Rattle.sheet.specs.Rows.{taskAt, grantedAt, noGranted, noResults, rowsAt}
 use Rattle.sheet.specs.Reading.{settingsCount, taskCount, resultCount, endOf, numbersIn, sheetIn}
-use Rattle.sheet.proofs.Padding.{over-long, over-in}
 use Rattle.sheet.proofs.Whole.{Whole, few-settings, few-results}
 use Rattle.writer.specs.Encode.{taskBytes, grantedBytes, rowsBytes, settingsBytes, encode}
 
@@ -19,7 +20,7 @@ module _ {A : Type 0} (bytes : A → List ℕ) (none : A) (rest : List A) (size 
     (stands : (at : ℕ) → at + size ≤ length s → Part s at size (bytes (rowAt s at))) (from N : ℕ) (few : N ≤ length rest)
     (within : from + size * N ≤ length s) where
   rows-stand : (n : ℕ) → n ≤ N → Part s from (size * n) (rowsBytes bytes none (rowsAt rest size rowAt s from N) n)
-  unfolding rowsBytes
+  unfolding rowsBytes joinTo
   rows-stand zero h = rw (mul-zero size) (part-none s from (omega arith))
   rows-stand (suc n) h =
       let i : size * suc n ≤ size * N = mul-le-mul-left size h in

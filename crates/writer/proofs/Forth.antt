@@ -2,21 +2,23 @@
 -- Assumes nothing.
 use Rattle.ground.proofs.Kit.{ℕ, zero, suc, _+_, _*_, _≤_, _<_, true, List, _++_, _≡_, sym, _∙_, ap, arith, length, getD, length-append}
 use native.Mathlib.Nat.{mul-suc}
+use Rattle.ground.specs.Folds.{joinTo}
+use Rattle.ground.specs.Laid.{over, paddedTo}
 use Rattle.ground.proofs.Cases.{by-le}
+use Rattle.ground.proofs.Laid.{over-cong}
 use Rattle.kinds.specs.declared.Task.{Task}
 use Rattle.kinds.specs.declared.Granted.{Granted}
 use Rattle.kinds.specs.declared.Sheet.{Sheet}
 use Rattle.kinds.specs.Limits.{mostTasks}
-use Rattle.kinds.specs.Task.{noTask, at}
+use Rattle.kinds.specs.Task.{noTask, noTasks, at}
 use Rattle.kinds.specs.Settings.{fillIns, settingsOf, numbersOf}
 use Rattle.kinds.specs.Answer.{accepted}
 use Rattle.field.specs.Number.{u16At, u32At, bytesOf, limit}
 use Rattle.field.proofs.Numbers.{bytes-long}
 use Rattle.field.proofs.Parts.{Part, part-all, part-left, part-right, part-number}
 use Rattle.sheet.specs.Sections.{settingSize, taskSize, grantedSize, settingsPlace, numbersPlace, tasksPlace, recordsPlace, resultsPlace, grantedPlace, settingsFit, resultsFit}
-use Rattle.sheet.specs.Rows.{taskAt, grantedAt, noGranted, noTasks, noResults, over, paddedRows, rowsAt}
+use Rattle.sheet.specs.Rows.{taskAt, grantedAt, noGranted, noResults, rowsAt}
 use Rattle.sheet.specs.Reading.{settingsCount, taskCount, resultCount, numbersIn, tasksIn, resultsIn, sheetIn, readSheet}
-use Rattle.sheet.proofs.Padding.{over-cong}
 use Rattle.sheet.proofs.Stages.{settings-few, fits-few}
 use Rattle.sheet.proofs.Whole.{Whole, whole-accepted}
 use Rattle.writer.specs.Encode.{taskBytes, grantedBytes, rowsBytes, numbersBytes, tasksBytes, resultsBytes, settingsBytes, encode, lengthOf}
@@ -55,7 +57,7 @@ granted-back g h p =
 -- of rows whose bytes stand from a place on, each stands at its own
 module _ {A : Type 0} (bytes : A → List ℕ) (none : A) (size : ℕ) (rows : List A) (long : (a : A) → length (bytes a) ≡ size) {s : List ℕ} {from : ℕ} where
   row-stands : (n i : ℕ) → i < n → Part s from (size * n) (rowsBytes bytes none rows n) → Part s (from + size * i) size (bytes (getD rows i none))
-  unfolding rowsBytes
+  unfolding rowsBytes joinTo
   row-stands zero i l p = absurd (omega arith)
   row-stands (suc n) i l p =
       let front = rowsBytes bytes none rows n in
@@ -165,14 +167,14 @@ module _ (x : Sheet) (s : List ℕ) (p : Part s 0 (lengthOf x) (encode x)) where
         ∙ section-back (bytesOf settingSize) 0 settingSize (bytes-long settingSize) (numbersOf (x .settings)) (x .count) settings-part fillIns u16At
         (λ i place q. part-number settingSize (settingIn x i) (h .settings i) q)
 
-    tasks-read : tasksIn s ≡ paddedRows noTask (at (x .table .rows)) (x .table .n)
+    tasks-read : tasksIn s ≡ paddedTo noTask mostTasks (at (x .table .rows)) (x .table .n)
     tasks-read =
         ap (λ (c : ℕ). rowsAt noTasks taskSize taskAt s (recordsPlace c) (taskCount s)) settings-counted
         ∙ (ap (rowsAt noTasks taskSize taskAt s (recordsPlace (x .count))) tasks-counted
         ∙ section-back taskBytes noTask taskSize task-long (x .table .rows) (x .table .n) tasks-part noTasks taskAt
         (λ i place q. task-back (at (x .table .rows) i) (h .tasks i) q))
 
-    results-read : resultsIn s ≡ paddedRows noGranted (grantedIn x) (x .results .n)
+    results-read : resultsIn s ≡ paddedTo noGranted mostTasks (grantedIn x) (x .results .n)
     results-read =
         ap (λ (c : ℕ). rowsAt noResults grantedSize grantedAt s (grantedPlace c (taskCount s)) (resultCount s)) settings-counted
         ∙ (ap (λ (n : ℕ). rowsAt noResults grantedSize grantedAt s (grantedPlace (x .count) n) (resultCount s)) tasks-counted

@@ -2,6 +2,8 @@
 -- Assumes nothing.
 use Rattle.ground.proofs.Kit.{ℕ, _+_, _*_, _≤_, true, List, _++_, _≡_, refl, sym, _∙_, ap, leb, length, take, drop, le-leb}
 use lib.Seq.{take-at}
+use Rattle.ground.specs.Laid.{over}
+use Rattle.ground.proofs.Laid.{over-long, over-out, over-is, padded-to-long, padded-to-is, padded-to-out}
 use Rattle.kinds.specs.declared.Task.{Task}
 use Rattle.kinds.specs.declared.Granted.{Granted}
 use Rattle.kinds.specs.declared.Sheet.{Sheet}
@@ -14,9 +16,8 @@ use Rattle.kinds.specs.Answer.{accepted, judged, after}
 use Rattle.kinds.proofs.Numbers.{numbers-back, settings-back, meant-of}
 use Rattle.field.specs.Number.{Bytes, u16At}
 use Rattle.sheet.specs.Sections.{settingSize, taskSize, grantedSize, numbersPlace, recordsPlace, grantedPlace, settingsFit, resultsFit}
-use Rattle.sheet.specs.Rows.{noGranted, taskAt, grantedAt, over}
+use Rattle.sheet.specs.Rows.{noGranted, taskAt, grantedAt}
 use Rattle.sheet.specs.Reading.{settingsCount, taskCount, resultCount, numbersIn, sheetIn, readSheet}
-use Rattle.sheet.proofs.Padding.{over-long, over-out, over-is, padded-long, padded-is, padded-out}
 use Rattle.sheet.proofs.Whole.{whole, few-settings, few-results}
 use Rattle.kinds.specs.declared.Counted.{Counted}
 use Rattle.kinds.specs.declared.Counted.the-variants as counted
@@ -91,8 +92,8 @@ unfolding canonical
 canonical-same x room room′ most few few′ c =
     let numbers = over-is fillIns (settingIn x) 0 (x .count) (numbersOf (x .settings)) most refl (λ i l. refl) (c .settings-unused) in
     let settings = ap settingsOf numbers ∙ settings-back (x .settings) (c .policy-meant) in
-    let tasks = padded-is noTask (at (x .table .rows)) (x .table .n) (x .table .rows) few room (λ i l. refl) (c .tasks-unused) in
-    let results = padded-is noGranted (grantedIn x) (x .results .n) (x .results .rows) few′ room′ (λ i l. refl) (c .results-unused) in
+    let tasks = padded-to-is noTask mostTasks (at (x .table .rows)) (x .table .n) (x .table .rows) few room (λ i l. refl) (c .tasks-unused) in
+    let results = padded-to-is noGranted mostTasks (grantedIn x) (x .results .n) (x .results .rows) few′ room′ (λ i l. refl) (c .results-unused) in
     λ i.
     record {
       count = x .count;
@@ -111,8 +112,8 @@ same-canonical x e =
       policy-meant = ap meant (sym policy) ∙ (meant-of numbers ∙ policy);
       settings-unused = λ i l.
           sym (ap (λ (y : Sheet). settingIn y i) e) ∙ (ap (λ (k : List ℕ). setting k i) back ∙ over-out fillIns (settingIn x) 0 (x .count) i l);
-      tasks-unused = λ i l. sym (ap (λ (y : Sheet). at (y .table .rows) i) e) ∙ padded-out noTask (at (x .table .rows)) (x .table .n) i l;
-      results-unused = λ i l. sym (ap (λ (y : Sheet). grantedIn y i) e) ∙ padded-out noGranted (grantedIn x) (x .results .n) i l;
+      tasks-unused = λ i l. sym (ap (λ (y : Sheet). at (y .table .rows) i) e) ∙ padded-to-out noTask mostTasks (at (x .table .rows)) (x .table .n) i l;
+      results-unused = λ i l. sym (ap (λ (y : Sheet). grantedIn y i) e) ∙ padded-to-out noGranted mostTasks (grantedIn x) (x .results .n) i l;
     }
 
 -- a sheet that was read is its own canonical form
@@ -126,14 +127,14 @@ read-canonical s x e =
     let results : ℕ → Granted = λ i. grantedAt s (grantedPlace c (taskCount s) + grantedSize * i) in
     rw (w .1)
     (canonical-same (sheetIn s)
-    (padded-long noTask tasks (taskCount s))
-    (padded-long noGranted results (resultCount s))
+    (padded-to-long noTask mostTasks tasks (taskCount s))
+    (padded-to-long noGranted mostTasks results (resultCount s))
     (few-settings (w .0))
     (w .0 .few)
     (few-results (w .0))
     (record {
       policy-meant = meant-of (numbersIn s);
       settings-unused = λ i l. ap (λ (k : List ℕ). setting k i) (numbers-back (numbersIn s) (over-long fillIns numbers c)) ∙ over-out fillIns numbers 0 c i l;
-      tasks-unused = padded-out noTask tasks (taskCount s);
-      results-unused = padded-out noGranted results (resultCount s);
+      tasks-unused = padded-to-out noTask mostTasks tasks (taskCount s);
+      results-unused = padded-to-out noGranted mostTasks results (resultCount s);
     }))

@@ -1,7 +1,9 @@
 -- How long the bytes of a row, of rows and of a sheet are, and one row more.
 -- Assumes nothing.
-use Rattle.ground.proofs.Kit.{ℕ, zero, suc, _+_, _*_, List, _≡_, sym, _∙_, add-one, arith, length, getD, length-append}
+use Rattle.ground.proofs.Kit.{ℕ, _+_, _*_, List, _≡_, add-one, arith, length, getD, length-append}
 use native.Mathlib.Nat.{mul-zero, mul-suc}
+use Rattle.ground.specs.Folds.{joinTo}
+use Rattle.ground.proofs.Joins.{join-sized}
 use Rattle.kinds.specs.declared.Task.{Task}
 use Rattle.kinds.specs.declared.Granted.{Granted}
 use Rattle.kinds.specs.declared.Settings.{Settings}
@@ -26,19 +28,16 @@ granted-long g = simp (length-append, bytes-long)
 module _ {A : Type 0} (bytes : A → List ℕ) (none : A) (size : ℕ) (rows : List A) where
   pub rows-long : ((a : A) → length (bytes a) ≡ size) → (n : ℕ) → length (rowsBytes bytes none rows n) ≡ size * n
   unfolding rowsBytes
-  rows-long long zero = sym (mul-zero size)
-  rows-long long (suc n) =
-      length-append (rowsBytes bytes none rows n) (bytes (getD rows n none))
-      ∙ (rw (rows-long long n, long (getD rows n none)) (sym (mul-suc size n)))
+  rows-long long n = join-sized (λ i. bytes (getD rows i none)) size (λ i. long (getD rows i none)) n
 
   -- no row yet, and one row more
   pub put-no-row : (out : List ℕ) (from : ℕ) → Put out from (size * 0) (rowsBytes bytes none rows 0) from out
-  unfolding rowsBytes
+  unfolding rowsBytes joinTo
   put-no-row out from = rw (mul-zero size) (put-none out from)
 
   pub put-row : {out mid new : List ℕ} {from at next : ℕ} (i : ℕ) → Put out from (size * i) (rowsBytes bytes none rows i) at mid
       → Put mid at size (bytes (getD rows i none)) next new → Put out from (size * (i + 1)) (rowsBytes bytes none rows (i + 1)) next new
-  unfolding rowsBytes
+  unfolding rowsBytes joinTo
   put-row i p q = rw (add-one i) (rw (mul-suc size i) (put-then p q))
 
 pub numbers-long : (numbers : List ℕ) (n : ℕ) → length (numbersBytes numbers n) ≡ settingSize * n

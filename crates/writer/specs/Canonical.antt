@@ -3,6 +3,7 @@
 use Prim.Native.Nat.{ℕ, _<_}
 use mathlib.Core.Path.{_≡_}
 use lib.ListN.{length, getD}
+use Rattle.ground.specs.Laid.{over, paddedTo}
 use Rattle.kinds.specs.declared.Task.{Task}
 use Rattle.kinds.specs.declared.Granted.{Granted}
 use Rattle.kinds.specs.declared.Sheet.{Sheet}
@@ -11,7 +12,7 @@ use Rattle.kinds.specs.Task.{noTask, at}
 use Rattle.kinds.specs.Settings.{fillIns, setting, settingsOf, numbersOf}
 use Rattle.field.specs.Number.{limit}
 use Rattle.sheet.specs.Sections.{settingSize}
-use Rattle.sheet.specs.Rows.{noGranted, over, paddedRows}
+use Rattle.sheet.specs.Rows.{noGranted}
 
 abbrev pub settingIn : Sheet → ℕ → ℕ
 settingIn x i = setting (numbersOf (x .settings)) i
@@ -25,8 +26,8 @@ canonical x =
     record {
       count = x .count;
       settings = settingsOf (over fillIns (settingIn x) (x .count));
-      table = record { rows = paddedRows noTask (at (x .table .rows)) (x .table .n); n = x .table .n };
-      results = record { rows = paddedRows noGranted (grantedIn x) (x .results .n); n = x .results .n };
+      table = record { rows = paddedTo noTask mostTasks (at (x .table .rows)) (x .table .n); n = x .table .n };
+      results = record { rows = paddedTo noGranted mostTasks (grantedIn x) (x .results .n); n = x .results .n };
     }
 
 -- what every value of the kind has: its numbers fit their fields

@@ -1,8 +1,9 @@
 -- Document 01, "The station sheet": the bytes of a sheet. "Sections in fixed order, each after its 2-byte count."
 -- Assumes nothing.
-use Prim.Native.Nat.{ℕ, zero, suc}
-use mathlib.Core.List.{List, [], _++_}
+use Prim.Native.Nat.{ℕ}
+use mathlib.Core.List.{List, _++_}
 use lib.ListN.{getD}
+use Rattle.ground.specs.Folds.{joinTo}
 use Rattle.kinds.specs.declared.Task.{Task}
 use Rattle.kinds.specs.declared.Granted.{Granted}
 use Rattle.kinds.specs.declared.Settings.{Settings}
@@ -23,8 +24,7 @@ grantedBytes g = bytesOf 4 (g .period) ++ bytesOf 2 (g .processor)
 
 -- the bytes of the first n rows
 unfoldable pub rowsBytes : {A : Type 0} → (A → List ℕ) → A → List A → ℕ → List ℕ
-rowsBytes bytes none rows zero = []
-rowsBytes bytes none rows (suc n) = rowsBytes bytes none rows n ++ bytes (getD rows n none)
+rowsBytes bytes none rows n = joinTo (λ i. bytes (getD rows i none)) n
 
 abbrev pub tasksBytes : List Task → ℕ → List ℕ
 tasksBytes rows n = rowsBytes taskBytes noTask rows n

@@ -10,7 +10,7 @@ use crate::definition::office::{export, import};
 use crate::definition::program::program;
 use crate::definition::proposal::check_proposal;
 use crate::definition::reader::read;
-use crate::definition::wide_finder::find_wide;
+use crate::definition::wide::find_wide;
 use crate::definition::writer::write;
 
 /// What lent outputs hold before a call.

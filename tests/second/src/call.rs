@@ -3,7 +3,7 @@
 use crate::clock_run::Run;
 use crate::definition::admission::Question;
 use crate::definition::kinds::{Granted, Policy, Record, Sheet, MOST_TASKS};
-use crate::definition::wide_finder::{WideQuestion, WideRecord};
+use crate::definition::wide::{WideQuestion, WideRecord};
 use crate::keeping::Keeping;
 
 /// The most bytes of a payload.

@@ -1,11 +1,11 @@
 -- `division::slope_sum` meets its contract. The loop: the sum of the first i slopes is at hand; n − i falls. Assumes nothing.
 use Rattle.ground.proofs.Kit.{_-_, _≤_, _≡_, _∙_, ap, arith}
+use Rattle.ground.proofs.Folds.{added-none, added-more}
 use Rattle.kinds.specs.Limits.{greatestElasticity}
 use Rattle.springs.specs.declared.Spring.{Spring}
 use Rattle.springs.specs.Columns.{springIn}
 use Rattle.division.specs.Division.{slope}
 use Rattle.division.specs.Handover.{FallIs}
-use Rattle.division.proofs.Stretches.{fall-none, fall-more}
 use Rattle.division.proofs.slope_sum.Statement.{statement}
 use Rattle.division.proofs.slope_sum.Tie as tie
 
@@ -36,11 +36,11 @@ add-fall : tie.Need-add-fall Inv-loop μ-loop
 add-fall c = let at-loop = c .before .before .before .before in omega (arith, sloped c .1, at-loop .loop .inv .1 .most, at-loop .before .pre .few)
 
 loop-again : tie.Need-loop-again Inv-loop μ-loop
-loop-again c = (omega arith, fall-more _ _ _ _ _ (c .before .before .before .before .loop .inv .1) (sloped c .0) (sloped c .1))
+loop-again c = (omega arith, added-more _ _ _ _ _ (c .before .before .before .before .loop .inv .1) (sloped c .0) (sloped c .1))
 
 returns : tie.Need-returns Inv-loop μ-loop
 returns c = let e : c .before .loop .i ≡ c .before .before .args .n = omega arith in rw e at (c .before .loop .inv .1)
 
 pub slope-sum-spec : {M : Type 1} → statement M
-slope-sum-spec = tie.close (tie.spec Inv-loop μ-loop (λ c. (omega arith, fall-none _ _)) spring-in-requires slope-of-requires (λ _ _. tt) add-fall
+slope-sum-spec = tie.close (tie.spec Inv-loop μ-loop (λ c. (omega arith, added-none _ _)) spring-in-requires slope-of-requires (λ _ _. tt) add-fall
     (λ c. omega arith) (λ c. omega arith) loop-again returns)

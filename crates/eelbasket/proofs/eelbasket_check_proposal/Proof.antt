@@ -20,7 +20,7 @@ unfolding code.routine
 eelbasket-check-proposal-spec 𝓤 H 𝓜 𝓖 𝓡 =
     thin (gathered 𝓤 H 𝓜 𝓖 𝓡) values.told-verdict values.station (of-uint w32) w16 w32
     core-def.name core-def.routine (core.clauses 𝓤 H (𝓖 .A) (𝓜 .mem) (𝓡 .run)) (core-thm.met 𝓤 H 𝓜 𝓖 𝓡)
-    code.env key.name (code.unfolded 𝓤 H 𝓜 𝓡) code.calls-lent-rows·gather code.calls-told·check-proposal-told
+    code.env key.name (code.unfolded 𝓤 H 𝓜 𝓡) code.calls-lent-rows·gather code.calls-c-tables·check-proposal-told
     (eelbasket-check-proposal.clauses 𝓤 H (𝓖 .A) (𝓜 .mem) (𝓡 .run))
     (record {
       ghost = λ κ κ₁ κ₂ x s k p y g. tt;

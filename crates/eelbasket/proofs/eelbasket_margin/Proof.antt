@@ -20,7 +20,7 @@ unfolding code.routine
 eelbasket-margin-spec 𝓤 H 𝓜 𝓖 𝓡 =
     thin (gathered 𝓤 H 𝓜 𝓖 𝓡) values.told-margin values.station (of-uint w32)
     core-def.name core-def.routine (core.clauses 𝓤 H (𝓖 .A) (𝓜 .mem) (𝓡 .run)) (core-thm.met 𝓤 H 𝓜 𝓖 𝓡)
-    code.env key.name (code.unfolded 𝓤 H 𝓜 𝓡) code.calls-lent-rows·gather code.calls-told·margin-told (eelbasket-margin.clauses 𝓤 H (𝓖 .A) (𝓜 .mem) (𝓡 .run))
+    code.env key.name (code.unfolded 𝓤 H 𝓜 𝓡) code.calls-lent-rows·gather code.calls-c-tables·margin-told (eelbasket-margin.clauses 𝓤 H (𝓖 .A) (𝓜 .mem) (𝓡 .run))
     (record {
       ghost = λ κ x s k g. tt;
       asks = λ κ x s k g. id⊢ 𝓤 _;

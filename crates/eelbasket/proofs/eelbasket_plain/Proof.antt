@@ -19,7 +19,7 @@ unfolding code.routine
 eelbasket-plain-spec 𝓤 H 𝓜 𝓖 𝓡 =
     thin (gathered 𝓤 H 𝓜 𝓖 𝓡) values.told values.station w32 w16
     core-def.name core-def.routine (core.clauses 𝓤 H (𝓖 .A) (𝓜 .mem) (𝓡 .run)) (core-thm.met 𝓤 H 𝓜 𝓖 𝓡)
-    code.env key.name (code.unfolded 𝓤 H 𝓜 𝓡) code.calls-lent-rows·gather code.calls-told·plain-told (eelbasket-plain.clauses 𝓤 H (𝓖 .A) (𝓜 .mem) (𝓡 .run))
+    code.env key.name (code.unfolded 𝓤 H 𝓜 𝓡) code.calls-lent-rows·gather code.calls-c-tables·plain-told (eelbasket-plain.clauses 𝓤 H (𝓖 .A) (𝓜 .mem) (𝓡 .run))
     (record {
       ghost = λ κ κ₁ κ₂ x s y z g. tt;
       asks = λ κ κ₁ κ₂ x s y z g. id⊢ 𝓤 _;

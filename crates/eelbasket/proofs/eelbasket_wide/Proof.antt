@@ -18,7 +18,7 @@ unfolding code.routine
 eelbasket-wide-spec 𝓤 H 𝓜 𝓖 𝓡 =
     thin (gathered-wide 𝓤 H 𝓜 𝓖 𝓡) values.told (of-uint w16) w32 w16
     core-def.name core-def.routine (core.clauses 𝓤 H (𝓖 .A) (𝓜 .mem) (𝓡 .run)) (core-thm.met 𝓤 H 𝓜 𝓖 𝓡)
-    code.env key.name (code.unfolded 𝓤 H 𝓜 𝓡) code.calls-lent-rows·gather-wide code.calls-told·wide-told (eelbasket-wide.clauses 𝓤 H (𝓖 .A) (𝓜 .mem) (𝓡 .run))
+    code.env key.name (code.unfolded 𝓤 H 𝓜 𝓡) code.calls-lent-rows·gather-wide code.calls-c-tables·wide-told (eelbasket-wide.clauses 𝓤 H (𝓖 .A) (𝓜 .mem) (𝓡 .run))
     (record {
       ghost = λ κ κ₁ κ₂ x m y z g. tt;
       asks = λ κ κ₁ κ₂ x m y z g. id⊢ 𝓤 _;

@@ -1,9 +1,10 @@
 -- `fill::results_of` meets its contract. Assumes nothing.
 -- The loop: the first i rows are the entries of the two outputs, the rest are unused; n − i falls.
 use Rattle.ground.proofs.Kit.{_-_, _≤_, _≡_, refl, sym, arith, length, length-set, needs}
+use Rattle.ground.specs.Laid.{paddedTo}
+use Rattle.ground.proofs.Laid.{over-none}
 use Rattle.kinds.specs.Limits.{mostTasks}
-use Rattle.sheet.specs.Rows.{noGranted, noResults, paddedRows}
-use Rattle.sheet.proofs.Padding.{over-none}
+use Rattle.sheet.specs.Rows.{noGranted, noResults}
 use Rattle.fill.specs.Results.{entryAt}
 use Rattle.fill.proofs.Plans.{rows-more, rows-done}
 use Rattle.fill.proofs.results_of.Statement.{statement}
@@ -11,7 +12,7 @@ use Rattle.fill.proofs.results_of.Tie as tie
 
 abbrev Inv-loop : tie.InvT-loop
 Inv-loop n periods processors rows₀ i₀ rows i =
-    (i ≤ n) × ((length rows ≡ mostTasks) × (rows ≡ paddedRows noGranted (entryAt periods processors) i))
+    (i ≤ n) × ((length rows ≡ mostTasks) × (rows ≡ paddedTo noGranted mostTasks (entryAt periods processors) i))
 
 abbrev μ-loop : tie.MeasureT-loop
 μ-loop n periods processors rows₀ i₀ rows i = n - i

@@ -1,7 +1,6 @@
 -- `keep::without` meets its contract. The loop: the first i records are copied, without the one at the place, and zeros stand past them; n − i
 -- falls. Assumes nothing.
-use Rattle.ground.proofs.Kit.{_-_, _<_, _≡_, refl, ap, arith}
-use Rattle.ground.specs.Folds.{listTo}
+use Rattle.ground.proofs.Kit.{_-_, _<_, _≡_, ap, arith}
 use Rattle.kinds.specs.Limits.{mostTasks}
 use Rattle.kinds.specs.Task.{at}
 use Rattle.order.proofs.Gone.{from-within}
@@ -15,10 +14,6 @@ Inv-loop place n old rows₀ i₀ rows i = Copied (leftRow (old .rows) place) n 
 
 abbrev μ-loop : tie.MeasureT-loop
 μ-loop place n old rows₀ i₀ rows i = n - i
-
-loop-holds : tie.Need-loop-holds Inv-loop μ-loop
-unfolding listTo
-loop-holds c = copied-none (leftRow (c .args .t1 .rows) (c .args .place)) _ _ refl
 
 -- where a record is copied from
 within : (c : tie.After-left-from Inv-loop μ-loop) → c .left-from .result < mostTasks
@@ -54,5 +49,5 @@ returns c =
     rw copied
 
 pub without-spec : {M : Type 1} → statement M
-without-spec = tie.close (tie.spec Inv-loop μ-loop loop-holds left-from-requires mul-row element-copy-out-row (λ c. omega arith) (λ c. omega arith)
+without-spec = tie.close (tie.spec Inv-loop μ-loop (λ c. copied-none _ _) left-from-requires mul-row element-copy-out-row (λ c. omega arith) (λ c. omega arith)
     (λ c. omega arith) (λ c. omega arith) loop-again returns)

@@ -9,6 +9,8 @@
 -- The loop: the first i rows of the output are the table's, the rest is as it was; n − i falls.
 use Rattle.ground.proofs.Kit.{ℕ, _+_, _-_, _*_, _^_, _≤_, _<_, Bool, true, false, List, [], _∷_, _≡_, refl, sym, ap, subst, arith, ltb, length, getD, set}
 use Rattle.ground.proofs.Kit.{length-set, lt-ltb, le-ltb, ltb-true, ltb-false}
+use Rattle.ground.specs.Laid.{over}
+use Rattle.ground.proofs.Laid.{over-long}
 use mathlib.Core.WellFounded.{WellFounded, InvImage·wf}
 use mathlib.Core.List.{map}
 use lib.Dec.{T, lit<}
@@ -49,8 +51,8 @@ use denote.Triple.Walked.{says, needs, Stays, stay-none, stay-slice, walkOf, goe
 use denote.Exit.{yes}
 use Rattle.kinds.specs.declared.Task.{Task}
 use Rattle.kinds.specs.declared.Table.{Table}
+use Rattle.kinds.specs.Task as task
 use Rattle.kinds.specs.Task.{noTask}
-use Rattle.lent_rows.specs.Handover.{filled}
 use Rattle.kinds.proofs.Task as P
 use Rattle.kinds.proofs.Task.Laws as P′
 use Rattle.kinds.proofs.Table as T
@@ -58,7 +60,7 @@ use Rattle.kinds.proofs.Table.Laws as T′
 use Rattle.lent_rows.proofs.Tables.{is-task}
 use Rattle.lent_rows.proofs.Cells.{table-long, row-fits, row-value}
 use Rattle.walk.proofs.Item.{item}
-use Rattle.lent_rows.proofs.Filling.{turns, turns-none, turns-long, turns-more, turns-all, filled-long}
+use Rattle.lent_rows.proofs.Filling.{turns, turns-none, turns-long, turns-more, turns-all}
 use Rattle.lent_rows.proofs.scatter.Key.{name as #lent-rows·scatter}
 use Rattle.lent_rows.proofs.scatter as scatter
 use Rattle.lent_rows.proofs.scatter.Statement as stated
@@ -90,7 +92,7 @@ module _ {M : Type 1} (𝓤 : URA M) (H : Heap 𝓤) (A : Atoms 𝓤) (W : Given
   tab i = turns (t .rows) ys n i
 
   abbrev zs : List Task
-  zs = filled (t .rows) ys n
+  zs = over ys (task.at (t .rows)) n
 
   abbrev elem : ℕ → Task
   elem i = getD (t .rows) i noTask
@@ -115,10 +117,10 @@ module _ {M : Type 1} (𝓤 : URA M) (H : Heap 𝓤) (A : Atoms 𝓤) (W : Given
   exits gn =
       qed W (‵ (Seen zs) ∷ ‵ (Bor zs) ∷ ‵ (flft κ q) ∷ []) ∵
       suffices ! _ (ends-at 𝓤 H A scatter.ended stayed (scatter.clauses 𝓤 H A mem run) W bound vunit tt (tt, (zs, tt))
-      (tt, (filled-long (t .rows) ys n, tt))) $ says ! refl $
+      (tt, (over-long ys (task.at (t .rows)) n, tt))) $ says ! refl $
       nothing ! $ move ! (3 ∷ 0 ∷ []) $ join ! $ frame ! $
       fjoin ! $ pureI ! (at-slice P.the-row (x zs) (s ∷ [])) (tt, (tt, tt))
-      (ap (λ (m : ℕ). sliceVal (b, o) m ∷ []) (sym (filled-long (t .rows) ys n)), subst (Room P.the-row) (sym (filled-long (t .rows) ys n)) gn) $ fjoin ! $
+      (ap (λ (m : ℕ). sliceVal (b, o) m ∷ []) (sym (over-long ys (task.at (t .rows)) n)), subst (Room P.the-row) (sym (over-long ys (task.at (t .rows)) n)) gn) $ fjoin ! $
       nothing ! $ move ! (1 ∷ 0 ∷ []) $ fjoin ! $ owned ! T.the-row (Is T.the-row) (LL.makes T.the-type T′.the-plain 𝓤 H A) t _ is $ fjoin ! $ frame ! $
       feqI ! (List Val) (vunit ∷ []) (vunit ∷ []) refl $ done !
 

@@ -1,10 +1,10 @@
 -- `office::put_text` meets its contract. Assumes nothing.
 -- The loop: the lines of the first i rows are stored at the front, and nothing else; n − i falls.
 use Rattle.ground.proofs.Kit.{_+_, _-_, _≤_, _≡_, refl, _∙_, arith, length, needs}
+use Rattle.ground.proofs.Joins.{join-longer, join-within}
 use Rattle.field.specs.Handover.{Put}
-use Rattle.field.proofs.Stores.{put-long}
-use Rattle.office.specs.Text.{textTo}
-use Rattle.office.proofs.Widths.{text-long, text-within, puts-none, puts-more}
+use Rattle.field.proofs.Stores.{put-long, put-no-run, put-run}
+use Rattle.office.specs.Text.{rowLine, textTo}
 use Rattle.office.proofs.put_text.Statement.{statement}
 use Rattle.office.proofs.put_text.Tie as tie
 
@@ -19,14 +19,14 @@ put-line-requires c κs =
     let at-loop = c .before .before .before in
     let args = at-loop .before .before .args in
     let next = at-loop .loop .i + 1 in
-    omega (arith, text-long (args .t2) (at-loop .loop .i), text-within (args .t2) next (args .n) (omega arith))
+    omega (arith, join-longer (rowLine (args .t2)) (at-loop .loop .i), join-within (rowLine (args .t2)) next (args .n) (omega arith))
 
 loop-again : tie.Need-loop-again Inv-loop μ-loop
 loop-again c =
     let put = c .before .before in
     let so-far = put .before .before .before .before .loop .inv in
     let line = put .put-line .ensures in
-    (search needs, (put-long line ∙ so-far .1 .0, puts-more _ _ _ _ _ _ _ (so-far .1 .1) line))
+    (search needs, (put-long line ∙ so-far .1 .0, put-run _ _ (so-far .1 .1) line))
 
 returns : tie.Need-returns Inv-loop μ-loop
 returns c =
@@ -35,5 +35,5 @@ returns c =
     rw (← all) (at-loop .loop .inv .1 .1)
 
 pub put-text-spec : {M : Type 1} → statement M
-put-text-spec = tie.close (tie.spec Inv-loop μ-loop (λ c. (search needs, (refl, puts-none _ _))) (λ c. search needs) (λ c. search needs) put-line-requires
+put-text-spec = tie.close (tie.spec Inv-loop μ-loop (λ c. (search needs, (refl, put-no-run _ _ _))) (λ c. search needs) (λ c. search needs) put-line-requires
     (λ c. search needs) (λ c. search needs) loop-again (λ c. search needs) returns)

@@ -1,8 +1,8 @@
 -- `office::text_width` meets its contract. Assumes nothing.
 -- The loop: the lines of the first i rows are counted; n − i falls.
 use Rattle.ground.proofs.Kit.{ℕ, _-_, _*_, _≤_, _≡_, sym, _∙_, ap, arith, length, needs}
-use Rattle.office.specs.Text.{textTo, longestLine}
-use Rattle.office.proofs.Widths.{text-none, text-long}
+use Rattle.ground.proofs.Joins.{join-none, join-longer}
+use Rattle.office.specs.Text.{rowLine, textTo, longestLine}
 use Rattle.office.proofs.text_width.Statement.{statement}
 use Rattle.office.proofs.text_width.Tie as tie
 
@@ -13,12 +13,12 @@ abbrev μ-loop : tie.MeasureT-loop
 μ-loop n rows width₀ i₀ width i = n - i
 
 loop-holds : tie.Need-loop-holds Inv-loop μ-loop
-loop-holds c = (search needs, (ap length (sym (text-none (c .args .t1))), omega arith))
+loop-holds c = (search needs, (ap length (sym (join-none (rowLine (c .args .t1)))), omega arith))
 
 loop-again : tie.Need-loop-again Inv-loop μ-loop
 loop-again c =
     let at-loop = c .before .before .before in
-    let longer = text-long (at-loop .before .args .t1) (at-loop .loop .i) in
+    let longer = join-longer (rowLine (at-loop .before .args .t1)) (at-loop .loop .i) in
     (search needs, (omega arith, omega arith))
 
 returns : tie.Need-returns Inv-loop μ-loop

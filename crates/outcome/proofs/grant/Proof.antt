@@ -1,7 +1,8 @@
 -- `outcome::grant` meets its contract. Assumes nothing.
-use Rattle.ground.proofs.Kit.{ℕ, List, _++_, _∙_, ap, length, drop, needs}
+use Rattle.ground.proofs.Kit.{ℕ, List, _++_, sym, _∙_, ap, length, drop, needs}
+use Rattle.kinds.specs.Answer.{isAccepted, stepOf}
 use Rattle.outcome.specs.Handover.{Grantable}
-use Rattle.outcome.proofs.Writing.{granted-at, leaves-refused, leaves-accepted}
+use Rattle.outcome.proofs.Writing.{granted-at, written-refused, written-accepted}
 use Rattle.outcome.proofs.grant.Statement.{statement}
 use Rattle.outcome.proofs.grant.Tie as tie
 
@@ -36,11 +37,12 @@ returns c =
     let periods-written = placed .before .before .before .before in
     let at-answer = asked periods-written in
     let args = start at-answer .args in
-    leaves-accepted (args .answer) (args .settings) _ _ _ _ _ _ _ (at-answer .answer .given .1) (periods-written .write-periods .ensures)
+    let accepted = at-answer .answer .given .1 in
+    written-accepted (args .answer) _ _ _ _ _ _ _ _ (ap isAccepted accepted) (sym (ap stepOf accepted)) (periods-written .write-periods .ensures)
     (written .write-front .ensures ∙ ap (λ (front : List ℕ). front ++ drop (args .n) (args .processors .now)) (placed .processors-at .ensures))
 
 returns-2 : tie.Need-returns-2
-returns-2 c = leaves-refused _ _ _ _ _ _ _ (c .enum-told .given .1)
+returns-2 c = written-refused (c .before .before .before .before .args .answer) _ _ _ _ _ (ap isAccepted (c .enum-told .given .1))
 
 pub grant-spec : {M : Type 1} → statement M
 grant-spec = tie.close (tie.spec (λ c. search needs) write-periods-requires processors-at-requires write-front-requires (λ c. search needs)

@@ -21,7 +21,7 @@ share-on-requires : tie.Need-share-on-requires Inv-loop μ-loop
 share-on-requires c κs = rw (c .spring-in .ensures) (c .before .before .before .pre .within _ (c .before .loop-test .taken))
 
 add-sum : tie.Need-add-sum Inv-loop μ-loop
-add-sum c = let at-loop = c .before .before .before in omega (arith, c .share-on .ensures .1, at-loop .loop .inv .1 .sum-most, at-loop .before .pre .few)
+add-sum c = let at-loop = c .before .before .before in omega (arith, c .share-on .ensures .1, at-loop .loop .inv .1 .added .most, at-loop .before .pre .few)
 
 loop-again : tie.Need-loop-again Inv-loop μ-loop
 loop-again c =

@@ -17,7 +17,7 @@ returns c =
         tested = tested .weighs .ensures ∙ weighed-worked-out _ _ _ _ _ total;
         count = refl;
       },
-      record { is = total .sum-is; most = total .sum-most },
+      total .added,
     )
 
 pub look-spec : {M : Type 1} → statement M

@@ -1,9 +1,9 @@
 -- `sheet::read_results` meets its contract. Assumes nothing.
 -- The loop: the first i rows are those of the definition, the rest are unused, and the place is after them; n − i falls.
 use Rattle.ground.proofs.Kit.{_+_, _-_, _*_, _≤_, _≡_, sym, arith, length, needs}
+use Rattle.ground.proofs.Laid.{over-none}
 use Rattle.sheet.specs.Rows.{grantedAt, noResults, rowsAt}
 use Rattle.sheet.specs.Sections.{grantedSize}
-use Rattle.sheet.proofs.Padding.{over-none}
 use Rattle.sheet.proofs.RowFields.{granted-got, granted-missed, rows-more, results-there, results-missing}
 use Rattle.sheet.proofs.read_results.Statement.{statement}
 use Rattle.sheet.proofs.read_results.Tie as tie

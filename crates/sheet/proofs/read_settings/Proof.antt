@@ -1,12 +1,12 @@
 -- `sheet::read_settings` meets its contract. Assumes nothing.
 -- The loop: the first i rows are those of the definition, the rest are filled in, and the place is after them; n − i falls.
 use Rattle.ground.proofs.Kit.{_+_, _-_, _*_, _≤_, _≡_, sym, arith, length, needs}
+use Rattle.ground.proofs.Laid.{over-none}
 use Rattle.kinds.specs.Settings.{fillIns}
 use Rattle.field.specs.Number.{u16At}
 use Rattle.field.proofs.Fields.{got16, missed16}
 use Rattle.sheet.specs.Rows.{rowsAt}
 use Rattle.sheet.specs.Sections.{settingSize}
-use Rattle.sheet.proofs.Padding.{over-none}
 use Rattle.sheet.proofs.RowFields.{rows-more, settings-there, settings-missing}
 use Rattle.sheet.proofs.read_settings.Statement.{statement}
 use Rattle.sheet.proofs.read_settings.Tie as tie

@@ -1,9 +1,10 @@
 -- `sheet::read_tasks` meets its contract. Assumes nothing.
 -- The loop: the first i rows are those of the definition, the rest are unused, and the place is after them; n − i falls.
 use Rattle.ground.proofs.Kit.{_+_, _-_, _*_, _≤_, _≡_, sym, arith, length, needs}
-use Rattle.sheet.specs.Rows.{taskAt, noTasks, rowsAt}
+use Rattle.ground.proofs.Laid.{over-none}
+use Rattle.kinds.specs.Task.{noTasks}
+use Rattle.sheet.specs.Rows.{taskAt, rowsAt}
 use Rattle.sheet.specs.Sections.{taskSize}
-use Rattle.sheet.proofs.Padding.{over-none}
 use Rattle.sheet.proofs.RowFields.{task-got, task-missed, rows-more, tasks-there, tasks-missing}
 use Rattle.sheet.proofs.read_tasks.Statement.{statement}
 use Rattle.sheet.proofs.read_tasks.Tie as tie

@@ -10,7 +10,7 @@ shares-at-requires c κs = let at-start = c .before .before .before in charged-s
 returns : tie.Need-returns
 returns c =
     let asked = c .before .before in
-    as-charges (asked .before .before .args .settings) _ _ _ _ _ (sym (asked .before .tests-charge .ensures) ∙ asked .if1 .taken) (c .charges-at .ensures)
+    as-charges (asked .before .before .args .settings) _ _ _ _ _ (sym (asked .before .tests-charge .ensures) ∙ asked .if1 .taken) (c .charges-at .ensures .loaded)
 
 returns-2 : tie.Need-returns-2
 returns-2 c =

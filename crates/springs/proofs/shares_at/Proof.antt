@@ -1,11 +1,12 @@
 -- `springs::shares_at` meets its contract. The loop: the first i loads are the shares of step k, whose sum is at hand, and nothing else has
 -- moved; n − i falls. Assumes nothing.
 use Rattle.ground.proofs.Kit.{_-_, _≤_, _≡_, _∙_, ap, arith}
+use Rattle.ground.proofs.Folds.{added-none, added-more}
 use Rattle.springs.specs.declared.Spring.{Spring}
 use Rattle.springs.specs.Spring.{shareOn, sharesOn}
 use Rattle.springs.specs.Columns.{springIn}
 use Rattle.springs.specs.Handover.{SumIs, Loaded}
-use Rattle.springs.proofs.Blocks.{loaded-none, loaded-more, loaded-springs, sum-start, sum-on}
+use Rattle.springs.proofs.Blocks.{loaded-none, loaded-more, loaded-springs}
 use Rattle.springs.proofs.shares_at.Statement.{statement}
 use Rattle.springs.proofs.shares_at.Tie as tie
 
@@ -43,7 +44,7 @@ loop-again c =
     let at-start = at-loop .before in (
       omega arith,
       loaded-more _ _ _ _ _ (omega (arith, at-start .pre .few, at-start .pre .long)) (shared c) (at-loop .loop .inv .1),
-      sum-on _ _ _ _ _ (at-loop .loop .inv .2) (shared c) (c .share-on .ensures .1),
+      added-more _ _ _ _ _ (at-loop .loop .inv .2) (shared c) (c .share-on .ensures .1),
     )
 
 returns : tie.Need-returns Inv-loop μ-loop
@@ -53,5 +54,5 @@ returns c =
     record { loaded = rw e at (at-loop .loop .inv .1); sum-is = c .widened .ensures ∙ (rw e at (at-loop .loop .inv .2 .is)) }
 
 pub shares-at-spec : {M : Type 1} → statement M
-shares-at-spec = tie.close (tie.spec Inv-loop μ-loop (λ c. (omega arith, loaded-none _ _, sum-start _ _)) spring-in-requires share-on-requires
+shares-at-spec = tie.close (tie.spec Inv-loop μ-loop (λ c. (omega arith, loaded-none _ _, added-none _ _)) spring-in-requires share-on-requires
     (λ c. omega arith) (λ c. omega arith) add-sum (λ c. omega arith) (λ c. omega arith) loop-again (λ _ _. tt) returns)

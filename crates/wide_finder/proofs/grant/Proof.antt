@@ -1,7 +1,7 @@
 -- `wide_finder::grant` meets its contract. Assumes nothing.
 use Rattle.ground.proofs.Kit.{true, _≡_, sym, _∙_, needs}
 use Rattle.kinds.specs.Answer.{isAccepted}
-use Rattle.wide_finder.proofs.Writing.{leaves-refused, leaves-accepted}
+use Rattle.outcome.proofs.Writing.{written-refused, written-accepted}
 use Rattle.wide_finder.proofs.grant.Statement.{statement}
 use Rattle.wide_finder.proofs.grant.Tie as tie
 
@@ -30,10 +30,10 @@ returns c =
     let stepped = periods .before .before in
     let accepted = stepped .before in
     let args = accepted .before .before .before .before .args in
-    leaves-accepted (args .answer) _ _ _ _ _ _ _ (taken accepted) (stepped .step .ensures) (periods .write-periods .ensures) (cores .write-cores .ensures)
+    written-accepted (args .answer) _ _ _ _ _ _ _ _ (taken accepted) (stepped .step .ensures) (periods .write-periods .ensures) (cores .write-cores .ensures)
 
 returns-2 : tie.Need-returns-2
-returns-2 c = leaves-refused (c .before .before .before .before .args .answer) _ _ _ _ (sym (c .before .accepted .ensures) ∙ c .if1 .left)
+returns-2 c = written-refused (c .before .before .before .before .args .answer) _ _ _ _ _ (sym (c .before .accepted .ensures) ∙ c .if1 .left)
 
 pub grant-spec : {M : Type 1} → statement M
 grant-spec = tie.close (tie.spec (λ c κs. search needs) (λ c κs. search needs) write-periods-requires write-cores-requires (λ c. search needs)

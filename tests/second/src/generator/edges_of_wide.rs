@@ -1,7 +1,7 @@
 //! The edges of the finder of tasks that need several cores: settings, records, outputs, the widest range.
 
 use crate::call::{Call, Rooms, WideTable};
-use crate::definition::wide_finder::WideRecord;
+use crate::definition::wide::WideRecord;
 
 /// Ask 4's job: 5 cores at T = 10, 2 at T = 20.
 pub const VISION: WideRecord = WideRecord::new(30, 5, 10, 20, 1000);

@@ -2,7 +2,7 @@
 
 use super::edges_of_wide::{records_at_limits, VISION};
 use crate::call::WideTable;
-use crate::definition::wide_finder::WideRecord;
+use crate::definition::wide::WideRecord;
 use crate::random::Random;
 
 /// A table, seldom with processors, a count or a record that is refused.

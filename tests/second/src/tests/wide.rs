@@ -2,7 +2,7 @@
 
 use super::refused;
 use crate::definition::kinds::{Refusal, SCALE};
-use crate::definition::wide_finder::{find_wide, WideQuestion, WideRecord};
+use crate::definition::wide::{find_wide, WideQuestion, WideRecord};
 use crate::generator::edges_of_wide::{VISION, WIDEST};
 
 fn step_of(m: u16, rows: &[WideRecord]) -> Result<u32, Refusal> {

@@ -18,7 +18,7 @@ unfolding code.routine
 eelbasket-export-spec 𝓤 H 𝓜 𝓖 𝓡 =
     thin (gathered 𝓤 H 𝓜 𝓖 𝓡) values.told-count w8
     core-def.name core-def.routine (core.clauses 𝓤 H (𝓖 .A) (𝓜 .mem) (𝓡 .run)) (core-thm.met 𝓤 H 𝓜 𝓖 𝓡)
-    code.env key.name (code.unfolded 𝓤 H 𝓜 𝓡) code.calls-lent-rows·gather code.calls-told-texts·export-told
+    code.env key.name (code.unfolded 𝓤 H 𝓜 𝓡) code.calls-lent-rows·gather code.calls-c-texts·export-told
     (eelbasket-export.clauses 𝓤 H (𝓖 .A) (𝓜 .mem) (𝓡 .run))
     (record {
       ghost = λ κ κ₁ x y g. tt;
