@@ -1,7 +1,7 @@
 -- "Given exactly when", of 1, 15 and 2 to 6: the admission is its chain, `admission-chain`, and where it admits nothing is left unchecked,
 -- `ready-admitted`.
 -- Assumes nothing.
-use Rattle.ground.proofs.Kit.{ℕ, Bool, false, not, List, [], _∷_, _++_, _≡_, refl, _∙_, ap, ltb, le-ltb}
+use Rattle.ground.proofs.Kit.{ℕ, Bool, true, false, not, List, [], _∷_, _++_, _≡_, refl, _∙_, ap, ltb, le-ltb}
 use Rattle.ground.specs.Choice.{both}
 use Rattle.kinds.specs.declared.Task.{Task}
 use Rattle.kinds.specs.declared.Settings.{Settings}
@@ -22,6 +22,11 @@ use Rattle.admission.proofs.Sentences.{two-says}
 -- two chains of a verdict, one after the other
 pub then-first : (xs ys : List Check) → andThen (firstOf xs) (firstOf ys) ≡ firstOf (xs ++ ys)
 then-first xs ys = first-through (λ v. andThen v (firstOf ys)) Refused Accepted xs ∙ first-then Refused Accepted xs ys
+
+-- a call that does not serve policy 4 refuses it by 4
+pub unserved : (first : Bool) → both first (not false) ≡ first
+unserved true = refl
+unserved false = refl
 
 -- the admission is the first refusal of its chain
 module _ (serves : Bool) (s : Settings) (rows : List Task) (n room : ℕ) where

@@ -16,30 +16,14 @@ use Rattle.share.proofs.Tables.{first-bad-is}
 use Rattle.admission.specs.Admission.{unsuited, noEdition, missetNumbers, missetUnder}
 use Rattle.admission.proofs.Chain.{neither, numbers-set, set-few, edition-set, one-core-set}
 
--- a policy that is one of the five has its number
-withdrawn-number : (p : Policy) → isWithdrawn p ≡ true → policyNumber p ≡ 3
-withdrawn-number Pooled e = true-false e refl
-withdrawn-number GlobalEdf e = true-false e refl
-withdrawn-number GlobalRm e = refl
-withdrawn-number FirstFit e = true-false e refl
-withdrawn-number OneCoreRm e = true-false e refl
-withdrawn-number (Further q) e = true-false e refl
-
-first-fit-number : (p : Policy) → isFirstFit p ≡ true → policyNumber p ≡ 4
-first-fit-number Pooled e = true-false e refl
-first-fit-number GlobalEdf e = true-false e refl
-first-fit-number GlobalRm e = true-false e refl
-first-fit-number FirstFit e = refl
-first-fit-number OneCoreRm e = true-false e refl
-first-fit-number (Further q) e = true-false e refl
-
-one-core-number : (p : Policy) → isOneCore p ≡ true → policyNumber p ≡ 5
-one-core-number Pooled e = true-false e refl
-one-core-number GlobalEdf e = true-false e refl
-one-core-number GlobalRm e = true-false e refl
-one-core-number FirstFit e = true-false e refl
-one-core-number OneCoreRm e = refl
-one-core-number (Further q) e = true-false e refl
+-- policies 3, 4 and 5, each known by its kind
+kind-numbers : (p : Policy) → (isWithdrawn p ≡ true → policyNumber p ≡ 3) × (isFirstFit p ≡ true → policyNumber p ≡ 4) × (isOneCore p ≡ true → policyNumber p ≡ 5)
+kind-numbers Pooled = (λ e. true-false e refl, λ e. true-false e refl, λ e. true-false e refl)
+kind-numbers GlobalEdf = (λ e. true-false e refl, λ e. true-false e refl, λ e. true-false e refl)
+kind-numbers GlobalRm = (λ _. refl, λ e. true-false e refl, λ e. true-false e refl)
+kind-numbers FirstFit = (λ e. true-false e refl, λ _. refl, λ e. true-false e refl)
+kind-numbers OneCoreRm = (λ e. true-false e refl, λ e. true-false e refl, λ _. refl)
+kind-numbers (Further q) = (λ e. true-false e refl, λ e. true-false e refl, λ e. true-false e refl)
 
 -- 1 to 5 are numbers of policies, and no other number is
 numbered : (q : ℕ) → 1 ≤ q → q ≤ 5 → isFurther (policyOf q) ≡ false
@@ -69,11 +53,11 @@ module _ (p : Policy) where
 
   -- 15: policy 3 "is withdrawn", also in a further choice that holds it
   pub fifteen-says : (isWithdrawn (meant p) ≡ true) ↔ (policyNumber p ≡ 3)
-  fifteen-says = (λ e. sym (number-back (policyNumber p)) ∙ withdrawn-number (meant p) e, λ e. rw e)
+  fifteen-says = (λ e. sym (number-back (policyNumber p)) ∙ kind-numbers (meant p) .0 e, λ e. rw e)
 
   -- 4: "policy 4"
   pub four-says : (isFirstFit (meant p) ≡ true) ↔ (policyNumber p ≡ 4)
-  four-says = (λ e. sym (number-back (policyNumber p)) ∙ first-fit-number (meant p) e, λ e. rw e)
+  four-says = (λ e. sym (number-back (policyNumber p)) ∙ kind-numbers (meant p) .1 e, λ e. rw e)
 
 -- what 2 is not given for: "m is 0 or above 16", "q = 0", an edition that is not "1 or 2", and policy 5 "needs m = 1"
 pub record WellSet (s : Settings) : Type 0 where
@@ -88,7 +72,7 @@ edition-there edition h = ⊎-elim (λ e. rw e) (λ e. rw e) h
 
 unsuited-not : (p : Policy) (m : ℕ) → (policyNumber p ≡ 5 → m ≡ 1) → unsuited (meant p) m ≡ false
 unsuited-not p m h =
-    by-bool (isOneCore (meant p)) (λ t. rw (t, h (sym (number-back (policyNumber p)) ∙ one-core-number (meant p) t))) (λ t. rw t)
+    by-bool (isOneCore (meant p)) (λ t. rw (t, h (sym (number-back (policyNumber p)) ∙ kind-numbers (meant p) .2 t))) (λ t. rw t)
 
 -- 2
 pub two-says : (s : Settings) → (missetUnder s ≡ false) ↔ WellSet s

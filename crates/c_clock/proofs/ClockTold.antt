@@ -1,27 +1,20 @@
--- What a start and a call hand back, told in numbers.
+-- What a call hands back, told in numbers.
 -- Assumes nothing.
 use Prim.Native.Nat.{ℕ}
 use mathlib.Core.List.{List, [], _∷_}
 use mathlib.Core.Path.{_≡_, sym, ap, _∙_}
 use lib.ListN.{length, getD}
 use Rattle.kinds.specs.declared.Refusal.{Refusal}
-use Rattle.kinds.specs.Answer.{Handed, accepted, refused, handedWith}
-use Rattle.kinds.specs.Refusal.{numberOf, placeOf}
+use Rattle.kinds.specs.Answer.{Handed, accepted, handedVerdict}
 use Rattle.clock.specs.declared.Clock.{Clock}
 use Rattle.kinds.specs.declared.Verdict.the-variants as verdict
 use Rattle.clock.specs.declared.Release.the-variants as release
-use Rattle.clock.specs.declared.Started.{Started}
 use Rattle.clock.specs.declared.Called.{Called}
-use Rattle.clock.specs.Start.{started, handedStart}
 use Rattle.clock.specs.Call.{released, handedRelease, CallIs}
+use Rattle.c_numbers.specs.declared.ToldVerdict.{ToldVerdict}
+use Rattle.c_numbers.specs.Numbers.{toldVerdict, beside}
+use Rattle.c_numbers.proofs.Beside.{told-beside}
 use Rattle.c_clock.specs.Clocked.{ToldCallIs}
-
-module _ (periods : List ℕ) (tick : ℕ) (r : Started) (p : handedStart r ≡ started periods tick) where
-  pub told-begun : r .answer ≡ verdict.Accepted → accepted (r .clock) ≡ started periods tick
-  told-begun e = ap (λ a. handedWith a (r .clock)) (sym e) ∙ p
-
-  pub told-not-begun : (q : Refusal) → r .answer ≡ verdict.Refused q → refused (r .clock) q ≡ started periods tick
-  told-not-begun q e = ap (λ a. handedWith a (r .clock)) (sym e) ∙ p
 
 module _ (c : Clock) (present : ℕ) (r : Called) (p : CallIs c present r) where
   -- what is handed back, and the clock, field by field
@@ -43,6 +36,6 @@ module _ (c : Clock) (present : ℕ) (r : Called) (p : CallIs c present r) where
       → ToldCallIs c present (record { number = 0; due = 0; task = 0; place = 0; clock = r .clock })
   told-none e = fields (accepted []) (ap handedRelease (sym e) ∙ p .answers)
 
-  pub told-refused : (q : Refusal) → r .answer ≡ release.Refused q
-      → ToldCallIs c present (record { number = numberOf q; due = 0; task = 0; place = placeOf q; clock = r .clock })
-  told-refused q e = fields (refused [] q) (ap handedRelease (sym e) ∙ p .answers)
+  pub told-refused : (q : Refusal) (t : ToldVerdict) → toldVerdict t ≡ handedVerdict (verdict.Refused q) → r .answer ≡ release.Refused q
+      → ToldCallIs c present (record { number = t .number; due = 0; task = 0; place = t .place; clock = r .clock })
+  told-refused q t told e = fields (beside (toldVerdict t) []) (told-beside (verdict.Refused q) [] t told ∙ (ap handedRelease (sym e) ∙ p .answers))

@@ -1,4 +1,5 @@
 // The release clock in numbers: the clock table crosses by value, both ways. Contracts cite `specs/Clocked`.
+use c_numbers::tell_verdict;
 use clock::Clock;
 use clock::Release;
 use kinds::Verdict;
@@ -31,17 +32,11 @@ pub fn clock_start_told(periods: &[u32], tick: u32) -> ToldStart
     let begun = clock::start(periods, tick);
     let answer = begun.answer;
     let clock = begun.clock;
-    match answer {
-        Verdict::Accepted => ToldStart {
-            number: 0,
-            place: 0,
-            clock,
-        },
-        Verdict::Refused(refusal) => ToldStart {
-            number: refusal.number() as u32,
-            place: refusal.place(),
-            clock,
-        },
+    let told = tell_verdict(answer);
+    ToldStart {
+        number: told.number,
+        place: told.place,
+        clock,
     }
 }
 
@@ -67,12 +62,15 @@ pub fn clock_call_told(clock: Clock, present: u32) -> ToldCall
             place: 0,
             clock: after,
         },
-        Release::Refused(refusal) => ToldCall {
-            number: refusal.number() as u32,
-            due: 0,
-            task: 0,
-            place: refusal.place(),
-            clock: after,
-        },
+        Release::Refused(refusal) => {
+            let told = tell_verdict(Verdict::Refused(refusal));
+            ToldCall {
+                number: told.number,
+                due: 0,
+                task: 0,
+                place: told.place,
+                clock: after,
+            }
+        }
     }
 }

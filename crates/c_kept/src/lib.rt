@@ -1,8 +1,8 @@
 // Joins and leaves in numbers: the table and the index beside it cross by value, both ways. Contracts cite `specs/Kept`.
+use c_numbers::tell_verdict;
 use keep::Changed;
 use keep::Kept;
 use kinds::Task;
-use kinds::Verdict;
 ghost use mathlib.Core.Path.{_≡_};
 ghost use Rattle.keep.specs.Keep.{joined, left, handedChange};
 ghost use Rattle.c_kept.specs.Kept.{toldChange};
@@ -21,17 +21,11 @@ fn tell_change(changed: Changed) -> ToldChange
 {
     let answer = changed.answer;
     let kept = changed.kept;
-    match answer {
-        Verdict::Accepted => ToldChange {
-            number: 0,
-            place: 0,
-            kept,
-        },
-        Verdict::Refused(refusal) => ToldChange {
-            number: refusal.number() as u32,
-            place: refusal.place(),
-            kept,
-        },
+    let told = tell_verdict(answer);
+    ToldChange {
+        number: told.number,
+        place: told.place,
+        kept,
     }
 }
 

@@ -17,6 +17,10 @@ settingsOf s = settings (policyOf (s .policy)) (s .m) (s .w) (s .q) (s .edition)
 abbrev pub toldVerdict : ToldVerdict → NumberAndPlace
 toldVerdict r = record { number = r .number; place = r .place; value = tt }
 
+-- number and place, with a value beside them
+abbrev pub beside : {A : Type 0} → NumberAndPlace → A → Handed A
+beside h x = record { number = h .number; place = h .place; value = x }
+
 abbrev pub toldCount : ToldCount → Handed ℕ
 toldCount r = record { number = r .number; place = r .place; value = r .count }
 

@@ -71,10 +71,13 @@ pub fn tell_count(counted: Counted) -> ToldCount
             place: 0,
             count,
         },
-        Counted::Refused(refused) => ToldCount {
-            number: refused.number() as u32,
-            place: refused.place(),
-            count: 0,
-        },
+        Counted::Refused(refusal) => {
+            let told = tell_verdict(Verdict::Refused(refusal));
+            ToldCount {
+                number: told.number,
+                place: told.place,
+                count: 0,
+            }
+        }
     }
 }

@@ -7,6 +7,7 @@ use c_numbers::tell_verdict;
 use kinds::Answer;
 use kinds::Margin;
 use kinds::Table;
+use kinds::Verdict;
 use wide_task::WideTable;
 ghost use mathlib.Core.Bool.{true};
 ghost use mathlib.Core.Path.{_≡_};
@@ -56,12 +57,15 @@ fn tell(answer: Answer, looks: u32) -> Told
             looks,
             place: 0,
         },
-        Answer::Refused(refusal) => Told {
-            number: refusal.number() as u32,
-            step: 0,
-            looks,
-            place: refusal.place(),
-        },
+        Answer::Refused(refusal) => {
+            let told = tell_verdict(Verdict::Refused(refusal));
+            Told {
+                number: told.number,
+                step: 0,
+                looks,
+                place: told.place,
+            }
+        }
     }
 }
 
@@ -106,11 +110,14 @@ pub fn margin_told(table: Table, station: Station, step: u32) -> ToldMargin
             place: 0,
             margin,
         },
-        Margin::Refused(refusal) => ToldMargin {
-            number: refusal.number() as u32,
-            place: refusal.place(),
-            margin: 0,
-        },
+        Margin::Refused(refusal) => {
+            let told = tell_verdict(Verdict::Refused(refusal));
+            ToldMargin {
+                number: told.number,
+                place: told.place,
+                margin: 0,
+            }
+        }
     }
 }
 

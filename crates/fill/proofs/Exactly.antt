@@ -3,17 +3,14 @@
 use Rattle.ground.proofs.Kit.{ℕ, _≤_, List, [], _∷_, _≡_, refl, sym, _∙_, ap, arith, ltb, le-ltb, ltb-false}
 use Rattle.kinds.specs.declared.Sheet.{Sheet}
 use Rattle.kinds.specs.declared.Refusal.{Refusal}
-use Rattle.kinds.specs.declared.Refusal.the-variants.{NoSuchPolicy, PolicyWithdrawn, Misset, TooManyTasks, BadRecord, NoStepPasses}
+use Rattle.kinds.specs.declared.Refusal.the-variants.{TooManyTasks}
 use Rattle.kinds.specs.Answer.{Handed, accepted, refused, unrefused}
 use Rattle.kinds.specs.Limits.{mostTasks}
-use Rattle.kinds.specs.Policy.{meant, isWithdrawn, isFurther}
 use Rattle.kinds.specs.Chain.{Check, _when_, firstBy, handedBy, NoneHolds, Exactly, numbersGiven}
 use Rattle.kinds.proofs.Chain.{comes-first}
 use Rattle.kinds.proofs.Chains.{by-chain, none-first, given-first, exactly, first-through, first-then, first-without}
-use Rattle.share.specs.Table.{firstBad}
-use Rattle.policy.specs.Under.{leastUnder}
-use Rattle.admission.specs.Admission.{missetUnder}
-use Rattle.outcome.specs.Chain.{nonePasses}
+use Rattle.admission.specs.Chain.{settingsChain, recordCheck}
+use Rattle.outcome.specs.Chain.{stepCheck}
 use Rattle.plain_finder.specs.Asked.{asked}
 use Rattle.plain_finder.proofs.Exactly.{asked-chain}
 use Rattle.sheet.specs.Reading.{taskCount, noSheet, sheetIn}
@@ -49,12 +46,9 @@ pub asked-few : (x : Sheet) → x .table .n ≤ mostTasks → asked x ≡ handed
 asked-few x few =
     let s = x .settings in
     let n = x .table .n in
-    let p = meant (s .policy) in
-    let bad = firstBad (s .swap) (s .notch) (x .table .rows) n in
-    let before : List Check = NoSuchPolicy when isFurther p ∷ PolicyWithdrawn when isWithdrawn p ∷ Misset when missetUnder s ∷ [] in
     let three = TooManyTasks n when ltb mostTasks n in
-    let after : List Check = BadRecord bad when ltb bad n ∷ NoStepPasses when nonePasses (leastUnder s (x .table .rows) n) ∷ [] in
-    asked-chain x ∙ first-without (refused 0) (accepted (stepFor x)) before three after (le-ltb mostTasks n few)
+    let after : List Check = recordCheck s (x .table .rows) n ∷ stepCheck s (x .table .rows) n ∷ [] in
+    asked-chain x ∙ first-without (refused 0) (accepted (stepFor x)) (settingsChain s) three after (le-ltb mostTasks n few)
 
 -- what is written for a sheet with at most 32 tasks
 sheet-chain : (x : Sheet) → x .table .n ≤ mostTasks → plannedSheet x ≡ handedBy [] (bytesFor x) (plannedChain x)

@@ -9,7 +9,7 @@ use Rattle.ground.specs.First.{firstBelow}
 use Rattle.ground.specs.Folds.{listTo}
 use Rattle.kinds.specs.Limits.{scale, mostProcessors}
 
--- the load of task i in a column
+-- the load of task i in a run of loads
 abbrev pub loadIn : List ℕ → ℕ → ℕ
 loadIn loads i = getD loads i 0
 

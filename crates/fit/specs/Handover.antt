@@ -8,7 +8,7 @@ use Rattle.kinds.specs.Limits.{scale, mostTasks}
 use Rattle.fit.specs.declared.Fit.{Fit}
 use Rattle.fit.specs.Fit.{loadIn, stuckAt, fits, placesTo}
 
--- a column of the loads of n tasks, none above S
+-- a run of loads, of which those of n tasks come first, none above S
 pub record Loads (loads : List ℕ) (n : ℕ) : Type 0 where
   pub few : n ≤ mostTasks
   pub most : (i : ℕ) → i < n → loadIn loads i ≤ scale

@@ -2,6 +2,7 @@
 -- Assumes nothing.
 use Rattle.ground.proofs.Kit.{ℕ, _≤_, _≡_, refl, sym, _∙_, ap, arith, eqb}
 use Rattle.ground.specs.Choice.{pick}
+use Rattle.ground.proofs.Cases.{by-le}
 use Rattle.kinds.specs.declared.Refusal.{Refusal}
 use Rattle.kinds.specs.declared.Refusal.the-variants.{NoSuchPolicy, Misset, TooManyTasks, PolicyNotServed, OutputTooShort}
 use Rattle.kinds.specs.declared.Refusal.the-variants.{BadRecord, NoStepPasses, SheetEnds, WrongSettingsCount, WrongResultCount}
@@ -58,23 +59,12 @@ pub refusal-one : (r q : Refusal) → numberOf r ≡ numberOf q → placeOf r �
 refusal-one r q n p =
     sym (again-is r) ∙ (ap (λ (x : ℕ). again x (placeOf r)) n ∙ (ap (λ (x : ℕ). again (numberOf q) x) p ∙ again-is q))
 
+-- the number 0 would be the last one's, 19
 pub refusal-numbered : (r : Refusal) → 1 ≤ numberOf r
-refusal-numbered NoSuchPolicy = omega arith
-refusal-numbered Misset = omega arith
-refusal-numbered (TooManyTasks place) = omega arith
-refusal-numbered PolicyNotServed = omega arith
-refusal-numbered (OutputTooShort place) = omega arith
-refusal-numbered (BadRecord place) = omega arith
-refusal-numbered NoStepPasses = omega arith
-refusal-numbered (SheetEnds place) = omega arith
-refusal-numbered WrongSettingsCount = omega arith
-refusal-numbered (WrongResultCount place) = omega arith
-refusal-numbered (BytesAfterLast place) = omega arith
-refusal-numbered (NoSuchRecord place) = omega arith
-refusal-numbered (ProcessorOutOfRange place) = omega arith
-refusal-numbered (ProcessorOverfull place) = omega arith
-refusal-numbered PolicyWithdrawn = omega arith
-refusal-numbered (BadLine place) = omega arith
-refusal-numbered (BadPeriod place) = omega arith
-refusal-numbered NoResults = omega arith
-refusal-numbered (WrongResult place) = omega arith
+unfolding again
+refusal-numbered r =
+    by-le 1 (numberOf r) (λ l. l)
+    (λ l.
+    let none : numberOf r ≡ 0 = omega arith in
+    let last : r ≡ WrongResult (placeOf r) = sym (again-is r) ∙ ap (λ (x : ℕ). again x (placeOf r)) none in
+    absurd (omega (arith, ap numberOf last)))

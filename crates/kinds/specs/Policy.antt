@@ -27,50 +27,34 @@ policyNumber (Further q) = q
 abbrev pub meant : Policy → Policy
 meant p = policyOf (policyNumber p)
 
--- policies 1, 2 and 5, whose tests weigh the sum and the max against a bound
+-- what a policy is, a line for each: its test weighs the sum and the max against a bound, on m processors or on one; it places tasks by first fit;
+-- Ask 8: "Global RM is withdrawn"; or it is none of the five
+abbrev pub byKind : {A : Type 0} → A → A → A → A → A → Policy → A
+byKind weighed onOne placed withdrawn none Pooled = weighed
+byKind weighed onOne placed withdrawn none GlobalEdf = weighed
+byKind weighed onOne placed withdrawn none GlobalRm = withdrawn
+byKind weighed onOne placed withdrawn none FirstFit = placed
+byKind weighed onOne placed withdrawn none OneCoreRm = onOne
+byKind weighed onOne placed withdrawn none (Further q) = none
+
+-- policies 1, 2 and 5
 abbrev pub isWeighed : Policy → Bool
-isWeighed Pooled = true
-isWeighed GlobalEdf = true
-isWeighed GlobalRm = false
-isWeighed FirstFit = false
-isWeighed OneCoreRm = true
-isWeighed (Further q) = false
+isWeighed p = byKind true true false false false p
 
 -- policy 4
 abbrev pub isFirstFit : Policy → Bool
-isFirstFit Pooled = false
-isFirstFit GlobalEdf = false
-isFirstFit GlobalRm = false
-isFirstFit FirstFit = true
-isFirstFit OneCoreRm = false
-isFirstFit (Further q) = false
+isFirstFit p = byKind false false true false false p
 
 -- policy 5
 abbrev pub isOneCore : Policy → Bool
-isOneCore Pooled = false
-isOneCore GlobalEdf = false
-isOneCore GlobalRm = false
-isOneCore FirstFit = false
-isOneCore OneCoreRm = true
-isOneCore (Further q) = false
+isOneCore p = byKind false true false false false p
 
--- Ask 8: "Global RM is withdrawn."
 abbrev pub isWithdrawn : Policy → Bool
-isWithdrawn Pooled = false
-isWithdrawn GlobalEdf = false
-isWithdrawn GlobalRm = true
-isWithdrawn FirstFit = false
-isWithdrawn OneCoreRm = false
-isWithdrawn (Further q) = false
+isWithdrawn p = byKind false false false true false p
 
 -- none of the five
 abbrev pub isFurther : Policy → Bool
-isFurther Pooled = false
-isFurther GlobalEdf = false
-isFurther GlobalRm = false
-isFurther FirstFit = false
-isFurther OneCoreRm = false
-isFurther (Further q) = true
+isFurther p = byKind false false false false true p
 
 -- a policy that is served is placed by first fit, or weighed
 abbrev pub Served : Policy → Type 0

@@ -7,7 +7,7 @@ ghost use Rattle.kinds.specs.Limits.{fewestSettings, mostSettings, share
 ghost use Rattle.kinds.specs.Task.{isWithin, isOnNotch, isGood, priced, task, table};
 ghost use Rattle.kinds.specs.Policy.{policyOf, policyNumber, meant, isFirstFit, isOneCore};
 ghost use Rattle.kinds.specs.Settings.{settings, settingsOf, numbersOf, testsCharge};
-ghost use Rattle.kinds.specs.Refusal.{numberOf, placeOf};
+ghost use Rattle.kinds.specs.Refusal.{handedBack, numberOf, placeOf};
 ghost use Rattle.kinds.specs.Answer.{isAccepted, stepOf};
 
 // A share of one processor, in parts.
@@ -328,57 +328,47 @@ pub enum Refusal {
     WrongResult(usize),
 }
 
+// A number that is handed back, and its place.
+struct Numbered(u16, usize);
+
 impl Refusal {
+    // Number and place.
+    fn handed_back(self) -> Numbered
+        ensures { λ r. ⌜ r ≡ handedBack self ⌝ }
+    {
+        match self {
+            Refusal::NoSuchPolicy => Numbered(1, 0),
+            Refusal::Misset => Numbered(2, 0),
+            Refusal::TooManyTasks(place) => Numbered(3, place),
+            Refusal::PolicyNotServed => Numbered(4, 0),
+            Refusal::OutputTooShort(place) => Numbered(5, place),
+            Refusal::BadRecord(place) => Numbered(6, place),
+            Refusal::NoStepPasses => Numbered(7, 0),
+            Refusal::SheetEnds(place) => Numbered(8, place),
+            Refusal::WrongSettingsCount => Numbered(9, 0),
+            Refusal::WrongResultCount(place) => Numbered(10, place),
+            Refusal::BytesAfterLast(place) => Numbered(11, place),
+            Refusal::NoSuchRecord(place) => Numbered(12, place),
+            Refusal::ProcessorOutOfRange(place) => Numbered(13, place),
+            Refusal::ProcessorOverfull(place) => Numbered(14, place),
+            Refusal::PolicyWithdrawn => Numbered(15, 0),
+            Refusal::BadLine(place) => Numbered(16, place),
+            Refusal::BadPeriod(place) => Numbered(17, place),
+            Refusal::NoResults => Numbered(18, 0),
+            Refusal::WrongResult(place) => Numbered(19, place),
+        }
+    }
+
     pub fn number(self) -> u16
         ensures { λ r. ⌜ r ≡ numberOf self ⌝ }
     {
-        match self {
-            Refusal::NoSuchPolicy => 1,
-            Refusal::Misset => 2,
-            Refusal::TooManyTasks(_) => 3,
-            Refusal::PolicyNotServed => 4,
-            Refusal::OutputTooShort(_) => 5,
-            Refusal::BadRecord(_) => 6,
-            Refusal::NoStepPasses => 7,
-            Refusal::SheetEnds(_) => 8,
-            Refusal::WrongSettingsCount => 9,
-            Refusal::WrongResultCount(_) => 10,
-            Refusal::BytesAfterLast(_) => 11,
-            Refusal::NoSuchRecord(_) => 12,
-            Refusal::ProcessorOutOfRange(_) => 13,
-            Refusal::ProcessorOverfull(_) => 14,
-            Refusal::PolicyWithdrawn => 15,
-            Refusal::BadLine(_) => 16,
-            Refusal::BadPeriod(_) => 17,
-            Refusal::NoResults => 18,
-            Refusal::WrongResult(_) => 19,
-        }
+        self.handed_back().0
     }
 
     pub fn place(self) -> usize
         ensures { λ r. ⌜ r ≡ placeOf self ⌝ }
     {
-        match self {
-            Refusal::NoSuchPolicy => 0,
-            Refusal::Misset => 0,
-            Refusal::TooManyTasks(place) => place,
-            Refusal::PolicyNotServed => 0,
-            Refusal::OutputTooShort(place) => place,
-            Refusal::BadRecord(place) => place,
-            Refusal::NoStepPasses => 0,
-            Refusal::SheetEnds(place) => place,
-            Refusal::WrongSettingsCount => 0,
-            Refusal::WrongResultCount(place) => place,
-            Refusal::BytesAfterLast(place) => place,
-            Refusal::NoSuchRecord(place) => place,
-            Refusal::ProcessorOutOfRange(place) => place,
-            Refusal::ProcessorOverfull(place) => place,
-            Refusal::PolicyWithdrawn => 0,
-            Refusal::BadLine(place) => place,
-            Refusal::BadPeriod(place) => place,
-            Refusal::NoResults => 0,
-            Refusal::WrongResult(place) => place,
-        }
+        self.handed_back().1
     }
 }
 

@@ -1,16 +1,17 @@
 -- The scanner takes exactly the texts of numbers: what it reads stands there as the number's text (`numeral-got`), and a number's text is
 -- read as that number (`numeral-back`).
 -- Assumes nothing.
-use Rattle.ground.proofs.Kit.{ℕ, suc, _+_, _≤_, _<_, true, false, List, [], _∷_, _++_, append-nil, _≡_, refl, sym, _∙_, ap, add-one, arith, eqb, leb, length}
-use Rattle.ground.proofs.Kit.{getD, drop, eq-eqb, eqb-true, le-leb, leb-true, leb-false}
+use Rattle.ground.proofs.Kit.{ℕ, suc, _+_, _≤_, _<_, true, false, List, [], _∷_, _++_, append-nil, _≡_, refl, sym, _∙_, ap, add-one, arith, eqb, length}
+use Rattle.ground.proofs.Kit.{getD, drop, eqb-true}
 use lib.ListN.{drop-of-length-le}
 use lib.Seq.{drop-cons, drop-drop, getD-drop, getD-append-seam, drop-append-add}
 use borrow.Author.Tests.{eqb-false}
 use Rattle.ground.proofs.Cases.{by-bool}
+use Rattle.numeral.specs.declared.Numeral.{Numeral}
 use Rattle.numeral.specs.declared.Numeral.the-variants.{Is, Bad}
 use Rattle.numeral.specs.Decimal.{decimal}
-use Rattle.numeral.specs.Scan.{mostNumber, isDigit, digits, digitsAt, valueFrom, valueAt, pastDigits, plain, numeralAt, numeralIn}
-use Rattle.numeral.proofs.Scan.{within, not-plain, too-large, other-end, whole}
+use Rattle.numeral.specs.Scan.{mostNumber, isDigit, digits, digitsAt, valueFrom, valueAt, pastDigits, plain, numberAt, numeralAt, numeralIn}
+use Rattle.numeral.proofs.Scan.{within, Number, number-there, number-got, no-number, other-end, whole, in-none, in-longer, in-whole}
 use Rattle.numeral.proofs.OneText.{AllDigits, own-text, decimal-digits, decimal-plain, decimal-value}
 
 digits-cons : (b : ℕ) (s : List ℕ) → isDigit b ≡ true → digits (b ∷ s) ≡ b ∷ digits s
@@ -54,40 +55,38 @@ pub record Got (s : List ℕ) (at end v next : ℕ) : Type 0 where
   pub inside : next ≤ length s
 
 module _ (s : List ℕ) (at end : ℕ) (z : 0 < end) where
-  there : plain (digitsAt s at) ≡ true → valueAt s at ≤ mostNumber → getD s (pastDigits s at) 0 ≡ end
-      → Got s at end (valueAt s at) (pastDigits s at + 1)
-  there p q e =
-      let h : pastDigits s at < length s = within s (pastDigits s at) (omega arith) in
-      let f : drop (pastDigits s at) s ≡ end ∷ drop (pastDigits s at + 1) s =
-      drop-cons s (pastDigits s at) 0 h
-      ∙ (ap (λ (x : ℕ). x ∷ drop (suc (pastDigits s at)) s) e
-      ∙ ap (λ (k : ℕ). end ∷ drop k s) (sym (add-one (pastDigits s at)))) in
+  there : (v next : ℕ) → Number s at v next → getD s next 0 ≡ end → Got s at end v (next + 1)
+  there v next x e =
+      let h : next < length s = within s next (omega arith) in
+      let f : drop next s ≡ end ∷ drop (next + 1) s =
+      drop-cons s next 0 h ∙ (ap (λ (x : ℕ). x ∷ drop (suc next) s) e ∙ ap (λ (k : ℕ). end ∷ drop k s) (sym (add-one next))) in
+      let own : digitsAt s at ≡ decimal v = sym (own-text (digitsAt s at) (front-digits (drop at s)) (x .digits-plain)) ∙ ap decimal (x .value-is) in
       record {
-        small = q;
+        small = x .small;
         text =
             digits-then (drop at s)
-            ∙ (ap (λ (x : List ℕ). digitsAt s at ++ x) (drop-drop (length (digitsAt s at)) at s ∙ f)
-            ∙ ap (λ (x : List ℕ). x ++ (end ∷ drop (pastDigits s at + 1) s)) (sym (own-text (digitsAt s at) (front-digits (drop at s)) p)));
-        on = omega arith;
+            ∙ (ap (λ (x : List ℕ). digitsAt s at ++ x) (drop-drop (length (digitsAt s at)) at s ∙ (ap (λ (k : ℕ). drop k s) (x .next-is) ∙ f))
+            ∙ ap (λ (x : List ℕ). x ++ (end ∷ drop (next + 1) s)) own);
+        on = omega (arith, x .next-is);
         inside = omega arith;
       }
 
   pub numeral-got : (v next : ℕ) → numeralAt s at end ≡ Is v next → Got s at end v next
-  numeral-got v next k =
-      by-bool (plain (digitsAt s at))
-      (λ p. by-bool (leb (valueAt s at) mostNumber)
-      (λ q. by-bool (eqb (getD s (pastDigits s at) 0) end)
-      (λ e.
-      let w = whole s at end p (leb-true _ _ q) (eqb-true _ _ e) in
-      let x : valueAt s at ≡ v = cc in
-      let y : pastDigits s at + 1 ≡ next = cc in
-      rw (← x, ← y) (there p (leb-true _ _ q) (eqb-true _ _ e)))
-      (λ e. never (other-end s at end p (leb-true _ _ q) (eqb-false _ _ e))))
-      (λ q. never (too-large s at end p (leb-false _ _ q))))
-      (λ p. never (not-plain s at end p))
+  numeral-got v next k = by (numberAt s at) refl
     where
       never : numeralAt s at end ≡ Bad → Got s at end v next
       never w = absurd (let t : _≡_ {A = ℕ} 0 1 = cc in omega arith)
+
+      by : (f : Numeral) → numberAt s at ≡ f → Got s at end v next
+      by Bad e = never (no-number s at end e)
+      by (Is u past) e =
+          by-bool (eqb (getD s past 0) end)
+          (λ t.
+          let w = whole s at u past e end (eqb-true _ _ t) in
+          let x : u ≡ v = cc in
+          let y : past + 1 ≡ next = cc in
+          rw (← x, ← y) (there u past (number-got s at u past e) (eqb-true _ _ t)))
+          (λ t. never (other-end s at u past e end (eqb-false _ _ t)))
 
 -- a number's text, and the byte that ends it, are read as that number
 module _ (s : List ℕ) (at end v : ℕ) (rest : List ℕ) (n : isDigit end ≡ false) (h : v ≤ mostNumber) (t : drop at s ≡ decimal v ++ (end ∷ rest)) where
@@ -106,10 +105,9 @@ module _ (s : List ℕ) (at end v : ℕ) (rest : List ℕ) (n : isDigit end ≡ 
 
   pub numeral-back : numeralAt s at end ≡ Is v (at + length (decimal v) + 1)
   numeral-back =
-      let w = whole s at end (ap plain its-digits ∙ decimal-plain v) (let x = its-value in omega arith) its-end in
-      let x = its-value in
-      let y : pastDigits s at + 1 ≡ at + length (decimal v) + 1 = ap (λ (l : List ℕ). at + length l + 1) its-digits in
-      cc
+      let past : pastDigits s at ≡ at + length (decimal v) = ap (λ (l : List ℕ). at + length l) its-digits in
+      let there : Number s at v (at + length (decimal v)) = record { digits-plain = ap plain its-digits ∙ decimal-plain v; small = h; value-is = its-value; next-is = past } in
+      whole s at v (at + length (decimal v)) (number-there s at v (at + length (decimal v)) there) end (ap (λ (k : ℕ). getD s k 0) (sym past) ∙ its-end)
 
   pub rest-back : drop (at + length (decimal v) + 1) s ≡ rest
   rest-back =
@@ -120,24 +118,24 @@ module _ (s : List ℕ) (at end v : ℕ) (rest : List ℕ) (n : isDigit end ≡ 
 
 -- a whole text that is read is the number's text, and a number's text is read as that number
 pub whole-got : (s : List ℕ) (v next : ℕ) → numeralIn s ≡ Is v next → (v ≤ mostNumber) × (s ≡ decimal v)
-unfolding numeralIn
-whole-got s v next k =
-    by-bool (plain (digitsAt s 0))
-    (λ p. by-bool (leb (valueAt s 0) mostNumber)
-    (λ q. by-bool (eqb (pastDigits s 0) (length s))
-    (λ e.
-    let j : Is (valueAt s 0) (length s) ≡ Is v next = (rw (p, q, e) at k) in
-    let x : valueAt s 0 ≡ v = cc in
-    let l : length (digits s) ≡ length s = (let z : pastDigits s 0 ≡ length s = eqb-true (pastDigits s 0) (length s) e in omega arith) in
-    let none : drop (length (digits s)) s ≡ [] = drop-of-length-le s {i = length (digits s)} (omega arith) in
-    let all : digits s ≡ s = sym (digits-then s ∙ (ap (λ (r : List ℕ). digits s ++ r) none ∙ append-nil (digits s))) in
-    (rw (← x) (leb-true _ _ q), sym all ∙ (sym (own-text (digits s) (front-digits s) p) ∙ ap decimal x)))
-    (λ e. never (rw (p, q, e) at k)))
-    (λ q. never (rw (p, q) at k)))
-    (λ p. never (rw p at k))
+whole-got s v next k = by (numberAt s 0) refl
   where
-    never : {B : Type 0} → Bad ≡ Is v next → B
+    never : {B : Type 0} → numeralIn s ≡ Bad → B
     never w = absurd (let t : _≡_ {A = ℕ} 0 1 = cc in omega arith)
+
+    by : (f : Numeral) → numberAt s 0 ≡ f → (v ≤ mostNumber) × (s ≡ decimal v)
+    by Bad e = never (in-none s e)
+    by (Is u past) e =
+        by-bool (eqb past (length s))
+        (λ t.
+        let x = number-got s 0 u past e in
+        let w = in-whole s u past e (eqb-true _ _ t) in
+        let same : u ≡ v = cc in
+        let l : length (digits s) ≡ length s = (let z = x .next-is in let y : past ≡ length s = eqb-true past (length s) t in omega arith) in
+        let none : drop (length (digits s)) s ≡ [] = drop-of-length-le s {i = length (digits s)} (omega arith) in
+        let all : digits s ≡ s = sym (digits-then s ∙ (ap (λ (r : List ℕ). digits s ++ r) none ∙ append-nil (digits s))) in
+        (rw (← same) (x .small), sym all ∙ (sym (own-text (digits s) (front-digits s) (x .digits-plain)) ∙ ap decimal (x .value-is ∙ same))))
+        (λ t. never (in-longer s u past e (eqb-false _ _ t)))
 
 all-of : (ds : List ℕ) → AllDigits ds → digits ds ≡ ds
 unfolding digits
@@ -145,9 +143,9 @@ all-of [] f = refl
 all-of (d ∷ ds) f = digits-cons d ds (f .0) ∙ ap (λ (x : List ℕ). d ∷ x) (all-of ds (f .1))
 
 pub whole-back : (v : ℕ) → v ≤ mostNumber → numeralIn (decimal v) ≡ Is v (length (decimal v))
-unfolding numeralIn
 whole-back v h =
     let d = all-of (decimal v) (decimal-digits v) in
-    let p = decimal-plain v in
-    let x = decimal-value v in
-    rw (d, p, x, le-leb v mostNumber h, eq-eqb (0 + length (decimal v)) (length (decimal v)) (omega arith))
+    let value : valueAt (decimal v) 0 ≡ v = ap (valueFrom 0) d ∙ decimal-value v in
+    let past : pastDigits (decimal v) 0 ≡ length (decimal v) = (let l : length (digits (decimal v)) ≡ length (decimal v) = ap length d in omega arith) in
+    let there : Number (decimal v) 0 v (length (decimal v)) = record { digits-plain = ap plain d ∙ decimal-plain v; small = h; value-is = value; next-is = past } in
+    in-whole (decimal v) v (length (decimal v)) (number-there (decimal v) 0 v (length (decimal v)) there) refl

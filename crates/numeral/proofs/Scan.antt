@@ -1,13 +1,14 @@
 -- Laws of the scan: a run of digits taken one by one from the left, and the cases of the number at a place.
 -- Assumes nothing.
 use Rattle.ground.proofs.Kit.{ℕ, zero, suc, _+_, _-_, _*_, _≤_, _<_, true, false, not, List, [], _∷_, _≡_, refl, sym, _∙_, ap, add-one, arith, eqb, length}
-use Rattle.ground.proofs.Kit.{getD, eq-eqb, ne-eqb, le-leb, lt-leb, leb-true}
+use Rattle.ground.proofs.Kit.{getD, leb, eq-eqb, ne-eqb, le-leb, lt-leb, leb-true}
 use lib.ListN.{drop-of-length-le}
 use lib.Seq.{drop-cons}
+use Rattle.ground.specs.Choice.{both}
 use Rattle.ground.proofs.Cases.{by-le, by-bool, both-true}
 use Rattle.numeral.specs.declared.Run.{Run}
 use Rattle.numeral.specs.declared.Numeral.the-variants.{Is, Bad}
-use Rattle.numeral.specs.Scan.{mostNumber, held, isDigit, digits, valueFrom, digitsAt, valueAt, pastDigits, plain, numeralAt, numeralIn}
+use Rattle.numeral.specs.Scan.{mostNumber, held, isDigit, digits, valueFrom, digitsAt, valueAt, pastDigits, plain, numberAt, numeralAt, numeralIn}
 use Rattle.numeral.specs.Handover.{Runs}
 
 -- a digit lies from 48 to 57
@@ -106,70 +107,74 @@ first-digit s at h =
     (λ t. ap (λ (x : List ℕ). getD x 0 0) (digits-more s at t))
     (λ t. absurd (omega (arith, ap length (digits-end s at t))))
 
--- the cases of the number at a place
-module _ (s : List ℕ) (at end : ℕ) where
-  pub not-plain : plain (digitsAt s at) ≡ false → numeralAt s at end ≡ Bad
-  unfolding numeralAt
+-- the cases of the number at a place, from what a run says
+module _ (s : List ℕ) (at : ℕ) where
+  pub not-plain : plain (digitsAt s at) ≡ false → numberAt s at ≡ Bad
+  unfolding numberAt
   not-plain p = simp p
 
-  module _ (p : plain (digitsAt s at) ≡ true) where
-    pub too-large : mostNumber < valueAt s at → numeralAt s at end ≡ Bad
-    unfolding numeralAt
-    too-large q = simp (p, lt-leb (valueAt s at) mostNumber q)
+  module _ (r : Run) (run : Runs s at r) (p : plain (digitsAt s at) ≡ true) where
+    pub too-large : mostNumber < r .value → numberAt s at ≡ Bad
+    unfolding numberAt
+    too-large h = let q : mostNumber < valueAt s at = (let v = run .value-is in omega arith) in simp (p, lt-leb (valueAt s at) mostNumber q)
 
-    pub other-end : valueAt s at ≤ mostNumber → (getD s (pastDigits s at) 0 ≡ end → ⊥) → numeralAt s at end ≡ Bad
-    unfolding numeralAt
-    other-end q n = simp (p, le-leb (valueAt s at) mostNumber q, ne-eqb (getD s (pastDigits s at) 0) end n)
-
-    pub whole : valueAt s at ≤ mostNumber → getD s (pastDigits s at) 0 ≡ end → numeralAt s at end ≡ Is (valueAt s at) (pastDigits s at + 1)
-    unfolding numeralAt
-    whole q n = simp (p, le-leb (valueAt s at) mostNumber q, eq-eqb (getD s (pastDigits s at) 0) end n)
-
--- the same, from what a run says
-module _ (s : List ℕ) (at end : ℕ) (r : Run) (run : Runs s at r) (p : plain (digitsAt s at) ≡ true) where
-  pub read-large : mostNumber < r .value → numeralAt s at end ≡ Bad
-  read-large h = too-large s at end p (let v = run .value-is in omega arith)
-
-  module _ (h : r .value ≤ mostNumber) (b : ℕ) (e : b ≡ getD s (r .next) 0) where
-    there : getD s (pastDigits s at) 0 ≡ b
-    there = ap (λ (k : ℕ). getD s k 0) (sym (run .next-is)) ∙ sym e
-
-    small : valueAt s at ≤ mostNumber
-    small = let v = run .value-is in omega arith
-
-    pub read-other : (b ≡ end → ⊥) → numeralAt s at end ≡ Bad
-    read-other n = other-end s at end p small (λ k. n (sym there ∙ k))
-
-    pub read-whole : b ≡ end → Is (r .value) (r .next + 1) ≡ numeralAt s at end
-    read-whole k =
+    pub number-read : r .value ≤ mostNumber → Is (r .value) (r .next) ≡ numberAt s at
+    unfolding numberAt
+    number-read h =
+        let q : valueAt s at ≤ mostNumber = (let v = run .value-is in omega arith) in
         let v : r .value ≡ valueAt s at = let w = run .value-is in omega arith in
-        let n = run .next-is in
-        cc (whole s at end p small (there ∙ k))
+        simp (p, le-leb (valueAt s at) mostNumber q, v, run .next-is)
 
--- the cases of the number that is the whole text, from what a run says
+-- a number that is there: plain digits, with a value that is not too large
+pub record Number (s : List ℕ) (at v next : ℕ) : Type 0 where
+  pub digits-plain : plain (digitsAt s at) ≡ true
+  pub small : v ≤ mostNumber
+  pub value-is : valueAt s at ≡ v
+  pub next-is : pastDigits s at ≡ next
+
+pub number-there : (s : List ℕ) (at v next : ℕ) → Number s at v next → numberAt s at ≡ Is v next
+unfolding numberAt
+number-there s at v next x = rw (x .digits-plain, x .value-is, x .next-is, le-leb v mostNumber (x .small))
+
+pub number-got : (s : List ℕ) (at v next : ℕ) → numberAt s at ≡ Is v next → Number s at v next
+unfolding numberAt
+number-got s at v next e = by-bool (both (plain (digitsAt s at)) (leb (valueAt s at) mostNumber)) (λ t. there t (rw t at e)) (λ f. never (rw f at e))
+  where
+    never : Bad ≡ Is v next → Number s at v next
+    never w = absurd (let t : _≡_ {A = ℕ} 0 1 = cc in omega arith)
+
+    there : both (plain (digitsAt s at)) (leb (valueAt s at) mostNumber) ≡ true → Is (valueAt s at) (pastDigits s at) ≡ Is v next → Number s at v next
+    there t w =
+        let b = both-true (plain (digitsAt s at)) (leb (valueAt s at) mostNumber) t in
+        let x : valueAt s at ≡ v = cc in
+        let y : pastDigits s at ≡ next = cc in
+        record { digits-plain = b .0; small = omega (arith, leb-true (valueAt s at) mostNumber (b .1)); value-is = x; next-is = y }
+
+-- what follows a number
+module _ (s : List ℕ) (at v next : ℕ) (e : numberAt s at ≡ Is v next) (end : ℕ) where
+  pub other-end : (getD s next 0 ≡ end → ⊥) → numeralAt s at end ≡ Bad
+  unfolding numeralAt
+  other-end n = simp (e, ne-eqb (getD s next 0) end n)
+
+  pub whole : getD s next 0 ≡ end → numeralAt s at end ≡ Is v (next + 1)
+  unfolding numeralAt
+  whole n = simp (e, eq-eqb (getD s next 0) end n)
+
+pub no-number : (s : List ℕ) (at end : ℕ) → numberAt s at ≡ Bad → numeralAt s at end ≡ Bad
+unfolding numeralAt
+no-number s at end e = rw e
+
+-- or that nothing does
 module _ (s : List ℕ) where
-  pub in-not-plain : plain (digitsAt s 0) ≡ false → numeralIn s ≡ Bad
+  pub in-none : numberAt s 0 ≡ Bad → numeralIn s ≡ Bad
   unfolding numeralIn
-  in-not-plain p = simp p
+  in-none e = rw e
 
-  module _ (r : Run) (run : Runs s 0 r) (p : plain (digitsAt s 0) ≡ true) where
-    pub in-large : mostNumber < r .value → numeralIn s ≡ Bad
+  module _ (v next : ℕ) (e : numberAt s 0 ≡ Is v next) where
+    pub in-longer : (next ≡ length s → ⊥) → numeralIn s ≡ Bad
     unfolding numeralIn
-    in-large h = let q : mostNumber < valueAt s 0 = (let v = run .value-is in omega arith) in simp (p, lt-leb (valueAt s 0) mostNumber q)
+    in-longer n = simp (e, ne-eqb next (length s) n)
 
-    module _ (h : r .value ≤ mostNumber) where
-      in-small : valueAt s 0 ≤ mostNumber
-      in-small = let v = run .value-is in omega arith
-
-      pub in-longer : (r .next ≡ length s → ⊥) → numeralIn s ≡ Bad
-      unfolding numeralIn
-      in-longer n =
-          let l : pastDigits s 0 ≡ length s → ⊥ = λ e. n (run .next-is ∙ e) in
-          simp (p, le-leb (valueAt s 0) mostNumber in-small, ne-eqb (pastDigits s 0) (length s) l)
-
-      pub in-whole : r .next ≡ length s → Is (r .value) (r .next) ≡ numeralIn s
-      unfolding numeralIn
-      in-whole n =
-          let l : pastDigits s 0 ≡ length s = sym (run .next-is) ∙ n in
-          let v : r .value ≡ valueAt s 0 = let w = run .value-is in omega arith in
-          simp (p, le-leb (valueAt s 0) mostNumber in-small, eq-eqb (pastDigits s 0) (length s) l, v, n)
+    pub in-whole : next ≡ length s → numeralIn s ≡ Is v next
+    unfolding numeralIn
+    in-whole n = simp (e, eq-eqb next (length s) n)

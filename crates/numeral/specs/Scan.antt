@@ -46,20 +46,22 @@ plain (d ∷ (e ∷ ds)) = not (eqb d 48)
 abbrev pub pastDigits : List ℕ → ℕ → ℕ
 pastDigits s at = at + length (digitsAt s at)
 
+-- the number at a place, whatever follows it: its value and the place after its digits
+unfoldable pub numberAt : List ℕ → ℕ → Numeral
+numberAt s at = pick (both (plain (digitsAt s at)) (leb (valueAt s at) mostNumber)) (Is (valueAt s at) (pastDigits s at)) Bad
+
 -- the number at a place, ended by this byte: its value and the place after that byte
+abbrev pub endedBy : List ℕ → ℕ → Numeral → Numeral
+endedBy s end (Is v next) = pick (eqb (getD s next 0) end) (Is v (next + 1)) Bad
+endedBy s end Bad = Bad
+
 unfoldable pub numeralAt : List ℕ → ℕ → ℕ → Numeral
-numeralAt s at end =
-    pick (plain (digitsAt s at))
-    (pick (leb (valueAt s at) mostNumber)
-    (pick (eqb (getD s (pastDigits s at) 0) end) (Is (valueAt s at) (pastDigits s at + 1)) Bad)
-    Bad)
-    Bad
+numeralAt s at end = endedBy s end (numberAt s at)
 
 -- the number whose text is the whole text, and its length
+abbrev pub endedThere : List ℕ → Numeral → Numeral
+endedThere s (Is v next) = pick (eqb next (length s)) (Is v next) Bad
+endedThere s Bad = Bad
+
 unfoldable pub numeralIn : List ℕ → Numeral
-numeralIn s =
-    pick (plain (digitsAt s 0))
-    (pick (leb (valueAt s 0) mostNumber)
-    (pick (eqb (pastDigits s 0) (length s)) (Is (valueAt s 0) (length s)) Bad)
-    Bad)
-    Bad
+numeralIn s = endedThere s (numberAt s 0)

@@ -7,7 +7,7 @@ ghost use Prim.Native.Nat.{_+_, _*_, _-_, _≤_, _<_};
 ghost use lib.ListN.{length, getD};
 ghost use Rattle.field.specs.Handover.{Put};
 ghost use Rattle.numeral.specs.Decimal.{decimal};
-ghost use Rattle.numeral.specs.Scan.{mostNumber, held, isDigit, digitsAt, pastDigits, plain, numeralAt, numeralIn};
+ghost use Rattle.numeral.specs.Scan.{mostNumber, held, isDigit, digitsAt, pastDigits, plain, numberAt, numeralAt, numeralIn};
 ghost use Rattle.numeral.specs.Handover.{Sized, Runs};
 
 // The greatest number that a text may hold.
@@ -114,10 +114,9 @@ fn is_plain(s: &[u8], at: usize, next: usize) -> bool
     byte_at(s, at) != 48
 }
 
-// The number at a place of a text, ended by this byte.
-pub fn numeral_at(s: &[u8], at: usize, end: u8) -> Numeral
-    requires { ⌜ 0 < end ⌝ }
-    ensures { λ r. ⌜ r ≡ numeralAt (now (s .entry)) at end ⌝ }
+// The number at a place of a text, whatever follows it, and the place after its digits.
+fn number_at(s: &[u8], at: usize) -> Numeral
+    ensures { λ r. ⌜ r ≡ numberAt (now (s .entry)) at ⌝ }
 {
     let run = run_at(s, at);
     let value = run.value;
@@ -129,28 +128,32 @@ pub fn numeral_at(s: &[u8], at: usize, end: u8) -> Numeral
     if MOST_NUMBER < value {
         return Numeral::Bad;
     }
+    Numeral::Is(value as u32, next)
+}
+
+// The number at a place of a text, ended by this byte.
+pub fn numeral_at(s: &[u8], at: usize, end: u8) -> Numeral
+    requires { ⌜ 0 < end ⌝ }
+    ensures { λ r. ⌜ r ≡ numeralAt (now (s .entry)) at end ⌝ }
+{
+    let Numeral::Is(value, next) = number_at(s, at) else {
+        return Numeral::Bad;
+    };
     if byte_at(s, next) != end {
         return Numeral::Bad;
     }
-    Numeral::Is(value as u32, next + 1)
+    Numeral::Is(value, next + 1)
 }
 
 // The number whose text is the whole text.
 pub fn numeral_in(s: &[u8]) -> Numeral
     ensures { λ r. ⌜ r ≡ numeralIn (now (s .entry)) ⌝ }
 {
-    let run = run_at(s, 0);
-    let value = run.value;
-    let next = run.next;
-    let fit = is_plain(s, 0, next);
-    if !fit {
+    let Numeral::Is(value, next) = number_at(s, 0) else {
         return Numeral::Bad;
-    }
-    if MOST_NUMBER < value {
-        return Numeral::Bad;
-    }
+    };
     if next != s.len() {
         return Numeral::Bad;
     }
-    Numeral::Is(value as u32, next)
+    Numeral::Is(value, next)
 }

@@ -5,7 +5,7 @@ use Rattle.kinds.specs.declared.Task.{Task}
 use Rattle.kinds.specs.declared.Refusal.the-variants.{TooManyTasks, BadLine}
 use Rattle.kinds.specs.Task.{task, noTask}
 use Rattle.numeral.specs.Decimal.{decimal, digitsIn}
-use Rattle.numeral.specs.Scan.{digits, valueFrom, plain, numeralAt}
+use Rattle.numeral.specs.Scan.{digits, valueFrom, plain, numberAt, numeralAt}
 use Rattle.office.specs.Text.{numberThen, lineOf, textOf}
 use Rattle.office.specs.Reading.{Reading, Rows, Not, lineAt, readFrom, readText}
 
@@ -65,7 +65,7 @@ AllRead [] = Unit
 AllRead (c ∷ cs) = (readText (c .text) ≡ c .reading) × AllRead cs
 
 pub all-read : AllRead cases
-unfolding readText readFrom lineAt numeralAt digits valueFrom plain
+unfolding readText readFrom lineAt numeralAt numberAt digits valueFrom plain
 all-read = (refl, (refl, (refl, (refl, (refl, (refl, (refl, (refl, (refl, (refl, (refl, (refl, (refl, (refl, (refl, (refl, tt))))))))))))))))
 
 -- the text of one task

@@ -12,20 +12,17 @@ use Rattle.kinds.specs.declared.Settings.{Settings}
 use Rattle.kinds.specs.declared.Answer.{Answer}
 use Rattle.kinds.specs.declared.Verdict.{Verdict}
 use Rattle.kinds.specs.declared.Verdict.the-variants.{Accepted, Refused}
-use Rattle.kinds.specs.declared.Refusal.the-variants.{NoSuchPolicy, PolicyWithdrawn, Misset, TooManyTasks, PolicyNotServed, OutputTooShort, BadRecord}
-use Rattle.kinds.specs.declared.Refusal.the-variants.{NoStepPasses}
+use Rattle.kinds.specs.declared.Refusal.the-variants.{TooManyTasks, PolicyNotServed, OutputTooShort, NoStepPasses}
 use Rattle.kinds.specs.Answer.{Handed, accepted, refused, handed}
 use Rattle.kinds.specs.Limits.{mostTasks}
-use Rattle.kinds.specs.Policy.{meant, isFirstFit, isWithdrawn, isFurther}
+use Rattle.kinds.specs.Policy.{meant, isFirstFit}
 use Rattle.kinds.specs.Chain.{Check, _when_, firstBy, firstOf, handedBy, Exactly, numbersGiven}
 use Rattle.kinds.proofs.Chains.{exactly, first-through, first-then, first-without}
-use Rattle.share.specs.Table.{firstBad}
 use Rattle.policy.specs.Passing.{passesAt, leastStep}
 use Rattle.policy.specs.Under.{fullUnder, loadsUnder, leastUnder}
 use Rattle.policy.proofs.Demand.{step-nothing}
-use Rattle.admission.specs.Admission.{missetUnder}
-use Rattle.admission.specs.Chain.{admissionChain}
-use Rattle.admission.proofs.Exactly.{admission-chain}
+use Rattle.admission.specs.Chain.{settingsChain, recordCheck, admissionChain}
+use Rattle.admission.proofs.Exactly.{unserved, admission-chain}
 use Rattle.outcome.specs.Plan.{decided, found, outcome, Meets}
 use Rattle.outcome.specs.Chain.{nonePasses, stepIn, plainChain, quickChain}
 
@@ -46,14 +43,10 @@ decided-chain chain step =
     ∙ (ap (λ (last : Handed ℕ). firstBy (refused 0) last chain) (last-check step)
     ∙ first-then (refused 0) (accepted (stepIn step)) chain (seven step))
 
--- policy 4 is refused by 4 where it is not served, and never where it is
+-- policy 4 is never refused by 4 where it is served
 served-never : (first : Bool) → both first (not true) ≡ false
 served-never true = refl
 served-never false = refl
-
-unserved : (first : Bool) → both first (not false) ≡ first
-unserved true = refl
-unserved false = refl
 
 module _ (s : Settings) (rows : List Task) (n room : ℕ) where
   -- a finder is its admission's chain and then 7
@@ -67,36 +60,26 @@ module _ (s : Settings) (rows : List Task) (n room : ℕ) where
   -- the plain finder serves policy 4, so 4 may be left out
   pub plain-chain : found true s rows n room ≡ handedBy 0 (stepIn (leastUnder s rows n)) (plainChain s rows n room)
   plain-chain =
-      let p = meant (s .policy) in
-      let bad = firstBad (s .swap) (s .notch) rows n in
+      let first = isFirstFit (meant (s .policy)) in
       let step = leastUnder s rows n in
-      let four = PolicyNotServed when both (isFirstFit p) (not true) in
-      let before : List Check =
-      NoSuchPolicy when isFurther p
-      ∷ PolicyWithdrawn when isWithdrawn p
-      ∷ Misset when missetUnder s
-      ∷ TooManyTasks n when ltb mostTasks n
-      ∷ [] in
-      let after : List Check = OutputTooShort n when ltb room n ∷ BadRecord bad when ltb bad n ∷ seven step in
-      found-chain true ∙ first-without (refused 0) (accepted (stepIn step)) before four after (served-never (isFirstFit p))
+      let before : List Check = settingsChain s ++ (TooManyTasks n when ltb mostTasks n ∷ []) in
+      let four = PolicyNotServed when both first (not true) in
+      let after : List Check = OutputTooShort n when ltb room n ∷ recordCheck s rows n ∷ seven step in
+      found-chain true ∙ first-without (refused 0) (accepted (stepIn step)) before four after (served-never first)
 
   -- the quick finder does not
   pub quick-chain : found false s rows n room ≡ handedBy 0 (stepIn (leastUnder s rows n)) (quickChain s rows n room)
   quick-chain =
-      let p = meant (s .policy) in
-      let bad = firstBad (s .swap) (s .notch) rows n in
       let step = leastUnder s rows n in
       let chain : Bool → List Check =
       λ four.
-      NoSuchPolicy when isFurther p
-      ∷ PolicyWithdrawn when isWithdrawn p
-      ∷ Misset when missetUnder s
-      ∷ TooManyTasks n when ltb mostTasks n
+      settingsChain s
+      ++ (TooManyTasks n when ltb mostTasks n
       ∷ PolicyNotServed when four
       ∷ OutputTooShort n when ltb room n
-      ∷ BadRecord bad when ltb bad n
-      ∷ seven step in
-      found-chain false ∙ ap (λ (four : Bool). handedBy 0 (stepIn step) (chain four)) (unserved (isFirstFit p))
+      ∷ recordCheck s rows n
+      ∷ seven step) in
+      found-chain false ∙ ap (λ (four : Bool). handedBy 0 (stepIn step) (chain four)) (unserved (isFirstFit (meant (s .policy))))
 
   -- 1, 15, 2, 3, 5, 6 and 7 of the plain finder are given exactly when their sentences hold, the earlier first
   pub plain-exactly : Exactly (plainChain s rows n room) 0 (stepIn (leastUnder s rows n)) (found true s rows n room)

@@ -1,6 +1,7 @@
 pub mod Processors
 pub mod Writing
 pub mod Found
+pub mod Searches
 pub mod Outcomes
 pub mod Demand
 pub mod Exactly

@@ -2,20 +2,18 @@
 -- Assumes nothing.
 use Prim.Native.Nat.{ℕ}
 use mathlib.Core.Bool.{Bool, true, false}
-use mathlib.Core.List.{List, [], _∷_}
+use mathlib.Core.List.{List, [], _∷_, _++_}
 use lib.Dec.{ltb}
 use Rattle.ground.specs.declared.Step.{Step}
 use Rattle.ground.specs.declared.Step.the-variants.{At, Nothing}
 use Rattle.kinds.specs.declared.Task.{Task}
 use Rattle.kinds.specs.declared.Settings.{Settings}
-use Rattle.kinds.specs.declared.Refusal.the-variants.{NoSuchPolicy, PolicyWithdrawn, Misset, TooManyTasks, PolicyNotServed, OutputTooShort, BadRecord}
-use Rattle.kinds.specs.declared.Refusal.the-variants.{NoStepPasses}
+use Rattle.kinds.specs.declared.Refusal.the-variants.{TooManyTasks, PolicyNotServed, OutputTooShort, NoStepPasses}
 use Rattle.kinds.specs.Limits.{mostTasks}
-use Rattle.kinds.specs.Policy.{meant, isFirstFit, isWithdrawn, isFurther}
+use Rattle.kinds.specs.Policy.{meant, isFirstFit}
 use Rattle.kinds.specs.Chain.{Check, _when_}
-use Rattle.share.specs.Table.{firstBad}
 use Rattle.policy.specs.Under.{leastUnder}
-use Rattle.admission.specs.Admission.{missetUnder}
+use Rattle.admission.specs.Chain.{settingsChain, recordCheck}
 
 -- "no step from 0 to K passes": there is no least one
 abbrev pub nonePasses : Step → Bool
@@ -27,31 +25,27 @@ abbrev pub stepIn : Step → ℕ
 stepIn (At k) = k
 stepIn Nothing = 0
 
+-- the last check of a finder
+abbrev pub stepCheck : Settings → List Task → ℕ → Check
+stepCheck s rows n = NoStepPasses when nonePasses (leastUnder s rows n)
+
 -- the plain finder, which serves every policy
 abbrev pub plainChain : Settings → List Task → ℕ → ℕ → List Check
 plainChain s rows n room =
-    let p = meant (s .policy) in
-    let bad = firstBad (s .swap) (s .notch) rows n in
-    NoSuchPolicy when isFurther p
-    ∷ PolicyWithdrawn when isWithdrawn p
-    ∷ Misset when missetUnder s
-    ∷ TooManyTasks n when ltb mostTasks n
+    settingsChain s
+    ++ (TooManyTasks n when ltb mostTasks n
     ∷ OutputTooShort n when ltb room n
-    ∷ BadRecord bad when ltb bad n
-    ∷ NoStepPasses when nonePasses (leastUnder s rows n)
-    ∷ []
+    ∷ recordCheck s rows n
+    ∷ stepCheck s rows n
+    ∷ [])
 
 -- the quick finder: "policy 4, asked of quick finder" is refused by 4
 abbrev pub quickChain : Settings → List Task → ℕ → ℕ → List Check
 quickChain s rows n room =
-    let p = meant (s .policy) in
-    let bad = firstBad (s .swap) (s .notch) rows n in
-    NoSuchPolicy when isFurther p
-    ∷ PolicyWithdrawn when isWithdrawn p
-    ∷ Misset when missetUnder s
-    ∷ TooManyTasks n when ltb mostTasks n
-    ∷ PolicyNotServed when isFirstFit p
+    settingsChain s
+    ++ (TooManyTasks n when ltb mostTasks n
+    ∷ PolicyNotServed when isFirstFit (meant (s .policy))
     ∷ OutputTooShort n when ltb room n
-    ∷ BadRecord bad when ltb bad n
-    ∷ NoStepPasses when nonePasses (leastUnder s rows n)
-    ∷ []
+    ∷ recordCheck s rows n
+    ∷ stepCheck s rows n
+    ∷ [])

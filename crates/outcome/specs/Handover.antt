@@ -10,7 +10,7 @@ use Rattle.kinds.specs.declared.Settings.{Settings}
 use Rattle.kinds.specs.declared.Answer.{Answer}
 use Rattle.kinds.specs.Answer.{Handed, after, handed, isAccepted, stepOf}
 use Rattle.kinds.specs.Limits.{mostProcessors}
-use Rattle.kinds.specs.Policy.{meant}
+use Rattle.kinds.specs.Policy.{meant, Served}
 use Rattle.springs.specs.declared.Spring.{Spring}
 use Rattle.springs.specs.Spring.{periodsOn, loadsOn}
 use Rattle.springs.specs.Columns.{springIn}
@@ -18,6 +18,13 @@ use Rattle.springs.specs.Handover.{Chargeable, Sprung}
 use Rattle.policy.specs.Passing.{passes}
 use Rattle.policy.specs.Under.{rowsUnder}
 use Rattle.outcome.specs.Plan.{processorOn, found}
+
+-- what the search for a step relies on: springs that may be charged, processors, and a policy that is served
+pub record Searchable (s : Settings) (block : List ℕ) (n : ℕ) : Type 0 where
+  pub chargeable : Chargeable (s .notch) block n
+  pub m-some : 1 ≤ s .m
+  pub m-most : s .m ≤ mostProcessors
+  pub served : Served (meant (s .policy))
 
 -- an answer, and of an acceptance the springs that its periods and processors come from
 pub record FoundSprung (serves : Bool) (s : Settings) (rows : List Task) (n room : ℕ) (answer : Answer) (block : List ℕ) : Type 0 where

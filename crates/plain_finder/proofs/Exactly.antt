@@ -1,21 +1,21 @@
 -- "Given exactly when", of the plain finder asked of a sheet: `asked-exactly`; the numbers are `asked-numbers`, and 5 is never given, `asked-not-five`.
 -- Assumes nothing.
-use Rattle.ground.proofs.Kit.{ℕ, Bool, true, not, List, [], _∷_, _≡_, refl, _∙_, ⊎-elim, arith, eqb, ltb, eq-eqb, le-ltb}
+use Rattle.ground.proofs.Kit.{ℕ, Bool, true, not, List, [], _∷_, _++_, _≡_, refl, _∙_, ⊎-elim, arith, eqb, ltb, eq-eqb, le-ltb}
 use mathlib.Core.List.{List·Memᴰ, List·Memᴰ·not-nil, List·Memᴰ·cases-cons}
 use Rattle.ground.specs.Choice.{both}
 use Rattle.ground.proofs.Cases.{both-true, true-false}
 use Rattle.kinds.specs.declared.Sheet.{Sheet}
-use Rattle.kinds.specs.declared.Refusal.the-variants.{NoSuchPolicy, PolicyWithdrawn, Misset, TooManyTasks, OutputTooShort, BadRecord, NoStepPasses}
+use Rattle.kinds.specs.declared.Refusal.the-variants.{PolicyWithdrawn, TooManyTasks, OutputTooShort}
 use Rattle.kinds.specs.Answer.{accepted, refused}
 use Rattle.kinds.specs.Limits.{mostTasks}
-use Rattle.kinds.specs.Policy.{meant, policyNumber, isWithdrawn, isFurther}
+use Rattle.kinds.specs.Policy.{policyNumber}
 use Rattle.kinds.specs.Chain.{Check, _when_, handedBy, Exactly, numbersGiven}
 use Rattle.kinds.proofs.Chains.{exactly, first-without, number-among}
-use Rattle.share.specs.Table.{firstBad}
 use Rattle.policy.specs.Under.{leastUnder}
-use Rattle.admission.specs.Admission.{missetUnder, admission}
+use Rattle.admission.specs.Admission.{admission}
+use Rattle.admission.specs.Chain.{settingsChain, recordCheck}
 use Rattle.outcome.specs.Plan.{found}
-use Rattle.outcome.specs.Chain.{nonePasses, stepIn}
+use Rattle.outcome.specs.Chain.{stepIn, stepCheck}
 use Rattle.outcome.proofs.Exactly.{plain-chain}
 use Rattle.plain_finder.specs.Asked.{asked}
 use Rattle.plain_finder.specs.Chain.{askedChain}
@@ -37,19 +37,12 @@ module _ (x : Sheet) where
   unfolding asked
   asked-chain =
       let s = x .settings in
+      let rows = x .table .rows in
       let n = x .table .n in
-      let p = meant (s .policy) in
-      let bad = firstBad (s .swap) (s .notch) (x .table .rows) n in
-      let step = leastUnder s (x .table .rows) n in
-      let before : List Check =
-      NoSuchPolicy when isFurther p
-      ∷ PolicyWithdrawn when isWithdrawn p
-      ∷ Misset when missetUnder s
-      ∷ TooManyTasks n when ltb mostTasks n
-      ∷ [] in
+      let before : List Check = settingsChain s ++ (TooManyTasks n when ltb mostTasks n ∷ []) in
       let five = OutputTooShort n when ltb n n in
-      let after : List Check = BadRecord bad when ltb bad n ∷ NoStepPasses when nonePasses step ∷ [] in
-      plain-chain s (x .table .rows) n n ∙ first-without (refused 0) (accepted (stepIn step)) before five after (le-ltb n n (omega arith))
+      let after : List Check = recordCheck s rows n ∷ stepCheck s rows n ∷ [] in
+      plain-chain s rows n n ∙ first-without (refused 0) (accepted (stepIn (leastUnder s rows n))) before five after (le-ltb n n (omega arith))
 
   -- 1, 15, 2, 3, 6 and 7 are given exactly when their sentences hold, the earlier first
   pub asked-exactly : Exactly (askedChain x) 0 (stepIn (leastUnder (x .settings) (x .table .rows) (x .table .n))) (asked x)

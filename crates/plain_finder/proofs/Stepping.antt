@@ -22,7 +22,7 @@ use Rattle.springs.specs.Spring.{shareOn, letDown, sharesOn, chargesOn, loadsOn
 use Rattle.springs.specs.Columns.{springIn, fullIn}
 use Rattle.springs.specs.Handover.{Springy, Summed, Beside, Sprung}
 use Rattle.springs.proofs.Springs.{carried, share-most}
-use Rattle.springs.proofs.Blocks.{loaded-beside, loaded-springs, beside-same, beside-more, springs-beside, springy-beside, sprung-beside, sum-loaded, loads-are}
+use Rattle.springs.proofs.Blocks.{loaded-beside, loaded-springs, beside-same, beside-more, springs-beside, springy-beside, sum-loaded, loads-are}
 use Rattle.fit.specs.Fit.{loadIn}
 use Rattle.fit.specs.Handover.{Loads}
 use Rattle.policy.specs.Passing.{passesAt, leastStep}
@@ -30,16 +30,7 @@ use Rattle.policy.specs.Passing as passing
 use Rattle.policy.specs.Under.{rowsUnder, loadsUnder, leastUnder}
 use Rattle.policy.proofs.Demand.{step-same}
 use Rattle.policy.proofs.Tests.{passes-same}
-use Rattle.kinds.specs.declared.Answer.{Answer}
-use Rattle.kinds.specs.declared.Verdict as verdict
-use Rattle.kinds.specs.Answer.{handed}
-use Rattle.admission.specs.Handover.{AdmittedSprung}
-use Rattle.admission.proofs.Chain.{passed-served}
-use Rattle.admission.proofs.Opened.{opened}
-use Rattle.outcome.specs.Plan.{decided}
-use Rattle.outcome.specs.Handover.{FoundSprung}
-use Rattle.outcome.proofs.Found.{refused-found, admitted-found, refused-sprung}
-use Rattle.plain_finder.specs.Handover.{Searchable, Searched, SearchedIn}
+use Rattle.plain_finder.specs.Handover.{Searched}
 
 -- no step before k passes, and the block holds the shares of step k, with their sum beside it
 pub record Stepped (p : Policy) (m n k sum : ℕ) (old block : List ℕ) : Type 0 where
@@ -137,27 +128,3 @@ module _ (s : Settings) (rows : List Task) (n : ℕ) (old new : List ℕ) (w : S
       ∙ (step-same (meant (s .policy)) (s .m) (loadsOn s (springIn old)) (loadsUnder s rows n) n _ (loads-are paid n old w s)
       ∙ ap (leastStep (meant (s .policy)) (s .m) (loadsUnder s rows n) n)
       (max-cong (λ i. springIn old i .saturation) (λ i. saturationAt (at paid i)) n saturates))
-
--- what the search of an admitted call relies on
-pub may-search : (s : Settings) (rows : List Task) (n room : ℕ) (a : verdict.Verdict) (block : List ℕ) → AdmittedSprung true s rows n room a block
-    → a ≡ verdict.the-variants.Accepted → Searchable s block n
-may-search s rows n room a block x e =
-    let admitted = opened true s rows n room a block x e in
-    let passed = admitted .ready .passed in
-    record { chargeable = admitted .chargeable; m-some = passed .m-some; m-most = passed .m-most; served = passed-served true _ _ _ _ passed }
-
--- so its answer is what demand 2 finds, and of an acceptance the springs still stand there
-pub found-sprung : (s : Settings) (rows : List Task) (n room : ℕ) (a : verdict.Verdict) (old new : List ℕ) → AdmittedSprung true s rows n room a old
-    → (step : Step) → SearchedIn a s n step old new → (answer : Answer) → handed answer ≡ decided a step → FoundSprung true s rows n room answer new
-found-sprung s rows n room (verdict.the-variants.Refused r) old new x step h answer e =
-    record {
-      answers = e ∙ refused-found true s rows n room _ (x .is) r step refl;
-      sprung = λ t. refused-sprung answer _ step r e refl t;
-    }
-found-sprung s rows n room verdict.the-variants.Accepted old new x step h answer e =
-    let searched = h refl in
-    let sprung = x .sprung refl in
-    record {
-      answers = e ∙ admitted-found true s rows n room _ (x .is) step (step-found s rows n old new sprung step searched);
-      sprung = λ _. sprung-beside _ n old new (searched .beside) sprung;
-    }

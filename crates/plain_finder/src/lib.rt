@@ -18,7 +18,8 @@ ghost use Rattle.springs.specs.Spring.{sharesOn, chargesOn, loadsOn};
 ghost use Rattle.springs.specs.Columns.{springIn};
 ghost use Rattle.springs.specs.Handover.{Springy, Chargeable};
 ghost use Rattle.outcome.specs.Plan.{found, outcome, Meets};
-ghost use Rattle.plain_finder.specs.Handover.{Searchable, MaySearch, Searched, SearchedIn};
+ghost use Rattle.outcome.specs.Handover.{Searchable};
+ghost use Rattle.plain_finder.specs.Handover.{Searched};
 
 // The periods and processors of the least passing step, written to the two lent outputs, or the refusal, which writes nothing.
 pub fn find(table: Table, settings: Settings, periods: &mut [u32], processors: &mut [u16]) -> Answer
@@ -34,7 +35,10 @@ pub fn find(table: Table, settings: Settings, periods: &mut [u32], processors: &
     };
     let bad = springs::springs_of(table, settings.swap, settings.notch, &mut block);
     let admission = admission::judge(bad, n);
-    let step = step_in(admission, settings, &mut block, n);
+    let Verdict::Accepted = admission else {
+        return outcome::decide(admission, Step::Nothing);
+    };
+    let step = least_step(settings, &mut block, n);
     let answer = outcome::decide(admission, step);
     outcome::grant(answer, settings, &mut block, n, periods, processors);
     answer
@@ -52,23 +56,10 @@ pub fn decide(table: Table, settings: Settings, room: usize) -> Answer
     };
     let bad = springs::springs_of(table, settings.swap, settings.notch, &mut block);
     let admission = admission::judge(bad, n);
-    outcome::decide(admission, step_in(admission, settings, &mut block, n))
-}
-
-// The least step of an admitted call, on the springs in the block. A refused one has none.
-fn step_in(
-    admission: Verdict,
-    settings: Settings,
-    block: &mut [u32; Columns::ROOM],
-    n: usize,
-) -> Step
-    requires { ⌜ MaySearch admission settings (now block) n ⌝ }
-    ensures { λ r. ⌜ SearchedIn admission settings n r (now (block .entry)) (now (block .exit)) ⌝ }
-{
     let Verdict::Accepted = admission else {
-        return Step::Nothing;
+        return outcome::decide(admission, Step::Nothing);
     };
-    least_step(settings, block, n)
+    outcome::decide(admission, least_step(settings, &mut block, n))
 }
 
 // The least step from 0 to full compression that passes on the loads of the settings' edition.

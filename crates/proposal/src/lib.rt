@@ -49,11 +49,12 @@ pub fn admit(
         return gate;
     };
     let bad = springs::springs_of(table, settings.swap, settings.notch, block);
-    if bad < n {
-        return Verdict::Refused(Refusal::BadRecord(bad));
-    }
+    let judged = admission::judge(bad, n);
+    let Verdict::Accepted = judged else {
+        return judged;
+    };
     springs::loads_at(settings, block, n, step);
-    Verdict::Accepted
+    judged
 }
 
 // Whether a processor is not 1 to m.

@@ -1,7 +1,8 @@
 -- The search on the springs of a table is the search that demand 2 asks for, under each policy that is weighed and each edition.
 -- Assumes nothing.
-use Rattle.ground.proofs.Kit.{ℕ, _≤_, true, false, List, _≡_, refl, sym, _∙_, ap, arith}
+use Rattle.ground.proofs.Kit.{ℕ, _≤_, min, true, false, List, _≡_, refl, sym, _∙_, ap, arith, length}
 use Rattle.ground.specs.declared.Step.{Step}
+use Rattle.ground.specs.declared.Step.the-variants.{Nothing}
 use Rattle.ground.specs.declared.Ended.{Ended}
 use Rattle.ground.specs.Folds.{maxTo}
 use Rattle.ground.specs.Halving.{testsMade}
@@ -13,6 +14,7 @@ use Rattle.ground.proofs.Least.{least-cong}
 use Rattle.kinds.specs.declared.Task.{Task}
 use Rattle.kinds.specs.declared.Policy.{Policy}
 use Rattle.kinds.specs.declared.Settings.{Settings}
+use Rattle.kinds.specs.declared.Refusal.{Refusal}
 use Rattle.kinds.specs.declared.Verdict as verdict
 use Rattle.kinds.specs.declared.Answer.{Answer}
 use Rattle.kinds.specs.Answer.{handed}
@@ -25,8 +27,8 @@ use Rattle.share.proofs.Tables.{all-good, all-on}
 use Rattle.springs.specs.declared.Spring.{Spring}
 use Rattle.springs.specs.Spring.{sharesOn, saturations, chargesOn}
 use Rattle.springs.specs.Columns.{springIn, fullIn}
-use Rattle.springs.specs.Handover.{Sprung}
-use Rattle.springs.proofs.Blocks.{sprung-beside, shares-are, saturations-are, loads-are}
+use Rattle.springs.specs.Handover.{Beside, Sprung}
+use Rattle.springs.proofs.Blocks.{shares-are, saturations-are, loads-are}
 use Rattle.policy.specs.Sides.{weightsOf}
 use Rattle.policy.specs.Looks.{looksFor, looksOf}
 use Rattle.policy.specs.Under.{rowsUnder, fullUnder, loadsUnder, leastUnder, looksUnder, mostLooks}
@@ -41,10 +43,11 @@ use Rattle.admission.specs.Handover.{AdmittedSprung}
 use Rattle.admission.proofs.Chain.{admitted, passed-weighed}
 use Rattle.admission.proofs.Opened.{opened}
 use Rattle.outcome.specs.Plan.{decided}
-use Rattle.outcome.proofs.Found.{refused-found, admitted-found, refused-sprung}
+use Rattle.outcome.proofs.Searches.{refused-meets, found-sprung}
 use Rattle.halve.specs.Halves.{HalvingEnds}
-use Rattle.quick_finder.specs.Looked.{looksAfter, looks}
-use Rattle.quick_finder.specs.Handover.{MaySearch, SearchEnds, SearchUnder, SearchedIn, LookedSprung}
+use Rattle.quick_finder.specs.declared.Looked.{Looked}
+use Rattle.quick_finder.specs.Looked.{looksAfter, looks, MeetsLooked}
+use Rattle.quick_finder.specs.Handover.{SearchEnds, SearchUnder, LookedSprung}
 
 -- a search of the first n of some records ends at the step that demand 2 asks for, with the looks of its edition
 pub record LeastFound (s : Settings) (rows : List Task) (n : ℕ) (r : Ended) : Type 0 where
@@ -121,38 +124,28 @@ module _ (s : Settings) (rows : List Task) (n room : ℕ) (a : verdict.Verdict) 
   unfolding looks
   some-looks k e q = rw (← is, e) q
 
--- what the search of an admitted call relies on
-pub may-search : (s : Settings) (rows : List Task) (n room : ℕ) (a : verdict.Verdict) (block : List ℕ) → AdmittedSprung false s rows n room a block
-    → MaySearch a s block n
-may-search s rows n room a block x e =
-    let admitted = opened false s rows n room a block x e in
-    let passed = admitted .ready .passed in
-    record { chargeable = admitted .chargeable; m-some = passed .m-some; m-most = passed .m-most }
-
--- so its answer and looks are those of demand 3, and of an acceptance the springs still stand there
-pub found-looked : (s : Settings) (rows : List Task) (n room : ℕ) (a : verdict.Verdict) (old new : List ℕ) → AdmittedSprung false s rows n room a old
-    → (r : Ended) → SearchedIn a s n r old new → (answer : Answer) → handed answer ≡ decided a (r .step)
-    → LookedSprung s rows n room answer (r .looks) new
-found-looked s rows n room (verdict.the-variants.Refused x) old new w r h answer e =
+-- a refused call makes no look, and leaves the outputs as they are
+pub refused-looked : (s : Settings) (rows : List Task) (n room : ℕ) (a : verdict.Verdict) {r : Refusal} → a ≡ admission false s rows n room
+    → a ≡ verdict.the-variants.Refused r → (looked : Looked) → (handed (looked .answer) ≡ decided a Nothing) × (looked .looks ≡ 0)
+    → (periods processors : List ℕ) → room ≡ min (length periods) (length processors)
+    → MeetsLooked s rows n periods processors looked periods processors
+refused-looked s rows n room a {r} is refused looked e periods processors shorter =
     record {
-      found =
-          record {
-            answers = e ∙ refused-found false s rows n room _ (w .is) x (r .step) refl;
-            sprung = λ t. refused-sprung answer _ (r .step) x e refl t;
-          };
-      counted = h .unlooked x refl ∙ no-looks s rows n room _ (w .is) refl;
+      meets = refused-meets false s rows n room a r is refused (looked .answer) (e .0) periods processors shorter;
+      count = e .1 ∙ (no-looks s rows n room a is refused ∙ ap (looks s rows n) shorter);
+      few = omega (arith, e .1);
     }
-found-looked s rows n room verdict.the-variants.Accepted old new w r h answer e =
-    let sprung = w .sprung refl in
-    let passed = opened false s rows n room _ old w refl .ready .passed in
-    let least = least-found s rows n old sprung (passed-weighed _ _ _ _ passed) r (h .searched refl) in
+
+-- an admitted one's answer and looks are those of demand 3, and of an acceptance the springs still stand there
+pub found-looked : (s : Settings) (rows : List Task) (n room : ℕ) (a : verdict.Verdict) (old new : List ℕ) → AdmittedSprung false s rows n room a old
+    → a ≡ verdict.the-variants.Accepted → (r : Ended) → SearchUnder s old n r × Beside old new → (answer : Answer) → handed answer ≡ decided a (r .step)
+    → LookedSprung s rows n room answer (r .looks) new
+found-looked s rows n room a old new x admits r h answer e =
+    let passed = opened false s rows n room a old x admits .ready .passed in
+    let least = least-found s rows n old (x .sprung admits) (passed-weighed _ _ _ _ passed) r (h .0) in
     record {
-      found =
-          record {
-            answers = e ∙ admitted-found false s rows n room _ (w .is) (r .step) (least .least);
-            sprung = λ _. sprung-beside _ n old new (h .beside refl) sprung;
-          };
-      counted = some-looks s rows n room _ (w .is) (r .looks) refl (least .count);
+      found = found-sprung false s rows n room a old x admits new (h .1) (r .step) (least .least) answer e;
+      counted = some-looks s rows n room a (x .is) (r .looks) admits (least .count);
     }
 
 -- demand 3: at most tasks + 1; Ask 10: "never over 20" under edition 2

@@ -19,9 +19,10 @@ ghost use Rattle.springs.specs.Columns.{springIn};
 ghost use Rattle.springs.specs.Handover.{SumIs, Springy, Beside};
 ghost use Rattle.policy.specs.Weighed.{weighedAt};
 ghost use Rattle.policy.specs.Handover.{Light};
-ghost use Rattle.outcome.specs.Plan.{found};
 ghost use Rattle.quick_finder.specs.Search.{dueAfter, OneLook};
-ghost use Rattle.quick_finder.specs.Handover.{Searchable, MaySearch, SearchEnds, SearchUnder, SearchedIn};
+ghost use Rattle.outcome.specs.Plan.{decided, found};
+ghost use Rattle.outcome.specs.Handover.{Searchable};
+ghost use Rattle.quick_finder.specs.Handover.{SearchEnds, SearchUnder};
 ghost use Rattle.quick_finder.specs.Looked.{MeetsLooked};
 
 // What the quick finder answers, and the looks that it made.
@@ -50,15 +51,14 @@ pub fn find(table: Table, settings: Settings, periods: &mut [u32], processors: &
     let mut block = [0u32; Columns::ROOM];
     let gate = admission::gate_of(settings, false, n, room);
     let Verdict::Accepted = gate else {
-        let looks = 0;
-        return Looked {
-            answer: outcome::decide(gate, Step::Nothing),
-            looks,
-        };
+        return refused(gate);
     };
     let bad = springs::springs_of(table, settings.swap, settings.notch, &mut block);
     let admission = admission::judge(bad, n);
-    let ended = search_in(admission, settings, &mut block, n);
+    let Verdict::Accepted = admission else {
+        return refused(admission);
+    };
+    let ended = search_under(settings, &mut block, n);
     let step = ended.step;
     let answer = outcome::decide(admission, step);
     outcome::grant(answer, settings, &mut block, n, periods, processors);
@@ -80,28 +80,23 @@ pub fn decide(table: Table, settings: Settings, room: usize) -> Answer
     };
     let bad = springs::springs_of(table, settings.swap, settings.notch, &mut block);
     let admission = admission::judge(bad, n);
-    let ended = search_in(admission, settings, &mut block, n);
+    let Verdict::Accepted = admission else {
+        return outcome::decide(admission, Step::Nothing);
+    };
+    let ended = search_under(settings, &mut block, n);
     let step = ended.step;
     outcome::decide(admission, step)
 }
 
-// The search of an admitted call, on the springs in the block. A refused one has no step and makes no look.
-fn search_in(
-    admission: Verdict,
-    settings: Settings,
-    block: &mut [u32; Columns::ROOM],
-    n: usize,
-) -> Ended
-    requires { ⌜ MaySearch admission settings (now block) n ⌝ }
-    ensures { λ r. ⌜ SearchedIn admission settings n r (now (block .entry)) (now (block .exit)) ⌝ }
+// What a verdict that refuses the call comes to. No look is made.
+fn refused(verdict: Verdict) -> Looked
+    ensures { λ r. ⌜ (handed (r .answer) ≡ decided verdict Step.Nothing) × (r .looks ≡ 0) ⌝ }
 {
-    let Verdict::Accepted = admission else {
-        return Ended {
-            step: Step::Nothing,
-            looks: 0,
-        };
-    };
-    search_under(settings, block, n)
+    let looks = 0;
+    Looked {
+        answer: outcome::decide(verdict, Step::Nothing),
+        looks,
+    }
 }
 
 // The search of the settings' edition.

@@ -42,7 +42,7 @@ impl Columns {
 }
 
 // The spring of a task.
-pub fn spring_of(task: Task) -> Spring
+fn spring_of(task: Task) -> Spring
     requires { ⌜ Good task ⌝ }
     ensures { λ r. ⌜ r ≡ springOf task ⌝ }
 {
@@ -75,7 +75,7 @@ pub fn spring_in(block: &[u32; Columns::ROOM], i: usize) -> Spring
 }
 
 // Puts a spring into a block as number i.
-pub fn put_spring(block: &mut [u32; Columns::ROOM], i: usize, spring: Spring)
+fn put_spring(block: &mut [u32; Columns::ROOM], i: usize, spring: Spring)
     requires { ⌜ (i < mostTasks) × Roomy (now block) ⌝ }
     ensures { λ _. ⌜ Put i spring (now (block .entry)) (now (block .exit)) ⌝ }
 {
@@ -134,7 +134,7 @@ pub fn shares_at(block: &mut [u32; Columns::ROOM], n: usize, k: u32) -> u64
 }
 
 // What a share comes to one step later.
-pub fn let_down(share: u32, least: u32, elasticity: u32) -> u32
+fn let_down(share: u32, least: u32, elasticity: u32) -> u32
     requires { ⌜ (least ≤ scale) × (elasticity ≤ greatestElasticity) ⌝ }
     ensures { λ r. ⌜ r ≡ max least (share - elasticity) ⌝ }
 {
@@ -165,7 +165,7 @@ pub fn next_shares(block: &mut [u32; Columns::ROOM], n: usize) -> u64
 }
 
 // The period on a notch that a share allows.
-pub fn period_for(notch: u16, spring: Spring, share: u32) -> u32
+fn period_for(notch: u16, spring: Spring, share: u32) -> u32
     requires { ⌜ (1 ≤ notch) × (1 ≤ share) × (periodFor notch spring share ≤ longestPeriod) ⌝ }
     ensures { λ r. ⌜ r ≡ periodFor notch spring share ⌝ }
 {
@@ -186,7 +186,7 @@ pub fn period_at(notch: u16, spring: Spring, k: u32) -> u32
 }
 
 // The charge of step k. The largest share is charged whole, at Tmin, which spares a rigid task its divisions.
-pub fn charge_at(notch: u16, spring: Spring, k: u32) -> u32
+fn charge_at(notch: u16, spring: Spring, k: u32) -> u32
     requires { ⌜ Allowed notch spring ⌝ }
     ensures { λ r. ⌜ (r ≡ chargeFor notch spring (shareOn spring k)) × (r ≤ scale) ⌝ }
 {

@@ -17,10 +17,10 @@ returns-2 c =
 
 returns-3 : tie.Need-returns-3
 returns-3 c =
-    let told = c .before .before .before in
+    let told = c .before .before in
     let called = told .before .before .before .call in
-    rw (c .place .ensures, c .before .number .ensures) (told-refused _ _ (called .result) (called .ensures) _ (told .answer2 .given .1))
+    told-refused _ _ (called .result) (called .ensures) (told .answer2 .given .0 .0) (c .tell-verdict .result) (c .tell-verdict .ensures) (told .answer2 .given .1)
 
 pub clock-call-told-spec : {M : Type 1} → statement M
 clock-call-told-spec = tie.close (tie.spec (λ c κs. search needs) (λ c. search needs) (λ c. search needs) (λ c. search needs) (λ c κs. search needs)
-    (λ c. search needs) (λ c κs. search needs) returns returns-2 returns-3)
+    returns returns-2 returns-3)

@@ -1,9 +1,12 @@
 -- `c_tables::margin_told` meets its contract. Assumes nothing.
 use mathlib.Core.Path.{_≡_, sym, ap, _∙_}
+use lib.IntN.{pos}
 use mir.Syntax.{w64}
 use mir.Val.{toZ, ofZ}
 use Rattle.kinds.specs.Answer.{accepted, handedMargin}
+use Rattle.kinds.specs.declared.Verdict.the-variants.{Refused}
 use Rattle.margin.specs.Margin.{marginHanded}
+use Rattle.c_numbers.proofs.Beside.{told-beside}
 use Rattle.c_numbers.specs.Numbers.{settingsOf}
 use borrow.Author.Needs.{needs}
 use Rattle.c_tables.proofs.margin_told.Statement.{statement}
@@ -22,9 +25,10 @@ returns c =
 
 returns-2 : tie.Need-returns-2
 returns-2 c =
-    let refused = c .before .before .before in
-    rw (c .place .ensures, c .before .number .ensures) (ap handedMargin (sym (refused .refusal .given .1)) ∙ handed-back (refused .before .before))
+    let refused = c .before .before in
+    told-beside (Refused (refused .refusal .given .0 .0)) (pos 0) (c .tell-verdict .result) (c .tell-verdict .ensures)
+    ∙ (ap handedMargin (sym (refused .refusal .given .1)) ∙ handed-back (refused .before .before))
 
 pub margin-told-spec : {M : Type 1} → statement M
 margin-told-spec = tie.close (tie.spec (λ c κs. search needs) (λ c κs. search needs) (λ c. search needs) (λ c. search needs) (λ c κs. search needs)
-    (λ c. search needs) (λ c κs. search needs) returns returns-2)
+    returns returns-2)

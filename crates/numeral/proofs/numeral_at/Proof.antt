@@ -1,42 +1,37 @@
 -- `numeral::numeral_at` meets its contract. Assumes nothing.
-use Rattle.ground.proofs.Kit.{_<_, true, _≡_, sym, _∙_, arith, getD, needs, not-true, not-false}
-use Rattle.numeral.specs.Scan.{digitsAt, plain}
-use Rattle.numeral.proofs.Scan.{within, not-plain, read-large, read-other, read-whole}
+use Rattle.ground.proofs.Kit.{_<_, _≡_, sym, _∙_, arith, getD, needs}
+use Rattle.numeral.specs.declared.Numeral.the-variants.{Is}
+use Rattle.numeral.specs.Scan.{numberAt}
+use Rattle.numeral.proofs.Scan.{within, no-number, other-end, whole}
 use Rattle.numeral.proofs.numeral_at.Statement.{statement}
 use Rattle.numeral.proofs.numeral_at.Tie as tie
 
--- the digits are those of a number
-is-plain : (c : tie.Else1) → let args = c .before .before .before .before .args in plain (digitsAt (args .s .now) (args .at)) ≡ true
-is-plain c = sym (c .before .is-plain .ensures) ∙ not-false _ (c .if1 .left)
+-- the number that is there
+number : (c : tie.After-known-told) → let found = c .before in let args = found .before .before .before .before .args in
+    numberAt (args .s .now) (args .at) ≡ Is (found .value .given .0 .0) (found .value .given .0 .1 .0)
+number c = let found = c .before in sym (found .before .before .number-at .ensures) ∙ found .value .given .1
 
 returns : tie.Need-returns
-returns c = sym (not-plain _ _ _ (sym (c .before .is-plain .ensures) ∙ not-true _ (c .if1 .taken)))
+returns c = sym (no-number _ _ _ (sym (c .before .before .number-at .ensures) ∙ c .enum-told .given .1))
 
 returns-2 : tie.Need-returns-2
-returns-2 c = sym (read-large _ _ _ _ (c .before .before .before .run-at .ensures) (is-plain (c .before)) (c .if2 .taken))
+returns-2 c =
+    let read = c .before in
+    sym (other-end _ _ _ _ (number (read .before)) _ (λ e. c .if1 .taken (read .byte-at .ensures ∙ e)))
+
+add-t9 : tie.Need-add-t9
+add-t9 c =
+    let read = c .before in
+    let found = read .before .before in
+    let start = found .before .before .before .before in
+    let next = found .value .given .0 .1 .0 in
+    let ended : 0 < getD (start .args .s .now) next 0 = omega (arith, read .byte-at .ensures, c .if1 .left, start .pre) in
+    omega (arith, within (start .args .s .now) next ended)
 
 returns-3 : tie.Need-returns-3
 returns-3 c =
-    let small = c .before .before in
-    let run = small .before .before .before in
-    sym (read-other _ _ _ _ (run .run-at .ensures) (is-plain (small .before)) (small .if2 .left) _ (c .before .byte-at .ensures) (c .if3 .taken))
-
-add-t11 : tie.Need-add-t11
-add-t11 c =
-    let small = c .before .before in
-    let run = small .before .before .before in
-    let entry = run .before .before in
-    let s = entry .args .s .now in
-    let next = run .run-at .result .next in
-    let ended : 0 < getD s next 0 = omega (arith, c .before .byte-at .ensures, c .if3 .left, entry .pre) in
-    omega (arith, within s next ended)
-
-returns-4 : tie.Need-returns-4
-returns-4 c =
-    let small = c .before .before in
-    let run = small .before .before .before in
-    read-whole _ _ _ _ (run .run-at .ensures) (is-plain (small .before)) (small .if2 .left) _ (c .before .byte-at .ensures) (c .if3 .left)
+    let read = c .before in
+    sym (whole _ _ _ _ (number (read .before)) _ (sym (read .byte-at .ensures) ∙ c .if1 .left))
 
 pub numeral-at-spec : {M : Type 1} → statement M
-numeral-at-spec = tie.close (tie.spec (λ c κs. search needs) (λ c κs. search needs) returns returns-2 (λ c κs. search needs) returns-3 (λ c. search needs)
-    add-t11 returns-4)
+numeral-at-spec = tie.close (tie.spec (λ c κs. search needs) (λ c. search needs) (λ c. search needs) returns (λ c κs. search needs) returns-2 add-t9 returns-3)

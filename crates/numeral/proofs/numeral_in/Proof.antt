@@ -1,29 +1,24 @@
 -- `numeral::numeral_in` meets its contract. Assumes nothing.
-use Rattle.ground.proofs.Kit.{true, _≡_, sym, _∙_, needs, not-true, not-false}
-use Rattle.numeral.specs.Scan.{digitsAt, plain}
-use Rattle.numeral.proofs.Scan.{in-not-plain, in-large, in-longer, in-whole}
+use Rattle.ground.proofs.Kit.{_≡_, sym, _∙_, needs}
+use Rattle.numeral.specs.declared.Numeral.the-variants.{Is}
+use Rattle.numeral.specs.Scan.{numberAt}
+use Rattle.numeral.proofs.Scan.{in-none, in-longer, in-whole}
 use Rattle.numeral.proofs.numeral_in.Statement.{statement}
 use Rattle.numeral.proofs.numeral_in.Tie as tie
 
--- the digits are those of a number
-is-plain : (c : tie.Else1) → let run = c .before .before in plain (digitsAt (run .before .before .args .s .now) 0) ≡ true
-is-plain c = sym (c .before .is-plain .ensures) ∙ not-false _ (c .if1 .left)
+-- the number that is there
+number : (c : tie.After-known-told) → let found = c .before in
+    numberAt (found .before .before .before .before .args .s .now) 0 ≡ Is (found .value .given .0 .0) (found .value .given .0 .1 .0)
+number c = let found = c .before in sym (found .before .before .number-at .ensures) ∙ found .value .given .1
 
 returns : tie.Need-returns
-returns c = sym (in-not-plain _ (sym (c .before .is-plain .ensures) ∙ not-true _ (c .if1 .taken)))
+returns c = sym (in-none _ (sym (c .before .before .number-at .ensures) ∙ c .enum-told .given .1))
 
 returns-2 : tie.Need-returns-2
-returns-2 c = sym (in-large _ _ (c .before .before .before .run-at .ensures) (is-plain (c .before)) (c .if2 .taken))
+returns-2 c = sym (in-longer _ _ _ (number (c .before)) (c .if1 .taken))
 
 returns-3 : tie.Need-returns-3
-returns-3 c =
-    let small = c .before in
-    sym (in-longer _ _ (small .before .before .before .run-at .ensures) (is-plain (small .before)) (small .if2 .left) (c .if3 .taken))
-
-returns-4 : tie.Need-returns-4
-returns-4 c =
-    let small = c .before in
-    in-whole _ _ (small .before .before .before .run-at .ensures) (is-plain (small .before)) (small .if2 .left) (c .if3 .left)
+returns-3 c = sym (in-whole _ _ _ (number (c .before)) (c .if1 .left))
 
 pub numeral-in-spec : {M : Type 1} → statement M
-numeral-in-spec = tie.close (tie.spec (λ c κs. search needs) (λ c κs. search needs) returns returns-2 returns-3 (λ c. search needs) returns-4)
+numeral-in-spec = tie.close (tie.spec (λ c κs. search needs) (λ c. search needs) (λ c. search needs) returns returns-2 returns-3)

@@ -1,16 +1,20 @@
 -- `plain_finder::decide` meets its contract. Assumes nothing.
-use Rattle.ground.proofs.Kit.{true, refl, sym, _∙_, needs}
+use Rattle.ground.proofs.Kit.{true, refl, needs}
 use Rattle.admission.specs.Handover.{AdmittedSprung}
 use Rattle.admission.proofs.Opened.{may-walk, admitted-sprung}
-use Rattle.outcome.proofs.Found.{gate-found}
-use Rattle.plain_finder.proofs.Stepping.{may-search, found-sprung}
+use Rattle.outcome.proofs.Searches.{gate-admission, found-refused, may-search, found-sprung}
+use Rattle.plain_finder.proofs.Stepping.{step-found}
 use Rattle.plain_finder.proofs.decide.Statement.{statement}
 use Rattle.plain_finder.proofs.decide.Tie as tie
 
 returns : tie.Need-returns
 returns c =
-    let refused = c .before .enum-told2 .given .1 in
-    gate-found true _ _ _ _ (c .decide .result) _ (sym (c .before .before .before .gate-of .ensures) ∙ refused) (rw refused at (c .decide .ensures))
+    let told = c .before in
+    let asked = told .before .before in
+    let args = asked .before .args in
+    let refused = told .enum-told2 .given .1 in
+    let is = gate-admission true (args .settings) (args .table .rows) (args .table .n) (args .room) _ (asked .gate-of .ensures) in
+    found-refused true _ _ _ _ _ _ (is refused) refused (c .decide .result) (c .decide .ensures)
 
 springs-of-requires : tie.Need-springs-of-requires
 springs-of-requires c κs =
@@ -34,10 +38,22 @@ admitted c =
 
 returns-2 : tie.Need-returns-2
 returns-2 c =
+    let told = c .before in
+    found-refused true _ _ _ _ _ _ (admitted (told .before .before) .is) (told .enum-told4 .given .1) (c .decide2 .result) (c .decide2 .ensures)
+
+least-step-requires : tie.Need-least-step-requires
+least-step-requires c κs = let told = c .before in may-search true _ _ _ _ _ _ (admitted (told .before .before)) (told .enum-told3 .given .1)
+
+returns-3 : tie.Need-returns-3
+returns-3 c =
     let stepped = c .before in
-    found-sprung _ _ _ _ _ _ _ (admitted (stepped .before .before)) (stepped .step-in .result) (stepped .step-in .ensures) (c .decide2 .result)
-    (c .decide2 .ensures) .answers
+    let told = stepped .before .before in
+    let walked = admitted (told .before .before) in
+    let admits = told .enum-told3 .given .1 in
+    let args = start (told .before .before) .args in
+    let step = step-found (args .settings) (args .table .rows) (args .table .n) _ _ (walked .sprung admits) _ (stepped .least-step .ensures) in
+    found-sprung true _ _ _ _ _ _ walked admits _ (stepped .least-step .ensures .beside) _ step (c .decide3 .result) (c .decide3 .ensures) .answers
 
 pub decide-spec : {M : Type 1} → statement M
 decide-spec = tie.close (tie.spec (λ c κs. search needs) (λ c. search needs) (λ c. search needs) (λ c κs. search needs) returns springs-of-requires
-    (λ c κs. search needs) (λ c κs. may-search _ _ _ _ _ _ (admitted (c .before))) (λ c κs. search needs) returns-2)
+    (λ c κs. search needs) (λ c. search needs) (λ c. search needs) (λ c κs. search needs) returns-2 least-step-requires (λ c κs. search needs) returns-3)

@@ -1,16 +1,20 @@
 -- `quick_finder::decide` meets its contract. Assumes nothing.
-use Rattle.ground.proofs.Kit.{false, refl, sym, _∙_, needs}
+use Rattle.ground.proofs.Kit.{false, refl, needs}
 use Rattle.admission.specs.Handover.{AdmittedSprung}
 use Rattle.admission.proofs.Opened.{may-walk, admitted-sprung}
-use Rattle.outcome.proofs.Found.{gate-found}
-use Rattle.quick_finder.proofs.Served.{may-search, found-looked}
+use Rattle.outcome.proofs.Searches.{gate-admission, found-refused, may-search}
+use Rattle.quick_finder.proofs.Served.{found-looked}
 use Rattle.quick_finder.proofs.decide.Statement.{statement}
 use Rattle.quick_finder.proofs.decide.Tie as tie
 
 returns : tie.Need-returns
 returns c =
-    let refused = c .before .enum-told2 .given .1 in
-    gate-found false _ _ _ _ (c .decide .result) _ (sym (c .before .before .before .gate-of .ensures) ∙ refused) (rw refused at (c .decide .ensures))
+    let told = c .before in
+    let asked = told .before .before in
+    let args = asked .before .args in
+    let refused = told .enum-told2 .given .1 in
+    let is = gate-admission false (args .settings) (args .table .rows) (args .table .n) (args .room) _ (asked .gate-of .ensures) in
+    found-refused false _ _ _ _ _ _ (is refused) refused (c .decide .result) (c .decide .ensures)
 
 springs-of-requires : tie.Need-springs-of-requires
 springs-of-requires c κs =
@@ -34,10 +38,20 @@ admitted c =
 
 returns-2 : tie.Need-returns-2
 returns-2 c =
+    let told = c .before in
+    found-refused false _ _ _ _ _ _ (admitted (told .before .before) .is) (told .enum-told4 .given .1) (c .decide2 .result) (c .decide2 .ensures)
+
+search-under-requires : tie.Need-search-under-requires
+search-under-requires c κs = let told = c .before in may-search false _ _ _ _ _ _ (admitted (told .before .before)) (told .enum-told3 .given .1)
+
+returns-3 : tie.Need-returns-3
+returns-3 c =
     let ended = c .before in
-    found-looked _ _ _ _ _ _ _ (admitted (ended .before .before)) (ended .search-in .result) (ended .search-in .ensures) (c .decide2 .result)
-    (c .decide2 .ensures) .found .answers
+    let told = ended .before .before in
+    let admits = told .enum-told3 .given .1 in
+    found-looked _ _ _ _ _ _ _ (admitted (told .before .before)) admits (ended .search-under .result) (ended .search-under .ensures) (c .decide3 .result)
+    (c .decide3 .ensures) .found .answers
 
 pub decide-spec : {M : Type 1} → statement M
 decide-spec = tie.close (tie.spec (λ c κs. search needs) (λ c. search needs) (λ c. search needs) (λ c κs. search needs) returns springs-of-requires
-    (λ c κs. search needs) (λ c κs. may-search _ _ _ _ _ _ (admitted (c .before))) (λ c κs. search needs) returns-2)
+    (λ c κs. search needs) (λ c. search needs) (λ c. search needs) (λ c κs. search needs) returns-2 search-under-requires (λ c κs. search needs) returns-3)

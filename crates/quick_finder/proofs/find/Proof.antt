@@ -1,12 +1,11 @@
 -- `quick_finder::find` meets its contract. Assumes nothing.
-use Rattle.ground.proofs.Kit.{min, false, refl, sym, _∙_, ap, arith, length, needs}
+use Rattle.ground.proofs.Kit.{min, false, refl, length, needs}
 use Rattle.admission.specs.Handover.{AdmittedSprung}
-use Rattle.admission.proofs.Opened.{may-walk, admitted-sprung, refused-gate}
-use Rattle.outcome.specs.Plan.{found}
-use Rattle.outcome.proofs.Found.{gate-found, gate-refused, may-grant, meets-refused, meets}
-use Rattle.quick_finder.specs.Looked.{looks}
+use Rattle.admission.proofs.Opened.{may-walk, admitted-sprung}
+use Rattle.outcome.proofs.Found.{may-grant, meets}
+use Rattle.outcome.proofs.Searches.{gate-admission, may-search}
 use Rattle.quick_finder.specs.Handover.{LookedSprung}
-use Rattle.quick_finder.proofs.Served.{no-looks, may-search, found-looked, looks-few}
+use Rattle.quick_finder.proofs.Served.{refused-looked, found-looked, looks-few}
 use Rattle.quick_finder.proofs.find.Statement.{statement}
 use Rattle.quick_finder.proofs.find.Tie as tie
 
@@ -18,22 +17,10 @@ returns : tie.Need-returns
 returns c =
     let told = c .before in
     let asked = told .before .before in
-    let refused = told .enum-told2 .given .1 in
-    let gate = sym (asked .gate-of .ensures) ∙ refused in
-    let e = rw refused at (c .decide .ensures) in
     let args = start (asked .before) .args in
-    let room = asked .before .shorter .result in
-    let shorter = asked .before .shorter .ensures in
-    let is = gate-found false (args .settings) (args .table .rows) (args .table .n) room (c .decide .result) _ gate e in
-    let none = no-looks (args .settings) (args .table .rows) (args .table .n) room _ (refused-gate false _ _ _ _ _ gate) refl in
-    let counted = none ∙ ap (looks (args .settings) (args .table .rows) (args .table .n)) shorter in
-    record {
-      meets =
-          meets-refused false _ _ _ _ _ (c .decide .result) (is ∙ ap (found false (args .settings) (args .table .rows) (args .table .n)) shorter)
-          (gate-refused false (args .settings) (args .table .rows) (args .table .n) room (c .decide .result) _ gate e);
-      count = counted;
-      few = omega arith;
-    }
+    let is = gate-admission false (args .settings) (args .table .rows) (args .table .n) (asked .before .shorter .result) _ (asked .gate-of .ensures) in
+    let refused = told .enum-told2 .given .1 in
+    refused-looked _ _ _ _ _ (is refused) refused (c .refused .result) (c .refused .ensures) _ _ (asked .before .shorter .ensures)
 
 springs-of-requires : tie.Need-springs-of-requires
 springs-of-requires c κs =
@@ -56,23 +43,34 @@ admitted c =
     admitted-sprung false (start (roomed c) .args .settings) _ _ _ _ _ _ (told .before .before .gate-of .ensures) (told .enum-told .given .1)
     (c .judge .ensures) (walked .springs-of .ensures)
 
--- the answer is what demand 2 finds in that room, and the block has the springs that its periods come from
-abbrev judged : tie.After-decide2 → tie.After-judge
-judged c = c .before .before .before
+returns-2 : tie.Need-returns-2
+returns-2 c =
+    let told = c .before in
+    let judged = told .before .before in
+    refused-looked _ _ _ _ _ (admitted judged .is) (told .enum-told4 .given .1) (c .refused2 .result) (c .refused2 .ensures) _ _
+    (roomed judged .shorter .ensures)
 
-answered : (c : tie.After-decide2) → let args = start (roomed (judged c)) .args in
+search-under-requires : tie.Need-search-under-requires
+search-under-requires c κs = let told = c .before in may-search false _ _ _ _ _ _ (admitted (told .before .before)) (told .enum-told3 .given .1)
+
+-- the answer is what demand 2 finds in that room, and the block has the springs that its periods come from
+abbrev judged : tie.After-decide → tie.After-judge
+judged c = let told = c .before .before .before in told .before .before
+
+answered : (c : tie.After-decide) → let args = start (roomed (judged c)) .args in
     LookedSprung (args .settings) (args .table .rows) (args .table .n) (min (length (args .periods .now)) (length (args .processors .now)))
-    (c .decide2 .result) (c .before .search-in .result .looks) (c .before .search-in .last .1 .1 .0)
+    (c .decide .result) (c .before .search-under .result .looks) (c .before .search-under .last .1 .0)
 answered c =
     let ended = c .before in
-    let is = found-looked _ _ _ _ _ _ _ (admitted (judged c)) (ended .search-in .result) (ended .search-in .ensures) (c .decide2 .result) (c .decide2 .ensures) in
-    rw (roomed (judged c) .shorter .ensures) at is
+    let admits = ended .before .before .enum-told3 .given .1 in
+    let looked = found-looked _ _ _ _ _ _ _ (admitted (judged c)) admits (ended .search-under .result) (ended .search-under .ensures) (c .decide .result) (c .decide .ensures) in
+    rw (roomed (judged c) .shorter .ensures) at looked
 
 grant-requires : tie.Need-grant-requires
 grant-requires c κs = let decided = c .before .before .before in may-grant false _ _ (start (roomed (judged decided)) .args .table .rows) _ _ _ _ (answered decided .found)
 
-returns-2 : tie.Need-returns-2
-returns-2 c =
+returns-3 : tie.Need-returns-3
+returns-3 c =
     let granted = c .before .before .before .before in
     let decided = granted .before .before .before .before in
     let args = start (roomed (judged decided)) .args in
@@ -85,5 +83,5 @@ returns-2 c =
 
 pub find-spec : {M : Type 1} → statement M
 find-spec = tie.close (tie.spec (λ c κs. search needs) (λ c κs. search needs) (λ c. search needs) (λ c. search needs) (λ c κs. search needs) returns
-    springs-of-requires (λ c κs. search needs) (λ c κs. may-search _ _ _ _ _ _ (admitted (c .before))) (λ c κs. search needs) grant-requires
-    (λ c. search needs) (λ c. search needs) returns-2)
+    springs-of-requires (λ c κs. search needs) (λ c. search needs) (λ c. search needs) (λ c κs. search needs) returns-2 search-under-requires
+    (λ c κs. search needs) grant-requires (λ c. search needs) (λ c. search needs) returns-3)
