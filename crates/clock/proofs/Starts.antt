@@ -1,6 +1,7 @@
 -- The start: which periods are taken, the clock that is started, and that no second answer fits.
 -- Assumes nothing.
-use Rattle.ground.proofs.Kit.{ℕ, _+_, _≤_, _<_, true, not, List, _≡_, refl, sym, _∙_, ap, arith, length, getD, set, take, replicate, length-set, length-replicate}
+use Rattle.ground.proofs.Kit.{ℕ, _+_, _≤_, _<_, true, not, List, _≡_, refl, sym, _∙_, ap, arith, length, getD, set, take, replicate}
+use Rattle.ground.proofs.Kit.{length-set, length-replicate}
 use Rattle.ground.proofs.Kit.{le-leb, leb-true, lt-ltb, le-ltb}
 use lib.Seq.{take-length}
 use Rattle.ground.specs.First.{IsFirst}

@@ -37,8 +37,8 @@ swap-refused : filled
     (3 ∷ 0 ∷ 1 ∷ 0 ∷ 1 ∷ 0 ∷ 3 ∷ 0 ∷ 1 ∷ 0 ∷ 6 ∷ 0 ∷ 0 ∷ 0 ∷ 10 ∷ 0 ∷ 0 ∷ 0 ∷ 20 ∷ 0 ∷ 0 ∷ 0 ∷ 232 ∷ 3 ∷ 0 ∷ 0 ∷ 0 ∷ 0 ∷ [])
     ≡ refusalLine 6 0
 unfolding
-    filled planned plannedSheet firstFrom firstBelow isWithin isGood firstBad gate admission found asked numberAt settingsFit resultsFit listTo over settingsCount
-    taskCount resultCount sheetIn readRows readSheet
+    filled planned plannedSheet firstFrom firstBelow isWithin isGood firstBad gate admission found asked numberAt settingsFit resultsFit listTo over
+    settingsCount taskCount resultCount sheetIn readRows readSheet
 swap-refused = refl
 
 -- Ask 5: "Tmin and Tmax must be multiples of q, or refusal 6": the same case with four settings, w = 0 and q = 3

@@ -30,7 +30,8 @@ joins : joined 0 1 found slow ≡ accepted (record {
   table = table (slow ∷ fast ∷ slow ∷ replicate 29 noTask) 3;
   index = record { entries = 1 ∷ 0 ∷ 2 ∷ replicate 29 0; n = 3 };
 })
-unfolding slow fast found joined mayJoin joinedRows firstBad isGood isWithin firstBelow firstFrom indexBy listTo over ofRank rankOf countTo saturationAt pricedRows
+unfolding slow fast found joined mayJoin joinedRows firstBad isGood isWithin firstBelow firstFrom indexBy listTo over ofRank rankOf countTo saturationAt
+    pricedRows
 joins = refl
 
 -- the first leaves: the second moves down, and zeros stand past it

@@ -94,6 +94,9 @@ module _ {M : Type 1} (𝓤 : URA M) (H : Heap 𝓤) (A : Atoms 𝓤) (W : Given
   abbrev zs : List Task
   zs = over ys (task.at (t .rows)) n
 
+  zs-long : length zs ≡ length ys
+  zs-long = over-long ys (task.at (t .rows)) n
+
   abbrev elem : ℕ → Task
   elem i = getD (t .rows) i noTask
 
@@ -117,10 +120,10 @@ module _ {M : Type 1} (𝓤 : URA M) (H : Heap 𝓤) (A : Atoms 𝓤) (W : Given
   exits gn =
       qed W (‵ (Seen zs) ∷ ‵ (Bor zs) ∷ ‵ (flft κ q) ∷ []) ∵
       suffices ! _ (ends-at 𝓤 H A scatter.ended stayed (scatter.clauses 𝓤 H A mem run) W bound vunit tt (tt, (zs, tt))
-      (tt, (over-long ys (task.at (t .rows)) n, tt))) $ says ! refl $
+      (tt, (zs-long, tt))) $ says ! refl $
       nothing ! $ move ! (3 ∷ 0 ∷ []) $ join ! $ frame ! $
       fjoin ! $ pureI ! (at-slice P.the-row (x zs) (s ∷ [])) (tt, (tt, tt))
-      (ap (λ (m : ℕ). sliceVal (b, o) m ∷ []) (sym (over-long ys (task.at (t .rows)) n)), subst (Room P.the-row) (sym (over-long ys (task.at (t .rows)) n)) gn) $ fjoin ! $
+      (ap (λ (m : ℕ). sliceVal (b, o) m ∷ []) (sym zs-long), subst (Room P.the-row) (sym zs-long) gn) $ fjoin ! $
       nothing ! $ move ! (1 ∷ 0 ∷ []) $ fjoin ! $ owned ! T.the-row (Is T.the-row) (LL.makes T.the-type T′.the-plain 𝓤 H A) t _ is $ fjoin ! $ frame ! $
       feqI ! (List Val) (vunit ∷ []) (vunit ∷ []) refl $ done !
 
