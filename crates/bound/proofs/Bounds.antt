@@ -9,7 +9,7 @@ use Rattle.ground.specs.First.{firstBelow, firstFrom}
 use Rattle.ground.proofs.Cases.{by-le, both-true, true-false}
 use Rattle.ground.proofs.First.{first-is}
 use Rattle.kinds.specs.Limits.{scale, mostTasks}
-use Rattle.bound.specs.Bound.{Within, LargestWithin, IsBound, bounds, boundOf}
+use Rattle.bound.specs.Bound.{FitsBound, LargestWithin, IsBound, bounds, boundOf}
 
 -- b is within, as a test
 abbrev isWithin : ℕ → ℕ → Bool
@@ -36,7 +36,7 @@ right-at n l =
     not-false (isRight n (boundOf n)) (first .before n (omega (arith, all-right)))
 
 -- what is below a number that is within is within too, since a power grows with its base
-within-below : (n a b : ℕ) → a ≤ b → Within n b → Within n a
+within-below : (n a b : ℕ) → a ≤ b → FitsBound n b → FitsBound n a
 within-below n a b l w = le-trans (pow-le-pow-left (more a b l) n) w
   where
     more : (a b : ℕ) → a ≤ b → n * scale + a ≤ n * scale + b

@@ -7,13 +7,13 @@ use lib.ListN.{getD}
 use Rattle.kinds.specs.Limits.{scale}
 
 -- "(n × S + b) to the power n at most 2 × (n × S) to the power n"
-abbrev pub Within : ℕ → ℕ → Type 0
-Within n b = (n * scale + b) ^ n ≤ 2 * (n * scale) ^ n
+abbrev pub FitsBound : ℕ → ℕ → Type 0
+FitsBound n b = (n * scale + b) ^ n ≤ 2 * (n * scale) ^ n
 
 -- "the largest whole b" that is within
 pub record LargestWithin (n b : ℕ) : Type 0 where
-  pub within : Within n b
-  pub none-larger : (a : ℕ) → Within n a → a ≤ b
+  pub within : FitsBound n b
+  pub none-larger : (a : ℕ) → FitsBound n a → a ≤ b
 
 -- b is the bound for n tasks: "for n = 0 it is 0"
 abbrev pub IsBound : ℕ → ℕ → Type 0

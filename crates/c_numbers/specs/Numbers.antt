@@ -11,8 +11,8 @@ use Rattle.c_numbers.specs.declared.Station.{Station}
 use Rattle.c_numbers.specs.declared.ToldVerdict.{ToldVerdict}
 use Rattle.c_numbers.specs.declared.ToldCount.{ToldCount}
 
-abbrev pub settingsOf : Station → Settings
-settingsOf s = settings (policyOf (s .policy)) (s .m) (s .w) (s .q) (s .edition)
+abbrev pub stationSettings : Station → Settings
+stationSettings s = settings (policyOf (s .policy)) (s .m) (s .w) (s .q) (s .edition)
 
 abbrev pub toldVerdict : ToldVerdict → NumberAndPlace
 toldVerdict r = record { number = r .number; place = r .place; value = tt }

@@ -5,7 +5,7 @@ use kinds::Settings;
 use kinds::Verdict;
 ghost use mathlib.Core.Path.{_≡_};
 ghost use Rattle.kinds.specs.Answer.{handedVerdict, handedCount};
-ghost use Rattle.c_numbers.specs.Numbers.{settingsOf, toldVerdict, toldCount};
+ghost use Rattle.c_numbers.specs.Numbers.{stationSettings, toldVerdict, toldCount};
 
 // The settings as numbers.
 #[repr(C)]
@@ -34,7 +34,7 @@ pub struct ToldCount {
 
 // The settings that a station's numbers stand for.
 pub fn settings_of(station: Station) -> Settings
-    ensures { λ r. ⌜ r ≡ settingsOf station ⌝ }
+    ensures { λ r. ⌜ r ≡ stationSettings station ⌝ }
 {
     Settings::new(
         Policy::of(station.policy),

@@ -10,7 +10,7 @@ use Rattle.kinds.specs.declared.Policy.{Policy}
 use Rattle.kinds.specs.declared.Settings.{Settings}
 use Rattle.kinds.specs.declared.Sheet.{Sheet}
 use Rattle.kinds.specs.declared.Refusal.the-variants.{OutputTooShort}
-use Rattle.kinds.specs.Answer.{Handed, accepted, judged, after}
+use Rattle.kinds.specs.Answer.{Handed, accepted, demanded, after}
 use Rattle.kinds.specs.Policy.{meant}
 use Rattle.kinds.specs.Settings.{settings}
 use Rattle.kinds.proofs.Chain.{goes-on}
@@ -23,11 +23,11 @@ use Rattle.c_numbers.specs.declared.ToldCount.{ToldCount}
 use Rattle.c_numbers.specs.Numbers.{ToldCounts}
 use Rattle.c_sheets.specs.declared.StationSheet.{StationSheet}
 use Rattle.c_sheets.specs.declared.ToldReading.{ToldReading}
-use Rattle.c_sheets.specs.Sheets.{sheetOf, numbersOf, inNumbers, toldReading}
+use Rattle.c_sheets.specs.Sheets.{sheetOf, toldSheet, inNumbers, toldReading}
 use Rattle.c_sheets.specs.Back.{backHanded, afterBack}
 
 -- a sheet whose policy is the one that is meant comes back from its numbers
-sheet-back : (x : Sheet) → meant (x .settings .policy) ≡ x .settings .policy → sheetOf (numbersOf x) ≡ x
+sheet-back : (x : Sheet) → meant (x .settings .policy) ≡ x .settings .policy → sheetOf (toldSheet x) ≡ x
 sheet-back x e =
     let st = x .settings in
     let under : Policy → Settings = λ p. settings p (st .m) (st .swap) (st .notch) (st .edition) in
@@ -59,7 +59,7 @@ module _ (s : List ℕ) (t : ToldReading) (told : toldReading t ≡ inNumbers (r
     unfolding backHanded
     handed-is room =
         read-handed s bytes (readSheet s .value) read room
-        ∙ goes-on 0 (readSheet s) (λ x. judged 0 (leb (length s) room) (OutputTooShort (length s)) (accepted (length s))) (readSheet s .value) read
+        ∙ goes-on 0 (readSheet s) (λ x. demanded 0 (leb (length s) room) (OutputTooShort (length s)) (accepted (length s))) (readSheet s .value) read
 
     pub written-back : (r : ToldCount) (new : List ℕ)
         → ToldCounts (writeSheet (sheetOf (t .sheet)) (length old)) (afterWrite (sheetOf (t .sheet)) old) r new

@@ -7,18 +7,18 @@ use Rattle.kinds.specs.Answer.{Handed}
 use Rattle.change_over.specs.declared.Which.{Which}
 use Rattle.change_over.specs.declared.Which.the-variants.{Standing, Proposed}
 use Rattle.change_over.specs.declared.Part.{Part}
-use Rattle.c_numbers.specs.Numbers.{settingsOf}
+use Rattle.c_numbers.specs.Numbers.{stationSettings}
 use Rattle.c_sheets.specs.declared.StationSheet.{StationSheet}
 use Rattle.c_sheets.specs.declared.ToldReading.{ToldReading}
 use Rattle.c_sheets.specs.declared.ToldPart.{ToldPart}
 
 -- the sheet that the numbers stand for
 abbrev pub sheetOf : StationSheet → Sheet
-sheetOf x = record { count = x .count; settings = settingsOf (x .station); table = x .table; results = x .results }
+sheetOf x = record { count = x .count; settings = stationSettings (x .station); table = x .table; results = x .results }
 
 -- a sheet in numbers
-abbrev pub numbersOf : Sheet → StationSheet
-numbersOf x =
+abbrev pub toldSheet : Sheet → StationSheet
+toldSheet x =
     record {
       count = x .count;
       station =
@@ -34,7 +34,7 @@ numbersOf x =
     }
 
 abbrev pub inNumbers : Handed Sheet → Handed StationSheet
-inNumbers h = record { number = h .number; place = h .place; value = numbersOf (h .value) }
+inNumbers h = record { number = h .number; place = h .place; value = toldSheet (h .value) }
 
 abbrev pub toldReading : ToldReading → Handed StationSheet
 toldReading r = record { number = r .number; place = r .place; value = r .sheet }

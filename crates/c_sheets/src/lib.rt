@@ -18,7 +18,7 @@ ghost use Rattle.fill.specs.Fill.{planned, counted, afterFill};
 ghost use Rattle.filled_sheet.specs.Checked.{checked};
 ghost use Rattle.change_over.specs.ChangeOver.{changeOver};
 ghost use Rattle.c_numbers.specs.Numbers.{toldVerdict, ToldCounts};
-ghost use Rattle.c_sheets.specs.Sheets.{sheetOf, numbersOf, inNumbers, toldReading, toldPart};
+ghost use Rattle.c_sheets.specs.Sheets.{sheetOf, toldSheet, inNumbers, toldReading, toldPart};
 ghost use Rattle.c_sheets.specs.Back.{backHanded, afterBack};
 
 // A sheet in numbers: how many numbers its settings section has, and its sections.
@@ -64,7 +64,7 @@ fn sheet_of(x: StationSheet) -> Sheet
 
 // A sheet in numbers.
 fn numbers_of(sheet: Sheet) -> StationSheet
-    ensures { λ r. ⌜ r ≡ numbersOf sheet ⌝ }
+    ensures { λ r. ⌜ r ≡ toldSheet sheet ⌝ }
 {
     let settings = sheet.settings;
     let policy = settings.policy;

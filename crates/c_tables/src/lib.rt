@@ -17,7 +17,7 @@ ghost use Rattle.margin.specs.Margin.{marginHanded};
 ghost use Rattle.proposal.specs.Proposal as checker;
 ghost use Rattle.relief.specs.Relief.{relieved};
 ghost use Rattle.wide_finder.specs.Wide as wide;
-ghost use Rattle.c_numbers.specs.Numbers.{settingsOf};
+ghost use Rattle.c_numbers.specs.Numbers.{stationSettings};
 ghost use Rattle.c_tables.specs.Told.{toldHanded, toldMargin, ToldMeets, ToldLooked, ToldProposal, ToldRelieved};
 
 // Number, step, looks and place. A refusal's step is 0; the plain finder makes no looks.
@@ -76,7 +76,7 @@ pub fn plain_told(
     periods: &mut [u32],
     processors: &mut [u16],
 ) -> Told
-    ensures { λ r. ⌜ ToldMeets (outcome true (settingsOf station) (table .rows) (table .n) (now (periods .entry)) (now (processors .entry)))
+    ensures { λ r. ⌜ ToldMeets (outcome true (stationSettings station) (table .rows) (table .n) (now (periods .entry)) (now (processors .entry)))
         r (now (periods .exit)) (now (processors .exit)) ⌝ }
 {
     tell(
@@ -92,7 +92,7 @@ pub fn quick_told(
     periods: &mut [u32],
     processors: &mut [u16],
 ) -> Told
-    ensures { λ r. ⌜ ToldLooked (settingsOf station) (table .rows) (table .n) (now (periods .entry)) (now (processors .entry))
+    ensures { λ r. ⌜ ToldLooked (stationSettings station) (table .rows) (table .n) (now (periods .entry)) (now (processors .entry))
         r (now (periods .exit)) (now (processors .exit)) ⌝ }
 {
     let looked = quick_finder::find(table, settings_of(station), periods, processors);
@@ -102,7 +102,7 @@ pub fn quick_told(
 
 // The margin on a table by value.
 pub fn margin_told(table: Table, station: Station, step: u32) -> ToldMargin
-    ensures { λ r. ⌜ toldMargin r ≡ marginHanded (settingsOf station) (table .rows) (table .n) step ⌝ }
+    ensures { λ r. ⌜ toldMargin r ≡ marginHanded (stationSettings station) (table .rows) (table .n) step ⌝ }
 {
     match margin::margin_at(table, settings_of(station), step) {
         Margin::Is(margin) => ToldMargin {
@@ -123,7 +123,7 @@ pub fn margin_told(table: Table, station: Station, step: u32) -> ToldMargin
 
 // What would relieve a table by value that no step passes.
 pub fn relief_told(table: Table, station: Station, without: &mut [u32]) -> ToldRelief
-    ensures { λ r. ⌜ ToldRelieved (relieved (settingsOf station) (table .rows) (table .n) (now (without .entry))) r (now (without .exit)) ⌝ }
+    ensures { λ r. ⌜ ToldRelieved (relieved (stationSettings station) (table .rows) (table .n) (now (without .entry))) r (now (without .exit)) ⌝ }
 {
     let relief = relief::relief_of(table, settings_of(station), without);
     let answer = relief.answer;
@@ -145,7 +145,7 @@ pub fn check_proposal_told(
     loads: &mut [u32],
 ) -> ToldVerdict
     ensures { λ r. ⌜ ToldProposal
-        (checker.outcome (settingsOf station) (table .rows) (table .n) step (now (proposal .entry)) (now (loads .entry)))
+        (checker.outcome (stationSettings station) (table .rows) (table .n) step (now (proposal .entry)) (now (loads .entry)))
         r (now (loads .exit)) ⌝ }
 {
     tell_verdict(proposal::check(table, settings_of(station), step, proposal, loads))

@@ -14,7 +14,7 @@ use Rattle.clock.proofs.Wrap.{late-is, add-wraps}
 use Rattle.clock.proofs.Greatest.{latest-cong}
 use Rattle.clock.proofs.Starts.{Whole, begun, whole-started}
 use Rattle.clock.proofs.Calls.{released-few, none-keeps, moved-on}
-use Rattle.clock_time.specs.Time.{lateBy, earliest, onward, afterwards, clockAfter, nextAfter, furthest, Premise}
+use Rattle.clock_time.specs.Time.{lateBy, earliest, onward, onwardFrom, clockAfter, nextAfter, furthest, Premise}
 use Rattle.clock_time.proofs.Unbroken.{by-earliest, onward-here, onward-other}
 
 -- the clock c shows the releases of unbroken time, on 32 bits
@@ -76,7 +76,7 @@ module _ (ps : List ℕ) (c : Clock) (next : ℕ → ℕ) (s : Shows ps c next) 
         (λ i l. ap (late (t % turn)) (s .releases i l) ∙ late-is t (next i) (a .ahead i l) (a .near i l))))
 
     -- and stay in step
-    pub shows-call : Shows ps (afterCall c (t % turn)) (afterwards (every ps) next (earliest (length ps) next t))
+    pub shows-call : Shows ps (afterCall c (t % turn)) (onwardFrom (every ps) next (earliest (length ps) next t))
     shows-call =
         by-earliest (length ps) next t
         (λ e. rw (none-keeps c (t % turn) (same-release ∙ ap accepted (e .is)), e .is) s)
@@ -88,7 +88,7 @@ module _ (ps : List ℕ) (whole : Whole ps) (next : ℕ → ℕ) (f : ℕ) (b : 
   pub around : f + longestPeriod ≤ t + halfTurn → Around (length ps) next t
   around back = record { ahead = λ i l. omega (arith, b .ahead i l); near = near }
 
-  bounded-call : Bounded (length ps) (afterwards (every ps) next (earliest (length ps) next t)) (max t f)
+  bounded-call : Bounded (length ps) (onwardFrom (every ps) next (earliest (length ps) next t)) (max t f)
   bounded-call =
       by-earliest (length ps) next t
       (λ e. rw (e .is) (record { ahead = λ i l. omega (arith, b .ahead i l); near = λ i l. omega (arith, near i l, b .near i l) }))

@@ -5,7 +5,7 @@ use Rattle.ground.proofs.Cases.{by-eq}
 use Rattle.ground.proofs.Folds.{le-max-to}
 use Rattle.clock.specs.Start.{every}
 use Rattle.clock.proofs.Greatest.{by-latest}
-use Rattle.clock_time.specs.Time.{lateBy, earliest, onward, afterwards}
+use Rattle.clock_time.specs.Time.{lateBy, earliest, onward, onwardFrom}
 
 -- task i is handed back: it is due, no release is earlier, and none of a lower record is as early
 pub record Earliest (n : ℕ) (next : ℕ → ℕ) (t i : ℕ) : Type 0 where
@@ -47,6 +47,6 @@ module _ (period next : ℕ → ℕ) (i : ℕ) where
   onward-up : (j : ℕ) → next j ≤ onward period next i j
   onward-up j = by-eq i j (λ e. rw (← e) (omega (arith, onward-here))) (λ d. omega (arith, onward-other j d))
 
-pub after-up : (ps : List ℕ) (next : ℕ → ℕ) (t i : ℕ) → next i ≤ afterwards (every ps) next (earliest (length ps) next t) i
+pub after-up : (ps : List ℕ) (next : ℕ → ℕ) (t i : ℕ) → next i ≤ onwardFrom (every ps) next (earliest (length ps) next t) i
 after-up ps next t i =
     by-earliest (length ps) next t (λ e. rw (e .is) (omega arith)) (λ w e. rw (e .is) (onward-up (every ps) next w i))

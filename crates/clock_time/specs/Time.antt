@@ -26,9 +26,9 @@ unfoldable pub onward : (ℕ → ℕ) → (ℕ → ℕ) → ℕ → ℕ → ℕ
 onward period next i j = pick (eqb i j) (next j + period j) (next j)
 
 -- and after a call
-abbrev pub afterwards : (ℕ → ℕ) → (ℕ → ℕ) → List ℕ → ℕ → ℕ
-afterwards period next [] = next
-afterwards period next (i ∷ rest) = onward period next i
+abbrev pub onwardFrom : (ℕ → ℕ) → (ℕ → ℕ) → List ℕ → ℕ → ℕ
+onwardFrom period next [] = next
+onwardFrom period next (i ∷ rest) = onward period next i
 
 -- A history is the ticks of the calls so far, the latest call's first. The clock was started with some periods at the tick `from`.
 module _ (periods : List ℕ) (from : ℕ) where
@@ -40,7 +40,7 @@ module _ (periods : List ℕ) (from : ℕ) where
   -- the next releases of the clock of unbroken time
   unfoldable pub nextAfter : List ℕ → ℕ → ℕ
   nextAfter [] = λ i. from
-  nextAfter (t ∷ earlier) = afterwards (every periods) (nextAfter earlier) (earliest (length periods) (nextAfter earlier) t)
+  nextAfter (t ∷ earlier) = onwardFrom (every periods) (nextAfter earlier) (earliest (length periods) (nextAfter earlier) t)
 
   -- "the furthest one given (the start included)"
   unfoldable pub furthest : List ℕ → ℕ

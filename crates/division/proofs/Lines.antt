@@ -8,7 +8,7 @@ use Rattle.ground.proofs.Cases.{by-le}
 use Rattle.ground.proofs.Rounding.{ceil-enough, ceil-least, ceil-over}
 use Rattle.kinds.specs.Limits.{greatestElasticity}
 use Rattle.policy.specs.declared.Weights.{Weights}
-use Rattle.policy.specs.Sides.{left}
+use Rattle.policy.specs.Sides.{leftOf}
 use Rattle.rule.proofs.Shares.{share-saturated, share-above}
 use Rattle.division.specs.declared.Line.{Line}
 use Rattle.springs.specs.declared.Spring.{Spring}
@@ -69,22 +69,22 @@ line-iff L R D j pos = (
   λ h. omega (arith, ceil-enough (L - R) D pos, mul-le-mul-right D h),
 )
 
--- j steps on, the left side has fallen by its own fall at each step
-test-line : (w : Weights) (sum x fall d j : ℕ) → (left w sum x ≤ w .r) ↔ (left w (sum + j * fall) (x + j * d) ≤ w .r + j * left w fall d)
+-- j steps on, the leftOf side has fallen by its own fall at each step
+test-line : (w : Weights) (sum x fall d j : ℕ) → (leftOf w sum x ≤ w .r) ↔ (leftOf w (sum + j * fall) (x + j * d) ≤ w .r + j * leftOf w fall d)
 test-line w sum x fall d j = (λ h. omega arith, λ h. omega arith)
 
 -- the test j steps on, with x taken for the max, by one division now
 pub need-iff : (w : Weights) (sum sum′ x x′ fall d j : ℕ) → 0 < fall → sum ≡ sum′ + j * fall → x ≡ x′ + j * d
-    → (need w sum fall x d ≤ j) ↔ (left w sum′ x′ ≤ w .r)
+    → (need w sum fall x d ≤ j) ↔ (leftOf w sum′ x′ ≤ w .r)
 unfolding need
 need-iff w sum sum′ x x′ fall d j pos es ex =
-    let i : (left w sum x ≤ w .r + j * left w fall d) ↔ (ceilDiv (left w sum x - w .r) (left w fall d) ≤ j) =
-    line-iff (left w sum x) (w .r) (left w fall d) j (omega arith) in
-    let t : (left w sum′ x′ ≤ w .r) ↔ (left w sum x ≤ w .r + j * left w fall d) = rw (es, ex) (test-line w sum′ x′ fall d j) in
+    let i : (leftOf w sum x ≤ w .r + j * leftOf w fall d) ↔ (ceilDiv (leftOf w sum x - w .r) (leftOf w fall d) ≤ j) =
+    line-iff (leftOf w sum x) (w .r) (leftOf w fall d) j (omega arith) in
+    let t : (leftOf w sum′ x′ ≤ w .r) ↔ (leftOf w sum x ≤ w .r + j * leftOf w fall d) = rw (es, ex) (test-line w sum′ x′ fall d j) in
     (λ h. t .1 (i .1 h), λ h. i .0 (t .0 h))
 
 -- the test in the max alone: it holds of smaller ones
-lower : (w : Weights) (sum x y : ℕ) → x ≤ y → left w sum y ≤ w .r → left w sum x ≤ w .r
+lower : (w : Weights) (sum x y : ℕ) → x ≤ y → leftOf w sum y ≤ w .r → leftOf w sum x ≤ w .r
 lower w sum x y h t = omega (arith, mul-le-mul-left (w .b) h)
 
 -- the harder of the steps x and of a quotient rounded up, which need not be divided where a product says that it is no more
@@ -104,12 +104,12 @@ need-line w sum fall x d r l = rw (l .over-is, l .by-is)
 pub need-flat : (w : Weights) (sum fall x d : ℕ) → w .b ≡ 0 → need w sum fall x d ≡ need w sum fall 0 0
 unfolding need
 need-flat w sum fall x d e =
-    let left-flat : (s y : ℕ) → left w s y ≡ left w s 0 = λ s y. omega (arith, ap (λ (b : ℕ). b * y) e, ap (λ (b : ℕ). b * 0) e) in
+    let left-flat : (s y : ℕ) → leftOf w s y ≡ leftOf w s 0 = λ s y. omega (arith, ap (λ (b : ℕ). b * y) e, ap (λ (b : ℕ). b * 0) e) in
     rw (left-flat sum x, left-flat fall d)
 
 -- the max over one task more
-pub both-ways : (w : Weights) (sum N x j a b : ℕ) → (N ≤ j) ↔ (left w sum a ≤ w .r) → (x ≤ j) ↔ (left w sum b ≤ w .r)
-    → (max N x ≤ j) ↔ (left w sum (max a b) ≤ w .r)
+pub both-ways : (w : Weights) (sum N x j a b : ℕ) → (N ≤ j) ↔ (leftOf w sum a ≤ w .r) → (x ≤ j) ↔ (leftOf w sum b ≤ w .r)
+    → (max N x ≤ j) ↔ (leftOf w sum (max a b) ≤ w .r)
 both-ways w sum N x j a b p q = (
   λ h. by-le a b (λ l. rw (max-eq-right l) (q .0 (omega arith))) (λ l. let l′ : b ≤ a = omega arith in rw (max-eq-left l′) (p .0 (omega arith))),
   λ h. omega (arith, p .1 (lower w sum a (max a b) (omega arith) h), q .1 (lower w sum b (max a b) (omega arith) h)),

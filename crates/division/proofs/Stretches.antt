@@ -8,7 +8,7 @@ use Rattle.ground.specs.Least.{LeastAt, Rising}
 use Rattle.ground.proofs.Cases.{by-le, true-false, false-of}
 use Rattle.ground.proofs.Folds.{sum-line, term-le-sum}
 use Rattle.policy.specs.declared.Weights.{Weights}
-use Rattle.policy.specs.Sides.{left}
+use Rattle.policy.specs.Sides.{leftOf}
 use Rattle.policy.specs.Weighed.{weighed, weighedAt}
 use Rattle.policy.proofs.Weighing.{weighed-stays}
 use Rattle.springs.specs.declared.Spring.{Spring}
@@ -20,7 +20,7 @@ use Rattle.division.proofs.Lines.{share-line, slope-some, need-iff, nee
 
 need-to-iff : (w : Weights) (springs : ℕ → Spring) (p q j sum sum′ fall n : ℕ) → 0 < fall → sum ≡ sum′ + j * fall → p + j < q
     → ((i : ℕ) → i < n → p < saturationOn (springs i) → q ≤ saturationOn (springs i))
-    → (needTo w springs p sum fall n ≤ j) ↔ (left w sum′ (maxTo (sharesOn springs (p + j)) n) ≤ w .r)
+    → (needTo w springs p sum fall n ≤ j) ↔ (leftOf w sum′ (maxTo (sharesOn springs (p + j)) n) ≤ w .r)
 unfolding needTo maxTo
 need-to-iff w springs p q j sum sum′ fall zero pos es l hq = need-iff w sum sum′ 0 0 fall 0 j pos es (omega arith)
 need-to-iff w springs p q j sum sum′ fall (suc n) pos es l hq =

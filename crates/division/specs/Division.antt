@@ -6,7 +6,7 @@ use Rattle.ground.specs.Choice.{pick}
 use Rattle.ground.specs.Folds.{sumTo}
 use Rattle.ground.specs.Rounding.{ceilDiv}
 use Rattle.policy.specs.declared.Weights.{Weights}
-use Rattle.policy.specs.Sides.{left}
+use Rattle.policy.specs.Sides.{leftOf}
 use Rattle.springs.specs.declared.Spring.{Spring}
 use Rattle.springs.specs.Spring.{shareOn, saturationOn, sharesOn}
 
@@ -19,7 +19,7 @@ slopeSum springs n p = sumTo (λ i. slope (springs i) p) n
 
 -- the steps that are needed after p if the task with the share x and the slope d has the max; the sum falls by `fall`
 unfoldable pub need : Weights → ℕ → ℕ → ℕ → ℕ → ℕ
-need w sum fall x d = ceilDiv (left w sum x - w .r) (left w fall d)
+need w sum fall x d = ceilDiv (leftOf w sum x - w .r) (leftOf w fall d)
 
 -- the greatest of the needs: over no task (share 0, slope 0), and over each of the first n
 unfoldable pub needTo : Weights → (ℕ → Spring) → ℕ → ℕ → ℕ → ℕ → ℕ

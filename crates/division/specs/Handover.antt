@@ -6,7 +6,7 @@ use mathlib.Core.Path.{_≡_}
 use Rattle.ground.specs.Folds.{AddedUp}
 use Rattle.kinds.specs.Limits.{scale, greatestElasticity, mostTasks}
 use Rattle.policy.specs.declared.Weights.{Weights}
-use Rattle.policy.specs.Sides.{left}
+use Rattle.policy.specs.Sides.{leftOf}
 use Rattle.springs.specs.declared.Spring.{Spring}
 use Rattle.springs.specs.Spring.{saturations}
 use Rattle.springs.specs.Columns.{springIn}
@@ -27,8 +27,8 @@ pub record Falling (r : Line) : Type 0 where
 
 -- the line of the task with the share x and the slope d
 pub record LineIs (w : Weights) (sum fall x d : ℕ) (r : Line) : Type 0 where
-  pub over-is : r .over ≡ left w sum x - w .r
-  pub by-is : r .by ≡ left w fall d
+  pub over-is : r .over ≡ leftOf w sum x - w .r
+  pub by-is : r .by ≡ leftOf w fall d
   pub falling : Falling r
 
 -- the steps that are needed

@@ -22,7 +22,7 @@ ghost use Rattle.margin.specs.Margin.{marginHanded};
 ghost use Rattle.proposal.specs.Proposal as checker;
 ghost use Rattle.relief.specs.Relief.{relieved};
 ghost use Rattle.wide_finder.specs.Wide as wide;
-ghost use Rattle.c_numbers.specs.Numbers.{settingsOf};
+ghost use Rattle.c_numbers.specs.Numbers.{stationSettings};
 ghost use Rattle.c_tables.specs.Told.{toldMargin, ToldMeets, ToldLooked, ToldProposal, ToldRelieved};
 
 // The plain finder over lent records.
@@ -34,7 +34,7 @@ pub extern "C" fn eelbasket_plain(
     processors: &mut [u16],
 ) -> Told
     ensures { λ r. ⌜ ToldMeets
-        (outcome true (settingsOf station) (now (rows .entry)) (length (now (rows .entry))) (now (periods .entry)) (now (processors .entry)))
+        (outcome true (stationSettings station) (now (rows .entry)) (length (now (rows .entry))) (now (periods .entry)) (now (processors .entry)))
         r (now (periods .exit)) (now (processors .exit)) ⌝ }
 {
     c_tables::plain_told(lent_rows::gather(rows), station, periods, processors)
@@ -48,7 +48,7 @@ pub extern "C" fn eelbasket_quick(
     periods: &mut [u32],
     processors: &mut [u16],
 ) -> Told
-    ensures { λ r. ⌜ ToldLooked (settingsOf station) (now (rows .entry)) (length (now (rows .entry))) (now (periods .entry)) (now (processors .entry))
+    ensures { λ r. ⌜ ToldLooked (stationSettings station) (now (rows .entry)) (length (now (rows .entry))) (now (periods .entry)) (now (processors .entry))
         r (now (periods .exit)) (now (processors .exit)) ⌝ }
 {
     c_tables::quick_told(lent_rows::gather(rows), station, periods, processors)
@@ -57,7 +57,7 @@ pub extern "C" fn eelbasket_quick(
 // The margin over lent records, at any step.
 #[no_mangle]
 pub extern "C" fn eelbasket_margin(rows: &[Task], station: Station, step: u32) -> ToldMargin
-    ensures { λ r. ⌜ toldMargin r ≡ marginHanded (settingsOf station) (now (rows .entry)) (length (now (rows .entry))) step ⌝ }
+    ensures { λ r. ⌜ toldMargin r ≡ marginHanded (stationSettings station) (now (rows .entry)) (length (now (rows .entry))) step ⌝ }
 {
     c_tables::margin_told(lent_rows::gather(rows), station, step)
 }
@@ -69,7 +69,7 @@ pub extern "C" fn eelbasket_relief(
     station: Station,
     without: &mut [u32],
 ) -> ToldRelief
-    ensures { λ r. ⌜ ToldRelieved (relieved (settingsOf station) (now (rows .entry)) (length (now (rows .entry))) (now (without .entry)))
+    ensures { λ r. ⌜ ToldRelieved (relieved (stationSettings station) (now (rows .entry)) (length (now (rows .entry))) (now (without .entry)))
         r (now (without .exit)) ⌝ }
 {
     c_tables::relief_told(lent_rows::gather(rows), station, without)
@@ -85,7 +85,7 @@ pub extern "C" fn eelbasket_check_proposal(
     loads: &mut [u32],
 ) -> ToldVerdict
     ensures { λ r. ⌜ ToldProposal
-        (checker.outcome (settingsOf station) (now (rows .entry)) (length (now (rows .entry))) step (now (proposal .entry)) (now (loads .entry)))
+        (checker.outcome (stationSettings station) (now (rows .entry)) (length (now (rows .entry))) step (now (proposal .entry)) (now (loads .entry)))
         r (now (loads .exit)) ⌝ }
 {
     c_tables::check_proposal_told(lent_rows::gather(rows), station, step, proposal, loads)

@@ -30,7 +30,7 @@ use Rattle.sheet.specs.Sections.{settingSize, taskSize, numbersPlace, recordsPl
 use Rattle.sheet.specs.Rows.{taskAt, noGranted}
 use Rattle.sheet.specs.Reading.{settingsCount, taskCount, numbersIn, sheetIn}
 use Rattle.sheet.proofs.Whole.{Whole, few-settings}
-use Rattle.writer.specs.Canonical.{grantedIn, TaskHeld, GrantedHeld, SheetHeld}
+use Rattle.writer.specs.Canonical.{grantedIn, TaskStorable, GrantedStorable, SheetStorable}
 use Rattle.fill.specs.Results.{entryAt, resultsOf, planPeriods, planProcessors, withPlan}
 
 -- a number of so many bytes
@@ -96,10 +96,10 @@ module _ (x : Sheet) (k : ℕ) (few : x .table .n ≤ mostTasks) (e : asked x �
       let f = processorAt (meant (x .settings .policy)) (x .settings .m) loads k in
       rw (list-in 0 f (x .table .n) i l) (place-held i l)
 
-  pub results-held : (i : ℕ) → GrantedHeld (grantedIn (withPlan x k) i)
+  pub results-held : (i : ℕ) → GrantedStorable (grantedIn (withPlan x k) i)
   unfolding withPlan resultsOf
   results-held i =
-      rows-held GrantedHeld noGranted (planAt x k) (x .table .n) few
+      rows-held GrantedStorable noGranted (planAt x k) (x .table .n) few
       (record { period = omega arith; processor = omega arith })
       (λ j l. record { period = period-held j l; processor = processor-held j l })
       i
@@ -121,12 +121,12 @@ settings-held s bytes w i =
     omega (arith, ap (λ (l : List ℕ). setting l i) back, setting-held s bytes w i)
 
 -- a sheet that stands in bytes, with a plan
-pub planned-held : (s : List ℕ) → Bytes s → Whole s → (k : ℕ) → asked (sheetIn s) ≡ accepted k → SheetHeld (withPlan (sheetIn s) k)
+pub planned-held : (s : List ℕ) → Bytes s → Whole s → (k : ℕ) → asked (sheetIn s) ≡ accepted k → SheetStorable (withPlan (sheetIn s) k)
 unfolding withPlan resultsOf sheetIn
 planned-held s bytes w k e =
     let place : ℕ → ℕ = λ i. recordsPlace (settingsCount s) + taskSize * i in
     let tasks : ℕ → Task = λ i. taskAt s (place i) in
-    let held : (i : ℕ) → TaskHeld (tasks i) =
+    let held : (i : ℕ) → TaskStorable (tasks i) =
     λ i.
     record {
       c = number-held s bytes 4 (place i);
@@ -136,7 +136,7 @@ planned-held s bytes w k e =
     } in
     record {
       settings = settings-held s bytes w;
-      tasks = rows-held TaskHeld noTask tasks (taskCount s) (w .few)
+      tasks = rows-held TaskStorable noTask tasks (taskCount s) (w .few)
           (record { c = omega arith; tmin = omega arith; tmax = omega arith; e = omega arith }) (λ i l. held i);
       tasks-room = padded-to-long noTask mostTasks tasks (taskCount s);
       results = results-held (sheetIn s) k (w .few) e;

@@ -10,7 +10,7 @@ use Rattle.ground.specs.First.{firstBelow}
 use Rattle.kinds.specs.declared.Granted.{Granted}
 use Rattle.kinds.specs.declared.Sheet.{Sheet}
 use Rattle.kinds.specs.declared.Refusal.the-variants.{NoResults, WrongResult}
-use Rattle.kinds.specs.Answer.{accepted, unrefused, judged, handed, NumberAndPlace}
+use Rattle.kinds.specs.Answer.{accepted, unrefused, demanded, handed, NumberAndPlace}
 use Rattle.plain_finder.specs.Asked.{asked}
 use Rattle.sheet.specs.Rows.{noGranted}
 use Rattle.sheet.specs.Reading.{readSheet}
@@ -36,8 +36,8 @@ firstDiffering x due = firstBelow (differsAt x due) (x .table .n)
 -- "then 18 at 0 when tasks stand there without results, then 19 naming the first result that differs"
 unfoldable pub compared : Sheet → Sheet → NumberAndPlace
 compared x due =
-    judged tt (leb (x .table .n) (x .results .n)) NoResults
-    (judged tt (leb (x .table .n) (firstDiffering x due)) (WrongResult (firstDiffering x due)) (accepted tt))
+    demanded tt (leb (x .table .n) (x .results .n)) NoResults
+    (demanded tt (leb (x .table .n) (firstDiffering x due)) (WrongResult (firstDiffering x due)) (accepted tt))
 
 -- "Reader and finder refusals come first": of a sheet, with what came of filling it in
 unfoldable pub checkedBy : Sheet → SheetPlan → NumberAndPlace

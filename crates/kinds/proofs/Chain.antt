@@ -4,7 +4,7 @@ use Rattle.ground.proofs.Kit.{Bool, true, false, _≡_, refl, sym, ap, arith, n
 use Rattle.ground.proofs.Cases.{by-eq}
 use Rattle.kinds.specs.declared.Refusal.{Refusal}
 use Rattle.kinds.specs.Refusal.{numberOf}
-use Rattle.kinds.specs.Answer.{Handed, accepted, refused, judged, unrefused}
+use Rattle.kinds.specs.Answer.{Handed, accepted, refused, demanded, unrefused}
 use Rattle.kinds.proofs.Refusals.{refusal-numbered}
 use Rattle.kinds.proofs.Answers.{not-refused}
 
@@ -22,8 +22,8 @@ module _ {A B : Type 0} (nothing : B) (h : Handed A) (rest : A → Handed B) whe
       (λ z. (z, rw z at e))
       (λ z. absurd (z (ap (λ (n : Handed B). n .number) (rw (ne-eqb (h .number) 0 z) at e))))
 
--- where something is judged and the answer is an acceptance, the test held
+-- where something is demanded and the answer is an acceptance, the test held
 pub judged-passed : {A : Type 0} {x : A} (nothing : A) (test : Bool) (refusal : Refusal) (rest : Handed A)
-    → judged nothing test refusal rest ≡ accepted x → (test ≡ true) × (rest ≡ accepted x)
+    → demanded nothing test refusal rest ≡ accepted x → (test ≡ true) × (rest ≡ accepted x)
 judged-passed nothing true refusal rest e = (refl, e)
 judged-passed {x = x} nothing false refusal rest e = not-refused x nothing refusal (sym e)

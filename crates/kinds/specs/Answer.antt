@@ -34,8 +34,8 @@ abbrev pub check : {A : Type 0} → Bool → A → A → A
 check test refusal rest = pick test refusal rest
 
 -- the same where something has to hold
-abbrev pub judged : {A : Type 0} → A → Bool → Refusal → Handed A → Handed A
-judged nothing test refusal rest = check (not test) (refused nothing refusal) rest
+abbrev pub demanded : {A : Type 0} → A → Bool → Refusal → Handed A → Handed A
+demanded nothing test refusal rest = check (not test) (refused nothing refusal) rest
 
 -- a refusal that comes first, with nothing for its value, else what comes of the value
 abbrev pub unrefused : {A B : Type 0} → B → Handed A → (A → Handed B) → Handed B

@@ -8,7 +8,7 @@ use Rattle.ground.specs.Choice.{both}
 use Rattle.ground.proofs.Cases.{by-le, by-bool, both-true}
 use Rattle.numeral.specs.declared.Run.{Run}
 use Rattle.numeral.specs.declared.Numeral.the-variants.{Is, Bad}
-use Rattle.numeral.specs.Scan.{mostNumber, held, isDigit, digits, valueFrom, digitsAt, valueAt, pastDigits, plain, numberAt, numeralAt, numeralIn}
+use Rattle.numeral.specs.Scan.{mostNumber, limited, isDigit, digits, valueFrom, digitsAt, valueAt, pastDigits, plain, numberAt, numeralAt, numeralIn}
 use Rattle.numeral.specs.Handover.{Runs}
 
 -- a digit lies from 48 to 57
@@ -45,8 +45,8 @@ pub value-more : (v d : ℕ) (ds : List ℕ) → valueFrom v (d ∷ ds) ≡ valu
 unfolding valueFrom
 value-more v d ds = refl
 
--- holding a value down on the way changes nothing of what is held of the whole
-pub value-held : (v w : ℕ) (ds : List ℕ) → held v ≡ held w → held (valueFrom v ds) ≡ held (valueFrom w ds)
+-- holding a value down on the way changes nothing of what is limited of the whole
+pub value-held : (v w : ℕ) (ds : List ℕ) → limited v ≡ limited w → limited (valueFrom v ds) ≡ limited (valueFrom w ds)
 unfolding valueFrom
 value-held v w [] h = h
 value-held v w (d ∷ ds) h = value-held (10 * v + (d - 48)) (10 * w + (d - 48)) ds (omega arith)
@@ -54,7 +54,7 @@ value-held v w (d ∷ ds) h = value-held (10 * v + (d - 48)) (10 * w + (d - 48))
 -- a walk over a run of digits that has come to i with the value v: what is left gives the whole
 pub record Going (s : List ℕ) (at v i : ℕ) : Type 0 where
   pub place : pastDigits s i ≡ pastDigits s at
-  pub value : held (valueFrom v (digitsAt s i)) ≡ held (valueAt s at)
+  pub value : limited (valueFrom v (digitsAt s i)) ≡ limited (valueAt s at)
   pub low : v ≤ mostNumber + 1
 
 module _ (s : List ℕ) (at : ℕ) where
@@ -62,13 +62,13 @@ module _ (s : List ℕ) (at : ℕ) where
   going-none = record { place = refl; value = refl; low = omega arith }
 
   module _ (v i b : ℕ) (g : Going s at v i) (e : b ≡ getD s i 0) where
-    pub going-more : isDigit b ≡ true → (w : ℕ) → w ≡ held (10 * v + (b - 48)) → Going s at w (i + 1)
+    pub going-more : isDigit b ≡ true → (w : ℕ) → w ≡ limited (10 * v + (b - 48)) → Going s at w (i + 1)
     going-more t w k =
         let d : digitsAt s i ≡ b ∷ digitsAt s (i + 1) = digits-more s i (ap isDigit (sym e) ∙ t) ∙ ap (λ (x : ℕ). x ∷ digitsAt s (i + 1)) (sym e) in
         let l : length (digitsAt s i) ≡ suc (length (digitsAt s (i + 1))) = ap length d in
-        let u : held (valueFrom v (digitsAt s i)) ≡ held (valueFrom (10 * v + (b - 48)) (digitsAt s (i + 1))) =
-        ap (λ (x : List ℕ). held (valueFrom v x)) d ∙ ap held (value-more v b (digitsAt s (i + 1))) in
-        let h : held (valueFrom w (digitsAt s (i + 1))) ≡ held (valueFrom (10 * v + (b - 48)) (digitsAt s (i + 1))) =
+        let u : limited (valueFrom v (digitsAt s i)) ≡ limited (valueFrom (10 * v + (b - 48)) (digitsAt s (i + 1))) =
+        ap (λ (x : List ℕ). limited (valueFrom v x)) d ∙ ap limited (value-more v b (digitsAt s (i + 1))) in
+        let h : limited (valueFrom w (digitsAt s (i + 1))) ≡ limited (valueFrom (10 * v + (b - 48)) (digitsAt s (i + 1))) =
         value-held w (10 * v + (b - 48)) (digitsAt s (i + 1)) (omega arith) in
         record { place = let p = g .place in omega arith; value = h ∙ (sym u ∙ g .value); low = omega arith }
 

@@ -13,8 +13,8 @@ abbrev pub mostNumber : ℕ
 mostNumber = 4294967295
 
 -- the scanner holds a value down at the number after the most
-abbrev pub held : ℕ → ℕ
-held v = min v (mostNumber + 1)
+abbrev pub limited : ℕ → ℕ
+limited v = min v (mostNumber + 1)
 
 -- a byte from `0` to `9`
 abbrev pub isDigit : ℕ → Bool

@@ -14,7 +14,7 @@ use Rattle.kinds.specs.Limits.{scale}
 use Rattle.kinds.specs.Policy.{meant, isFirstFit}
 use Rattle.kinds.specs.Task.{at, Good}
 use Rattle.rule.specs.Rule.{ShortestOn}
-use Rattle.share.specs.Share.{costOf, shareAt}
+use Rattle.share.specs.Share.{shareAt}
 use Rattle.fit.specs.Fit.{loadsAfter}
 use Rattle.policy.specs.Passing.{passesAt}
 use Rattle.policy.specs.Under.{rowsUnder, fullUnder, loadsUnder}
@@ -36,7 +36,7 @@ pub record Granted (s : Settings) (rows : List Task) (n k : ℕ) (oldPeriods old
   pub good : (i : ℕ) → i < n → Good (at (rowsUnder s rows n) i)
   pub step : LeastAt (passesAt (meant (s .policy)) (s .m) (loadsUnder s rows n) n) (fullUnder s rows n) k
   pub each-period : (i : ℕ) → i < n → let task = at (rowsUnder s rows n) i in
-      ShortestOn (s .notch) (costOf task) (task .tmin) (task .tmax) (shareAt task k) (getD periods i 0)
+      ShortestOn (s .notch) (task .c) (task .tmin) (task .tmax) (shareAt task k) (getD periods i 0)
   pub each-processor : (i : ℕ) → i < n → Assigned (meant (s .policy)) (s .m) (loadsUnder s rows n k) i (getD processors i 0)
   pub periods-past : (i : ℕ) → n ≤ i → getD periods i 0 ≡ getD oldPeriods i 0
   pub processors-past : (i : ℕ) → n ≤ i → getD processors i 0 ≡ getD oldProcessors i 0

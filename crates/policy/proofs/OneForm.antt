@@ -7,10 +7,10 @@ use Rattle.kinds.specs.declared.Policy.the-variants.{Pooled, GlobalEdf, GlobalR
 use Rattle.kinds.specs.Limits.{scale}
 use Rattle.kinds.specs.Policy.{isWeighed}
 use Rattle.policy.specs.declared.Weights.{Weights}
-use Rattle.policy.specs.Sides.{leftSide, rightSide, left, weightsOf}
+use Rattle.policy.specs.Sides.{leftSide, rightSide, leftOf, weightsOf}
 use Rattle.policy.specs.Handover.{Light}
 
-pub one-left : (p : Policy) (m n sum max : ℕ) → isWeighed p ≡ true → left (weightsOf p m n) sum max ≡ leftSide p m sum max
+pub one-left : (p : Policy) (m n sum max : ℕ) → isWeighed p ≡ true → leftOf (weightsOf p m n) sum max ≡ leftSide p m sum max
 one-left Pooled m n sum max f = omega arith
 one-left GlobalEdf m n sum max f = refl
 one-left GlobalRm m n sum max f = true-false f refl

@@ -15,7 +15,7 @@ use Rattle.bound.specs.Bound.{boundOf}
 use Rattle.fit.specs.Fit.{fits}
 use Rattle.fit.proofs.Placing.{fits-within, fits-same}
 use Rattle.policy.specs.declared.Weights.{Weights}
-use Rattle.policy.specs.Sides.{leftSide, rightSide, left, weightsOf, mostSum, marginOf}
+use Rattle.policy.specs.Sides.{leftSide, rightSide, leftOf, weightsOf, mostSum, marginOf}
 use Rattle.policy.specs.Handover.{TotalIs}
 use Rattle.policy.specs.Passing.{holds, passes, passesAt}
 use Rattle.policy.proofs.OneForm.{one-left, one-right}
@@ -60,12 +60,12 @@ passes-holds (Further q) m load n f = true-false f refl
 
 -- and in the one form
 pub passes-weighed : (p : Policy) (m : ℕ) (load : ℕ → ℕ) (n : ℕ) → isWeighed p ≡ true
-    → passes p m load n ≡ leb (left (weightsOf p m n) (sumTo load n) (maxTo load n)) (weightsOf p m n .r)
+    → passes p m load n ≡ leb (leftOf (weightsOf p m n) (sumTo load n) (maxTo load n)) (weightsOf p m n .r)
 passes-weighed p m load n f =
     passes-holds p m load n f ∙ ap₂ leb (sym (one-left p m n (sumTo load n) (maxTo load n) f)) (sym (one-right p m n (maxTo load n) f))
 
 -- the test holds of a smaller sum and max
-pub test-stays : (w : Weights) (sum max sum′ max′ : ℕ) → sum′ ≤ sum → max′ ≤ max → left w sum max ≤ w .r → left w sum′ max′ ≤ w .r
+pub test-stays : (w : Weights) (sum max sum′ max′ : ℕ) → sum′ ≤ sum → max′ ≤ max → leftOf w sum max ≤ w .r → leftOf w sum′ max′ ≤ w .r
 test-stays w sum max sum′ max′ hs hx h = omega (arith, mul-le-mul-left (w .b) hx)
 
 -- where loads pass, smaller ones do
@@ -98,9 +98,9 @@ margin-fails p m load n f t =
 
 -- as the code works them out: from the weights, the sum and the max
 module _ (p : Policy) (m : ℕ) (load : ℕ → ℕ) (n : ℕ) (w : Weights) (sum max l : ℕ) (f : isWeighed p ≡ true)
-    (is : w ≡ weightsOf p m n) (t : TotalIs load n sum max) (el : l ≡ left w sum max) where
+    (is : w ≡ weightsOf p m n) (t : TotalIs load n sum max) (el : l ≡ leftOf w sum max) where
   left-worked-out : l ≡ leftSide p m (sumTo load n) (maxTo load n)
-  left-worked-out = rw (← t .added .is, ← t .max-is) (el ∙ (ap (λ (v : Weights). left v sum max) is ∙ one-left p m n sum max f))
+  left-worked-out = rw (← t .added .is, ← t .max-is) (el ∙ (ap (λ (v : Weights). leftOf v sum max) is ∙ one-left p m n sum max f))
 
   right-worked-out : w .r ≡ rightSide p m n (maxTo load n)
   right-worked-out = ap (λ (v : Weights). v .r) is ∙ one-right p m n (maxTo load n) f

@@ -12,12 +12,12 @@ use Rattle.springs.proofs.Blocks.{sum-loaded}
 use Rattle.fit.specs.Fit.{loadIn}
 use Rattle.fit.specs.Handover.{Loads}
 use Rattle.policy.specs.declared.Weights.{Weights}
-use Rattle.policy.specs.Sides.{left}
+use Rattle.policy.specs.Sides.{leftOf}
 use Rattle.policy.specs.Handover.{TotalIs}
 use Rattle.policy.specs.Weighed.{weighed, chargedAt}
 use Rattle.policy.proofs.Tests.{test-stays}
 
-pub weighed-worked-out : (w : Weights) (load : ℕ → ℕ) (n sum max : ℕ) → TotalIs load n sum max → leb (left w sum max) (w .r) ≡ weighed w load n
+pub weighed-worked-out : (w : Weights) (load : ℕ → ℕ) (n sum max : ℕ) → TotalIs load n sum max → leb (leftOf w sum max) (w .r) ≡ weighed w load n
 unfolding weighed
 weighed-worked-out w load n sum max t = rw (t .added .is, t .max-is)
 
@@ -25,11 +25,11 @@ weighed-worked-out w load n sum max t = rw (t .added .is, t .max-is)
 module _ (w : Weights) (load : ℕ → ℕ) (n : ℕ) where
   pub weighed-too-much : w .r < sumTo load n → weighed w load n ≡ false
   unfolding weighed
-  weighed-too-much h = lt-leb (left w (sumTo load n) (maxTo load n)) (w .r) (omega arith)
+  weighed-too-much h = lt-leb (leftOf w (sumTo load n) (maxTo load n)) (w .r) (omega arith)
 
   pub weighed-sum : w .b ≡ 0 → sumTo load n ≤ w .r → weighed w load n ≡ true
   unfolding weighed
-  weighed-sum z h = le-leb (left w (sumTo load n) (maxTo load n)) (w .r) (omega (arith, ap (λ (b : ℕ). b * maxTo load n) z))
+  weighed-sum z h = le-leb (leftOf w (sumTo load n) (maxTo load n)) (w .r) (omega (arith, ap (λ (b : ℕ). b * maxTo load n) z))
 
 -- the test stays where no load is larger
 pub weighed-stays : (w : Weights) (f g : ℕ → ℕ) (n : ℕ) → ((i : ℕ) → i < n → g i ≤ f i) → weighed w f n ≡ true → weighed w g n ≡ true

@@ -29,13 +29,13 @@ rightSide FirstFit m n max = 0
 rightSide OneCoreRm m n max = boundOf n
 rightSide (Further q) m n max = 0
 
--- "the right side of the test minus the left, as a signed number"
+-- "the right side of the test minus the leftOf, as a signed number"
 unfoldable pub marginOf : Policy → ℕ → (ℕ → ℕ) → ℕ → ℤ
 marginOf p m load n = subℕ (rightSide p m n (maxTo load n)) (leftSide p m (sumTo load n) (maxTo load n))
 
 -- the one form of the policies that are weighed: sum + b · max ≤ r
-abbrev pub left : Weights → ℕ → ℕ → ℕ
-left w sum max = sum + w .b * max
+abbrev pub leftOf : Weights → ℕ → ℕ → ℕ
+leftOf w sum max = sum + w .b * max
 
 abbrev pub weights : ℕ → ℕ → Weights
 weights b r = record { b = b; r = r }

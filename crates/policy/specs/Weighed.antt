@@ -5,13 +5,13 @@ use mathlib.Core.Bool.{Bool}
 use lib.Dec.{leb}
 use Rattle.ground.specs.Folds.{sumTo, maxTo}
 use Rattle.policy.specs.declared.Weights.{Weights}
-use Rattle.policy.specs.Sides.{left}
+use Rattle.policy.specs.Sides.{leftOf}
 use Rattle.springs.specs.declared.Spring.{Spring}
 use Rattle.springs.specs.Spring.{sharesOn, chargesOn}
 
 -- a test in the one form, over any loads
 unfoldable pub weighed : Weights → (ℕ → ℕ) → ℕ → Bool
-weighed w load n = leb (left w (sumTo load n) (maxTo load n)) (w .r)
+weighed w load n = leb (leftOf w (sumTo load n) (maxTo load n)) (w .r)
 
 -- at step k on the shares of the springs
 abbrev pub weighedAt : Weights → (ℕ → Spring) → ℕ → ℕ → Bool

@@ -16,7 +16,7 @@ ghost use Rattle.springs.specs.Columns.{springIn};
 ghost use Rattle.springs.specs.Handover.{Springy, Chargeable, Beside};
 ghost use Rattle.fit.specs.Fit.{loadIn};
 ghost use Rattle.fit.specs.Handover.{Loads};
-ghost use Rattle.policy.specs.Sides.{weightsOf, mostSum, left, marginOf};
+ghost use Rattle.policy.specs.Sides.{weightsOf, mostSum, leftOf, marginOf};
 ghost use Rattle.policy.specs.Passing.{passes, passesAt};
 ghost use Rattle.policy.specs.Weighed.{weighed, chargedAt};
 ghost use Rattle.policy.specs.Handover.{Light, SideIs, TotalIs};
@@ -47,10 +47,10 @@ pub fn weights_of(policy: Policy, m: u16, n: usize) -> Weights
     }
 }
 
-// The left side of the test, for a sum and a max.
+// The leftOf side of the test, for a sum and a max.
 pub fn left_of(w: Weights, sum: u64, max: u64) -> u64
     requires { ⌜ Light w × (sum ≤ scale * mostTasks) × (max ≤ scale) ⌝ }
-    ensures { λ r. ⌜ SideIs (left w sum max) r ⌝ }
+    ensures { λ r. ⌜ SideIs (leftOf w sum max) r ⌝ }
 {
     sum + w.b * max
 }
@@ -64,7 +64,7 @@ pub struct Total {
 // Whether the test holds for a sum and a max.
 pub fn weighs(w: Weights, total: Total) -> bool
     requires { ⌜ Light w × (total .sum ≤ scale * mostTasks) × (total .max ≤ scale) ⌝ }
-    ensures { λ r. ⌜ r ≡ leb (left w (total .sum) (total .max)) (w .r) ⌝ }
+    ensures { λ r. ⌜ r ≡ leb (leftOf w (total .sum) (total .max)) (w .r) ⌝ }
 {
     left_of(w, total.sum, total.max) <= w.r
 }
@@ -200,7 +200,7 @@ pub fn total_at(block: &[u32; Columns::ROOM], n: usize, k: u32) -> Total
     }
 }
 
-// The right side of the test minus the left, as a signed number, of a policy that is weighed.
+// The right side of the test minus the leftOf, as a signed number, of a policy that is weighed.
 pub fn margin_of(policy: Policy, m: u16, block: &[u32; Columns::ROOM], n: usize) -> i64
     requires { ⌜ Loads (now block) n × (1 ≤ m) × (m ≤ mostProcessors) × (isWeighed policy ≡ true) ⌝ }
     ensures { λ r. ⌜ r ≡ marginOf policy m (loadIn (now (block .entry))) n ⌝ }

@@ -5,7 +5,7 @@ use Rattle.ground.specs.Choice.{pick}
 use Rattle.ground.specs.Folds.{sumTo}
 use Rattle.ground.proofs.Cases.{by-eq}
 use Rattle.ground.proofs.Folds.{sum-most, sum-line}
-use Rattle.proposal.specs.Loads.{loadOn, InRange}
+use Rattle.proposal.specs.Loads.{processorLoad, InRange}
 
 -- one number at place p, counted from 1, and zeros elsewhere
 only : ℕ → ℕ → ℕ → ℕ
@@ -32,13 +32,13 @@ sum-only p x (suc m) =
 
 -- Ask 7: "the loads handed back add up to the sum of the shares", over any loads
 pub loads-add-up : (load place : ℕ → ℕ) (m n : ℕ) → ((i : ℕ) → i < n → InRange m (place i))
-    → sumTo (λ j. loadOn load place n (j + 1)) m ≡ sumTo load n
-unfolding loadOn sumTo only
+    → sumTo (λ j. processorLoad load place n (j + 1)) m ≡ sumTo load n
+unfolding processorLoad sumTo only
 loads-add-up load place m zero h = omega (arith, sum-most (λ j. 0) m 0 (λ j l. omega arith))
 loads-add-up load place m (suc n) h =
     let range = h n (omega arith) in
     let others = loads-add-up load place m n (λ i l. h i (omega arith)) in
     let one : sumTo (only (place n) (load n)) m ≡ load n = sum-only (place n) (load n) m .1 (range .some) (range .most) in
     let both =
-    sum-line (λ j. loadOn load place (suc n) (j + 1)) (λ j. loadOn load place n (j + 1)) (only (place n) (load n)) 1 m (λ j l. omega arith) in
+    sum-line (λ j. processorLoad load place (suc n) (j + 1)) (λ j. processorLoad load place n (j + 1)) (only (place n) (load n)) 1 m (λ j l. omega arith) in
     omega (arith, both, others, one)

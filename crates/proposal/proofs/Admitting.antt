@@ -15,7 +15,7 @@ use Rattle.policy.proofs.Weighing.{loaded-loads}
 use Rattle.admission.specs.Admission.{andThen, missetNumbers, gate, roomy, recordsGood}
 use Rattle.admission.proofs.Chain.{Few, unchecked, then-admitted, gate-opens, numbers-set, set-few, roomy-passed}
 use Rattle.proposal.specs.Proposal.{gateOf, admission}
-use Rattle.proposal.specs.Handover.{LoadsHeld}
+use Rattle.proposal.specs.Handover.{LoadsOf}
 
 -- what 2, 3 and 5 have checked
 pub record Passed (s : Settings) (n proposed room : ℕ) : Type 0 where
@@ -58,7 +58,7 @@ module _ (s : Settings) (rows : List Task) (n proposed room : ℕ) (ready : Read
       let on = all-on (s .swap) (s .notch) rows n (ready .none-bad) (ready .passed .notched) in
       sprung-chargeable (rowsUnder s rows n) n block sprung (ready .passed .few .few) good (s .notch) on
 
-  pub loads-held : (k : ℕ) (new : List ℕ) → Loaded (loadsOn s (springIn block) k) n block new → LoadsHeld s rows n k new
+  pub loads-held : (k : ℕ) (new : List ℕ) → Loaded (loadsOn s (springIn block) k) n block new → LoadsOf s rows n k new
   loads-held k new w =
       record {
         m-most = ready .passed .few .m-most;

@@ -23,16 +23,16 @@ use Rattle.policy.specs.Under.{loadsUnder}
 use Rattle.policy.proofs.Under.{loads-same}
 use Rattle.admission.specs.Admission.{missetNumbers, gate}
 use Rattle.admission.proofs.Chain.{gate-opens, then-admitted}
-use Rattle.proposal.specs.Loads.{loadOn, loadsTo, isOutOfRange, firstOutOfRange, isOverfull, beforeOverfull, Sound}
-use Rattle.proposal.specs.Proposal.{placeIn, gateOf, admission, placing, judged, Outcome, outcome, Meets}
-use Rattle.proposal.specs.Handover.{LoadsHeld, Loadable}
+use Rattle.proposal.specs.Loads.{processorLoad, loadsTo, isOutOfRange, firstOutOfRange, isOverfull, beforeOverfull, Sound}
+use Rattle.proposal.specs.Proposal.{placeIn, gateOf, admission, placing, proposalVerdict, Outcome, outcome, Meets}
+use Rattle.proposal.specs.Handover.{LoadsOf, Loadable}
 use Rattle.proposal.proofs.Loading.{load-same}
 use Rattle.proposal.proofs.Adding.{loads-add-up}
 use Rattle.proposal.proofs.Judging.{placing-out-of-range, placing-overfull, placing-well, placing-refused, all-in-range, placed-sound, sound-placed}
 use Rattle.proposal.proofs.Admitting.{gate-passed}
 
 -- a proposal with an entry for each task, none of them out of range, may be loaded
-pub may-load : (s : Settings) (rows : List Task) (n k : ℕ) (block proposal : List ℕ) → LoadsHeld s rows n k block → n ≤ length proposal
+pub may-load : (s : Settings) (rows : List Task) (n k : ℕ) (block proposal : List ℕ) → LoadsOf s rows n k block → n ≤ length proposal
     → n ≤ firstOutOfRange (s .m) (placeIn proposal) n → Loadable block n proposal
 may-load s rows n k block proposal w long h =
     record {
@@ -56,26 +56,26 @@ module _ (s : Settings) (rows : List Task) (n k : ℕ) (proposal old : List ℕ)
   place = placeIn proposal
 
   -- the two kinds of outcome
-  meets-refused : (r : Refusal) → judged s rows n k proposal (length old) ≡ Refused r → Meets (outcome s rows n k proposal old) (Refused r) old
+  meets-refused : (r : Refusal) → proposalVerdict s rows n k proposal (length old) ≡ Refused r → Meets (outcome s rows n k proposal old) (Refused r) old
   unfolding outcome
   meets-refused r e = record { answers = rw e; leaves = rw (e, ne-eqb (numberOf r) 0 (apart r)) }
 
-  pub meets-accepted : judged s rows n k proposal (length old) ≡ Accepted → (new : List ℕ)
+  pub meets-accepted : proposalVerdict s rows n k proposal (length old) ≡ Accepted → (new : List ℕ)
       → new ≡ loadsTo (loadsUnder s rows n k) (placeIn proposal) n (s .m) ++ drop (s .m) old → Meets (outcome s rows n k proposal old) Accepted new
   unfolding outcome
   meets-accepted e new w = record { answers = rw e; leaves = rw e w }
 
   -- a refusal before the proposal is looked at is the answer; where there is none, the placing is
-  refused-first : (r : Refusal) → admission s rows n (length proposal) (length old) ≡ Refused r → judged s rows n k proposal (length old) ≡ Refused r
-  unfolding judged
+  refused-first : (r : Refusal) → admission s rows n (length proposal) (length old) ≡ Refused r → proposalVerdict s rows n k proposal (length old) ≡ Refused r
+  unfolding proposalVerdict
   refused-first r e = rw e
 
   pub refused-meets : (a : Verdict) → a ≡ admission s rows n (length proposal) (length old) → (r : Refusal) → a ≡ Refused r
       → Meets (outcome s rows n k proposal old) a old
   refused-meets a is r e = subst (λ (v : Verdict). Meets (outcome s rows n k proposal old) v old) (sym e) (meets-refused r (refused-first r (sym is ∙ e)))
 
-  admitted-first : admission s rows n (length proposal) (length old) ≡ Accepted → judged s rows n k proposal (length old) ≡ placing load place n (s .m)
-  unfolding judged
+  admitted-first : admission s rows n (length proposal) (length old) ≡ Accepted → proposalVerdict s rows n k proposal (length old) ≡ placing load place n (s .m)
+  unfolding proposalVerdict
   admitted-first e = rw e
 
   -- the three returns of an admitted call
@@ -99,16 +99,16 @@ module _ (s : Settings) (rows : List Task) (n k : ℕ) (proposal old : List ℕ)
       well-meets h new w = meets-accepted (admitted-first e ∙ placing-well load place n (s .m) each h) new w
 
   -- Ask 7: "accept exactly those proposals where each processor is from 1 to m and each load is at most S", once refusals 2 to 6 are past
-  judged-sound : judged s rows n k proposal (length old) ≡ Accepted
+  judged-sound : proposalVerdict s rows n k proposal (length old) ≡ Accepted
       → (admission s rows n (length proposal) (length old) ≡ Accepted) × Sound load place n (s .m)
-  unfolding judged
+  unfolding proposalVerdict
   judged-sound e = let a = then-admitted _ _ e in (a .0, placed-sound load place n (s .m) (a .1))
 
   pub sound-judged : admission s rows n (length proposal) (length old) ≡ Accepted → Sound (loadsUnder s rows n k) (placeIn proposal) n (s .m)
-      → judged s rows n k proposal (length old) ≡ Accepted
+      → proposalVerdict s rows n k proposal (length old) ≡ Accepted
   sound-judged a w = admitted-first a ∙ sound-placed load place n (s .m) w
 
-  handed-judged : outcome s rows n k proposal old .handed ≡ accepted tt → judged s rows n k proposal (length old) ≡ Accepted
+  handed-judged : outcome s rows n k proposal old .handed ≡ accepted tt → proposalVerdict s rows n k proposal (length old) ≡ Accepted
   unfolding outcome
   handed-judged e = verdict-one _ Accepted e
 
@@ -127,7 +127,7 @@ module _ (s : Settings) (rows : List Task) (n k : ℕ) (proposal old : List ℕ)
   unfolding outcome loadsTo
   accepted-adds-up h =
       let e = handed-judged h in
-      let on : ℕ → ℕ = λ j. loadOn load place n (j + 1) in
+      let on : ℕ → ℕ = λ j. processorLoad load place n (j + 1) in
       rw e
       (sum-cong (λ j. getD (listTo on (s .m) ++ drop (s .m) old) j 0) on (s .m) (λ j l. list-at 0 on (s .m) j (drop (s .m) old) l)
       ∙ loads-add-up load place (s .m) n (judged-sound e .1 .each))
@@ -157,7 +157,7 @@ no-second-answer o v w ls ls′ x y = (verdict-one v w (x .answers ∙ sym (y .a
 -- tables that agree on the first n records are answered alike; where n is too large, any two are
 module _ (s : Settings) (xs ys : List Task) (n k : ℕ) (proposal old : List ℕ) where
   pub outcome-same : (n ≤ mostTasks → (i : ℕ) → i < n → at xs i ≡ at ys i) → outcome s xs n k proposal old ≡ outcome s ys n k proposal old
-  unfolding outcome judged admission
+  unfolding outcome proposalVerdict admission
   outcome-same same = by (gateOf s n (length proposal) (length old)) refl
     where
       by : (g : Verdict) → gateOf s n (length proposal) (length old) ≡ g → outcome s xs n k proposal old ≡ outcome s ys n k proposal old
@@ -169,11 +169,11 @@ module _ (s : Settings) (xs ys : List Task) (n k : ℕ) (proposal old : List ℕ
 -- proposals that both have n entries, and agree on those, are answered alike, and so are any two that have fewer
 module _ (s : Settings) (rows : List Task) (n k : ℕ) (p q old : List ℕ) where
   refused-alike : (r : Refusal) → gate (missetNumbers s) n ≡ Refused r → outcome s rows n k p old ≡ outcome s rows n k q old
-  unfolding outcome judged admission
+  unfolding outcome proposalVerdict admission
   refused-alike r e = rw (e, ne-eqb (numberOf r) 0 (apart r))
 
   short-alike : gate (missetNumbers s) n ≡ Accepted → length p < n → length q < n → outcome s rows n k p old ≡ outcome s rows n k q old
-  unfolding outcome judged admission
+  unfolding outcome proposalVerdict admission
   short-alike e h g = rw (e, lt-ltb (length p) n h, lt-ltb (length q) n g)
 
   pub outcome-short : (n ≤ mostTasks → length p < n) → (n ≤ mostTasks → length q < n) → outcome s rows n k p old ≡ outcome s rows n k q old
@@ -191,22 +191,22 @@ module _ (s : Settings) (rows : List Task) (n k : ℕ) (p q old : List ℕ) wher
         (λ i l. ap (isOutOfRange (s .m)) (same i l))
 
     module _ (load : ℕ → ℕ) where
-      load-alike : (j : ℕ) → loadOn load (placeIn p) n (j + 1) ≡ loadOn load (placeIn q) n (j + 1)
+      load-alike : (j : ℕ) → processorLoad load (placeIn p) n (j + 1) ≡ processorLoad load (placeIn q) n (j + 1)
       load-alike j = load-same load load (placeIn p) (placeIn q) n (j + 1) (λ i l. refl) same
 
       overfull-alike : beforeOverfull load (placeIn p) n (s .m) ≡ beforeOverfull load (placeIn q) n (s .m)
       unfolding beforeOverfull
       overfull-alike =
-          first-cong (λ j. isOverfull (loadOn load (placeIn p) n (j + 1))) (λ j. isOverfull (loadOn load (placeIn q) n (j + 1))) (s .m)
+          first-cong (λ j. isOverfull (processorLoad load (placeIn p) n (j + 1))) (λ j. isOverfull (processorLoad load (placeIn q) n (j + 1))) (s .m)
           (λ j l. ap isOverfull (load-alike j))
 
       loads-alike : loadsTo load (placeIn p) n (s .m) ≡ loadsTo load (placeIn q) n (s .m)
       unfolding loadsTo
       loads-alike =
-          list-cong (λ j. loadOn load (placeIn p) n (j + 1)) (λ j. loadOn load (placeIn q) n (j + 1)) (s .m) (λ j l. load-alike j)
+          list-cong (λ j. processorLoad load (placeIn p) n (j + 1)) (λ j. processorLoad load (placeIn q) n (j + 1)) (s .m) (λ j l. load-alike j)
 
     pub outcome-entries : n ≤ length p → n ≤ length q → outcome s rows n k p old ≡ outcome s rows n k q old
-    unfolding outcome judged admission placing
+    unfolding outcome proposalVerdict admission placing
     outcome-entries h g =
         let load = loadsUnder s rows n k in
         rw (le-ltb (length p) n h, le-ltb (length q) n g, range-alike, overfull-alike load, loads-alike load)

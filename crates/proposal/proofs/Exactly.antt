@@ -13,13 +13,13 @@ use Rattle.policy.specs.Under.{loadsUnder}
 use Rattle.admission.specs.Admission.{andThen, missetNumbers, gate}
 use Rattle.admission.proofs.Exactly.{then-first}
 use Rattle.proposal.specs.Loads.{firstOutOfRange, beforeOverfull}
-use Rattle.proposal.specs.Proposal.{placeIn, admission, placing, judged, outcome}
+use Rattle.proposal.specs.Proposal.{placeIn, admission, placing, proposalVerdict, outcome}
 use Rattle.proposal.specs.Chain.{proposalChain}
 
 module _ (s : Settings) (rows : List Task) (n k : ℕ) (proposal : List ℕ) where
   -- every check of a proposal is in its chain
-  judged-chain : (room : ℕ) → judged s rows n k proposal room ≡ firstOf (proposalChain s rows n k proposal room)
-  unfolding judged admission placing gate firstBy
+  judged-chain : (room : ℕ) → proposalVerdict s rows n k proposal room ≡ firstOf (proposalChain s rows n k proposal room)
+  unfolding proposalVerdict admission placing gate firstBy
   judged-chain room =
       let bad = firstBad (s .swap) (s .notch) rows n in
       let task = firstOutOfRange (s .m) (placeIn proposal) n in
@@ -38,7 +38,7 @@ module _ (s : Settings) (rows : List Task) (n k : ℕ) (proposal : List ℕ) whe
   pub proposal-exactly : (old : List ℕ) → Exactly (proposalChain s rows n k proposal (length old)) tt tt (outcome s rows n k proposal old .handed)
   unfolding outcome
   proposal-exactly old =
-      verdict-exactly (proposalChain s rows n k proposal (length old)) (judged s rows n k proposal (length old)) (judged-chain (length old))
+      verdict-exactly (proposalChain s rows n k proposal (length old)) (proposalVerdict s rows n k proposal (length old)) (judged-chain (length old))
 
   -- its numbers, in their order
   pub proposal-numbers : (room : ℕ) → numbersGiven (proposalChain s rows n k proposal room) ≡ 2 ∷ 3 ∷ 5 ∷ 5 ∷ 6 ∷ 13 ∷ 14 ∷ []

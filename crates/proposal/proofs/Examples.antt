@@ -12,8 +12,8 @@ use Rattle.kinds.specs.Task.{task, isWithin, isGood}
 use Rattle.share.specs.Share.{shareAt, periodAt, chargeAt, loadAt}
 use Rattle.share.specs.Table.{firstBad, pricedRows}
 use Rattle.admission.specs.Admission.{gate}
-use Rattle.proposal.specs.Loads.{loadOn, loadsTo, firstOutOfRange, beforeOverfull}
-use Rattle.proposal.specs.Proposal.{admission, placing, judged, Outcome, outcome}
+use Rattle.proposal.specs.Loads.{processorLoad, loadsTo, firstOutOfRange, beforeOverfull}
+use Rattle.proposal.specs.Proposal.{admission, placing, proposalVerdict, Outcome, outcome}
 
 rows : List Task
 rows =
@@ -39,6 +39,6 @@ worked :
     × (asked 1 5 (1 ∷ 2 ∷ 2 ∷ 3 ∷ 2 ∷ 2 ∷ 3 ∷ []) ≡ record { handed = refused tt (ProcessorOverfull 2); loads = lent })
     × (asked 1 5 (1 ∷ 2 ∷ 2 ∷ 3 ∷ 1 ∷ 2 ∷ []) ≡ record { handed = refused tt (OutputTooShort 7); loads = lent })
 unfolding
-    asked rows lent outcome judged admission gate firstBad isGood isWithin placing loadOn loadsTo firstOutOfRange beforeOverfull firstBelow
+    asked rows lent outcome proposalVerdict admission gate firstBad isGood isWithin placing processorLoad loadsTo firstOutOfRange beforeOverfull firstBelow
     firstFrom sumTo listTo shareAt periodAt chargeAt loadAt pricedRows
 worked = (refl, refl, refl, refl, refl, refl)

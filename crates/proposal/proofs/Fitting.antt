@@ -12,7 +12,7 @@ use Rattle.kinds.specs.Limits.{scale, mostProcessors}
 use Rattle.fit.specs.Fit.{loadsAfter, placeAt, fits, placesTo}
 use Rattle.fit.proofs.Placing.{fits-placed, after-long, after-more, each-load-most}
 use Rattle.policy.specs.Under.{loadsUnder}
-use Rattle.proposal.specs.Loads.{loadOn, loadsTo, InRange, Sound}
+use Rattle.proposal.specs.Loads.{processorLoad, loadsTo, InRange, Sound}
 use Rattle.proposal.specs.Proposal.{placeIn, admission, outcome, Meets}
 use Rattle.proposal.proofs.Loading.{load-same, put-here, put-elsewhere}
 use Rattle.proposal.proofs.Admitting.{admitted}
@@ -21,8 +21,8 @@ use Rattle.proposal.proofs.Calls.{sound-judged, meets-accepted}
 module _ (m : ℕ) (load : ℕ → ℕ) (few : m ≤ mostProcessors) where
   -- the loads that first fit counts are those of its places
   counted : (i : ℕ) → ((x : ℕ) → x < i → placeAt m load x < m) → (j : ℕ) → j < m
-      → loadOn load (λ x. placeAt m load x + 1) i (j + 1) ≡ getD (loadsAfter m load i) j 0
-  unfolding loadOn sumTo loadsAfter
+      → processorLoad load (λ x. placeAt m load x + 1) i (j + 1) ≡ getD (loadsAfter m load i) j 0
+  unfolding processorLoad sumTo loadsAfter
   counted zero h j l = sym (getD-replicate {A = ℕ} mostProcessors j 0 0 (omega arith))
   counted (suc i) h j l =
       let p = placeAt m load i in
@@ -50,7 +50,7 @@ module _ (m : ℕ) (load : ℕ → ℕ) (few : m ≤ mostProcessors) where
 
   module _ (n : ℕ) (all : fits m load n ≡ true) (place : ℕ → ℕ) (is : (i : ℕ) → i < n → place i ≡ placeAt m load i + 1) where
     -- the load of each processor is the one that first fit counts
-    first-fit-load : (j : ℕ) → j < m → loadOn load place n (j + 1) ≡ getD (loadsAfter m load n) j 0
+    first-fit-load : (j : ℕ) → j < m → processorLoad load place n (j + 1) ≡ getD (loadsAfter m load n) j 0
     first-fit-load j l =
         load-same load load place (λ x. placeAt m load x + 1) n (j + 1) (λ i g. refl) is ∙ counted n (fits-placed m load n all) j l
 
@@ -61,17 +61,17 @@ module _ (m : ℕ) (load : ℕ → ℕ) (few : m ≤ mostProcessors) where
           most = most;
         }
       where
-        most : (p : ℕ) → InRange m p → loadOn load place n p ≤ scale
+        most : (p : ℕ) → InRange m p → processorLoad load place n p ≤ scale
         most zero w = absurd (omega (arith, w .some))
         most (suc j) w =
             let e : j + 1 ≡ suc j = omega arith in
             let l : j < m = omega (arith, w .most) in
-            let b : loadOn load place n (j + 1) ≤ scale = rw (first-fit-load j l) (each-load-most m load n few all j l) in
+            let b : processorLoad load place n (j + 1) ≤ scale = rw (first-fit-load j l) (each-load-most m load n few all j l) in
             rw e at b
 
     pub first-fit-loads : loadsTo load place n m ≡ listTo (λ j. getD (loadsAfter m load n) j 0) m
     unfolding loadsTo
-    first-fit-loads = list-cong (λ j. loadOn load place n (j + 1)) (λ j. getD (loadsAfter m load n) j 0) m first-fit-load
+    first-fit-loads = list-cong (λ j. processorLoad load place n (j + 1)) (λ j. getD (loadsAfter m load n) j 0) m first-fit-load
 
 -- what first fit places at a step is accepted, with the loads that first fit counts, whatever stands past the n places
 module _ (s : Settings) (rows : List Task) (n k : ℕ) (rest old : List ℕ) (all : fits (s .m) (loadsUnder s rows n k) n ≡ true) where

@@ -12,7 +12,7 @@ use Rattle.kinds.specs.Answer.{check, handedVerdict}
 use Rattle.kinds.specs.Refusal.{numberOf}
 use Rattle.kinds.proofs.Answers.{not-refused}
 use Rattle.admission.proofs.Chain.{unchecked}
-use Rattle.proposal.specs.Loads.{loadOn, isOutOfRange, firstOutOfRange, isOverfull, beforeOverfull, InRange, Sound}
+use Rattle.proposal.specs.Loads.{processorLoad, isOutOfRange, firstOutOfRange, isOverfull, beforeOverfull, InRange, Sound}
 use Rattle.proposal.specs.Proposal.{placing}
 use Rattle.proposal.proofs.Loading.{in-range, range-in}
 
@@ -30,9 +30,9 @@ either-of false false a b r e = not-refused {A = Unit {0}} tt tt r (ap handedVer
 
 module _ (load place : ℕ → ℕ) (n m : ℕ) where
   -- "14 the lowest overfull processor": it is, and none below it
-  pub lowest-overfull : IsFirst (λ j. isOverfull (loadOn load place n (j + 1))) m (beforeOverfull load place n m)
+  pub lowest-overfull : IsFirst (λ j. isOverfull (processorLoad load place n (j + 1))) m (beforeOverfull load place n m)
   unfolding beforeOverfull
-  lowest-overfull = first-is (λ j. isOverfull (loadOn load place n (j + 1))) m
+  lowest-overfull = first-is (λ j. isOverfull (processorLoad load place n (j + 1))) m
 
   -- the three answers
   pub placing-out-of-range : firstOutOfRange m place n < n → placing load place n m ≡ Refused (ProcessorOutOfRange (firstOutOfRange m place n))
@@ -72,7 +72,7 @@ module _ (load place : ℕ → ℕ) (n m : ℕ) where
         most =
             λ p w.
             let q : p - 1 + 1 ≡ p = omega (arith, w .some) in
-            let f : loadOn load place n (p - 1 + 1) ≤ scale = ltb-false _ _ (lowest-overfull .before (p - 1) (omega (arith, w .some, w .most))) in
+            let f : processorLoad load place n (p - 1 + 1) ≤ scale = ltb-false _ _ (lowest-overfull .before (p - 1) (omega (arith, w .some, w .most))) in
             rw q at f;
       }
 
@@ -83,6 +83,6 @@ module _ (load place : ℕ → ℕ) (n m : ℕ) where
       (omega (arith, first-none (λ i. isOutOfRange m (place i)) n n (λ i l. range-in m (place i) (s .each i l)) refl))
       (omega (
         arith,
-        first-none (λ j. isOverfull (loadOn load place n (j + 1))) m m
+        first-none (λ j. isOverfull (processorLoad load place n (j + 1))) m m
             (λ j l. le-ltb scale _ (s .most (j + 1) (record { some = omega arith; most = omega arith }))) refl,
       ))

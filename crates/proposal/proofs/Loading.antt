@@ -9,7 +9,7 @@ use Rattle.ground.proofs.First.{first-cong}
 use Rattle.ground.proofs.Folds.{sum-none, sum-more, sum-cong}
 use Rattle.ground.proofs.Buffer.{list-cong}
 use Rattle.kinds.specs.Limits.{scale, mostProcessors}
-use Rattle.proposal.specs.Loads.{putOn, loadOn, loadsTo, isOutOfRange, isOverfull, beforeOverfull, InRange}
+use Rattle.proposal.specs.Loads.{putOn, processorLoad, loadsTo, isOutOfRange, isOverfull, beforeOverfull, InRange}
 use Rattle.proposal.specs.Handover.{LoadsAre}
 
 -- what a task puts on its own processor, and on another
@@ -22,18 +22,18 @@ module _ (load place : ℕ → ℕ) (p i : ℕ) where
 
 -- the load of a processor without tasks, and with one task more
 module _ (load place : ℕ → ℕ) (p : ℕ) where
-  load-none : loadOn load place 0 p ≡ 0
-  unfolding loadOn
+  load-none : processorLoad load place 0 p ≡ 0
+  unfolding processorLoad
   load-none = sum-none (putOn load place p)
 
-  load-more : (i : ℕ) → loadOn load place (i + 1) p ≡ loadOn load place i p + putOn load place p i
-  unfolding loadOn
+  load-more : (i : ℕ) → processorLoad load place (i + 1) p ≡ processorLoad load place i p + putOn load place p i
+  unfolding processorLoad
   load-more i = sum-more (putOn load place p) i
 
 -- the load of a processor looks at the first n tasks only
 pub load-same : (f g place place′ : ℕ → ℕ) (n p : ℕ) → ((i : ℕ) → i < n → f i ≡ g i) → ((i : ℕ) → i < n → place i ≡ place′ i)
-    → loadOn f place n p ≡ loadOn g place′ n p
-unfolding loadOn
+    → processorLoad f place n p ≡ processorLoad g place′ n p
+unfolding processorLoad
 load-same f g place place′ n p e q =
     sum-cong (putOn f place p) (putOn g place′ p) n
     (λ i l.
@@ -102,14 +102,14 @@ module _ (m p : ℕ) where
 -- what was worked out of a block for every processor that there can be is what counts for the first m
 module _ (f load place : ℕ → ℕ) (n m : ℕ) (held : List ℕ) (w : LoadsAre f place n held) (same : (i : ℕ) → i < n → f i ≡ load i)
     (few : m ≤ mostProcessors) where
-  held-are : (j : ℕ) → j < m → getD held j 0 ≡ loadOn load place n (j + 1)
+  held-are : (j : ℕ) → j < m → getD held j 0 ≡ processorLoad load place n (j + 1)
   held-are j l = w .are j (omega arith) ∙ load-same f load place place n (j + 1) same (λ i g. refl)
 
   pub overfull-is : firstBelow (λ j. isOverfull (getD held j 0)) m ≡ beforeOverfull load place n m
   unfolding beforeOverfull
   overfull-is =
-      first-cong (λ j. isOverfull (getD held j 0)) (λ j. isOverfull (loadOn load place n (j + 1))) m (λ j l. ap isOverfull (held-are j l))
+      first-cong (λ j. isOverfull (getD held j 0)) (λ j. isOverfull (processorLoad load place n (j + 1))) m (λ j l. ap isOverfull (held-are j l))
 
   pub front-is : listTo (λ j. getD held j 0) m ≡ loadsTo load place n m
   unfolding loadsTo
-  front-is = list-cong (λ j. getD held j 0) (λ j. loadOn load place n (j + 1)) m held-are
+  front-is = list-cong (λ j. getD held j 0) (λ j. processorLoad load place n (j + 1)) m held-are

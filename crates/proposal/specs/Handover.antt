@@ -13,11 +13,11 @@ use Rattle.springs.specs.Handover.{Roomy}
 use Rattle.fit.specs.Fit.{loadIn}
 use Rattle.fit.specs.Handover.{Loads}
 use Rattle.policy.specs.Under.{loadsUnder}
-use Rattle.proposal.specs.Loads.{loadOn, InRange}
+use Rattle.proposal.specs.Loads.{processorLoad, InRange}
 use Rattle.proposal.specs.Proposal.{placeIn, admission}
 
 -- what the admission has checked of the counts, and a block that has the loads of the tasks at step k first
-pub record LoadsHeld (s : Settings) (rows : List Task) (n k : ℕ) (block : List ℕ) : Type 0 where
+pub record LoadsOf (s : Settings) (rows : List Task) (n k : ℕ) (block : List ℕ) : Type 0 where
   pub m-most : s .m ≤ mostProcessors
   pub long : Roomy block
   pub light : Loads block n
@@ -26,7 +26,7 @@ pub record LoadsHeld (s : Settings) (rows : List Task) (n k : ℕ) (block : List
 -- the admission, and where it admits the loads of the tasks
 pub record AdmittedLoaded (s : Settings) (rows : List Task) (n k proposed room : ℕ) (a : Verdict) (block : List ℕ) : Type 0 where
   pub is : a ≡ admission s rows n proposed room
-  pub loads : a ≡ Accepted → LoadsHeld s rows n k block
+  pub loads : a ≡ Accepted → LoadsOf s rows n k block
 
 -- what the loading relies on: loads of n tasks, and for each of them a processor that there can be
 pub record Loadable (block : List ℕ) (n : ℕ) (proposal : List ℕ) : Type 0 where
@@ -37,4 +37,4 @@ pub record Loadable (block : List ℕ) (n : ℕ) (proposal : List ℕ) : Type 0 
 -- the load of each processor that there can be
 pub record LoadsAre (load place : ℕ → ℕ) (n : ℕ) (held : List ℕ) : Type 0 where
   pub long : length held ≡ mostProcessors
-  pub are : (j : ℕ) → j < mostProcessors → getD held j 0 ≡ loadOn load place n (j + 1)
+  pub are : (j : ℕ) → j < mostProcessors → getD held j 0 ≡ processorLoad load place n (j + 1)

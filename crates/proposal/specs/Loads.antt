@@ -14,12 +14,12 @@ abbrev pub putOn : (ℕ → ℕ) → (ℕ → ℕ) → ℕ → ℕ → ℕ
 putOn load place p i = pick (eqb (place i) p) (load i) 0
 
 -- the load of processor p: of the first n tasks, those proposed for it
-unfoldable pub loadOn : (ℕ → ℕ) → (ℕ → ℕ) → ℕ → ℕ → ℕ
-loadOn load place n p = sumTo (putOn load place p) n
+unfoldable pub processorLoad : (ℕ → ℕ) → (ℕ → ℕ) → ℕ → ℕ → ℕ
+processorLoad load place n p = sumTo (putOn load place p) n
 
 -- the loads of processors 1 to m
 unfoldable pub loadsTo : (ℕ → ℕ) → (ℕ → ℕ) → ℕ → ℕ → List ℕ
-loadsTo load place n m = listTo (λ j. loadOn load place n (j + 1)) m
+loadsTo load place n m = listTo (λ j. processorLoad load place n (j + 1)) m
 
 -- a processor that is not 1 to m
 abbrev pub isOutOfRange : ℕ → ℕ → Bool
@@ -35,7 +35,7 @@ isOverfull load = ltb scale load
 
 -- how many processors come before the lowest overfull one; m where none is overfull
 unfoldable pub beforeOverfull : (ℕ → ℕ) → (ℕ → ℕ) → ℕ → ℕ → ℕ
-beforeOverfull load place n m = firstBelow (λ j. isOverfull (loadOn load place n (j + 1))) m
+beforeOverfull load place n m = firstBelow (λ j. isOverfull (processorLoad load place n (j + 1))) m
 
 -- a processor from 1 to m
 pub record InRange (m p : ℕ) : Type 0 where
@@ -45,4 +45,4 @@ pub record InRange (m p : ℕ) : Type 0 where
 -- Ask 7: "each processor is from 1 to m and each load is at most S"
 pub record Sound (load place : ℕ → ℕ) (n m : ℕ) : Type 0 where
   pub each : (i : ℕ) → i < n → InRange m (place i)
-  pub most : (p : ℕ) → InRange m p → loadOn load place n p ≤ scale
+  pub most : (p : ℕ) → InRange m p → processorLoad load place n p ≤ scale

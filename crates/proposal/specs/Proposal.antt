@@ -36,8 +36,8 @@ placing load place n m =
     Accepted)
 
 -- every check of a proposal at step k, with so much room for the loads
-unfoldable pub judged : Settings → List Task → ℕ → ℕ → List ℕ → ℕ → Verdict
-judged s rows n k proposal room =
+unfoldable pub proposalVerdict : Settings → List Task → ℕ → ℕ → List ℕ → ℕ → Verdict
+proposalVerdict s rows n k proposal room =
     andThen (admission s rows n (length proposal) room) (placing (loadsUnder s rows n k) (placeIn proposal) n (s .m))
 
 -- number and place, and the lent output as the call leaves it
@@ -48,7 +48,7 @@ pub record Outcome : Type 0 where
 -- the checker's call: an accepted one writes the m loads
 unfoldable pub outcome : Settings → List Task → ℕ → ℕ → List ℕ → List ℕ → Outcome
 outcome s rows n k proposal old =
-    let h = handedVerdict (judged s rows n k proposal (length old)) in
+    let h = handedVerdict (proposalVerdict s rows n k proposal (length old)) in
     record { handed = h; loads = after h (loadsTo (loadsUnder s rows n k) (placeIn proposal) n (s .m)) (s .m) old }
 
 -- a verdict and the output at exit are those of the outcome

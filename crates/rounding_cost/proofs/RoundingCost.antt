@@ -1,5 +1,5 @@
--- Ask 13, said of a call's answer under policy 1, under both editions, with any swap cost and any notch: an accepted plan's exact sum of cost over period is at
--- most m, and where the exact sum of cost over Tmin spares one part for each task the call is accepted at step 0; a part less is enough.
+-- Ask 13, said of a call's answer under policy 1, under both editions, with any swap cost and any notch: an accepted plan's exact sum of cost outOf period is at
+-- most m, and where the exact sum of cost outOf Tmin spares one part for each task the call is accepted at step 0; a part less is enough.
 -- Assumes nothing.
 use Rattle.ground.proofs.Kit.{ℕ, _+_, _-_, _*_, _≤_, _<_, min, Bool, true, List, _≡_, sym, _∙_, ap, subst, le-trans, mul-le-mul-right, arith, length, getD}
 use Rattle.ground.proofs.Kit.{le-leb, leb-true}
@@ -30,7 +30,7 @@ use Rattle.admission.specs.Admission.{admission}
 use Rattle.admission.proofs.Chain.{Ready, admitted}
 use Rattle.outcome.specs.Plan.{found, outcome, Meets}
 use Rattle.outcome.proofs.Found.{accepting, admitted-found}
-use Rattle.rounding_cost.specs.Exact.{Fraction, over}
+use Rattle.rounding_cost.specs.Exact.{Fraction, outOf}
 use Rattle.rounding_cost.specs.RoundingCost.{costUnder, costOverPeriod, costOverTmin, withinProcessors, sparesParts, sparesFewerParts}
 use Rattle.rounding_cost.proofs.Sums.{bottom-some, sum-covers, sum-within}
 use Rattle.rounding_cost.proofs.Loads.{load-covers, load-near}
@@ -69,7 +69,7 @@ module _ (serves : Bool) (s : Settings) (rows : List Task) (n : ℕ) (pooled : m
         let on = all-on (s .swap) (s .notch) rows n (ready .none-bad) (ready .notched) i l in
         omega (arith, good .c-some, good .c-tmin, shortest-on (at (rowsUnder s rows n) i) good (s .notch) on k .low)
 
-  -- "an accepted plan's exact sum of cost over period is at most m", and its bottom is not 0
+  -- "an accepted plan's exact sum of cost outOf period is at most m", and its bottom is not 0
   pub plan-within : (k : ℕ) (oldPeriods oldProcessors periods processors : List ℕ)
       → Meets (outcome serves s rows n oldPeriods oldProcessors) (Accepted k) periods processors
       → (withinProcessors s rows n periods ≡ true) × (0 < costOverPeriod s rows n periods .bottom)
@@ -82,9 +82,9 @@ module _ (serves : Bool) (s : Settings) (rows : List Task) (n : ℕ) (pooled : m
       let grants = rw (← x .answers) at (x .grants) in
       let step = step-at (meant (s .policy)) (s .m) (loadsUnder s rows n) n (fullUnder s rows n) k (g .step) in
       let sum = pooled-sum (meant (s .policy)) (s .m) load n pooled (step .passes) in
-      let all = sum-covers scale (λ i. over (costUnder s rows i) (getD periods i 0)) load n
+      let all = sum-covers scale (λ i. outOf (costUnder s rows i) (getD periods i 0)) load n
       (λ i l. rw (grants, list-at 0 (λ j. periodAt (s .notch) (at paid j) k) n i _ l) (covers room (g .ready) i l k)) in
-      let some = bottom-some (λ i. over (costUnder s rows i) (getD periods i 0)) n
+      let some = bottom-some (λ i. outOf (costUnder s rows i) (getD periods i 0)) n
       (λ i l. rw (grants, list-at 0 (λ j. periodAt (s .notch) (at paid j) k) n i _ l) (period-some room (g .ready) i l k)) in
       let exact = costOverPeriod s rows n periods in
       let most : 1 * exact .top ≤ s .m * exact .bottom = omega (arith, all, mul-le-mul-right (exact .bottom) sum) in
@@ -97,7 +97,7 @@ module _ (serves : Bool) (s : Settings) (rows : List Task) (n : ℕ) (pooled : m
   fewer-parts-accepted room a spares =
       let ready = admitted serves s rows n room a in
       let load = loadsUnder s rows n 0 in
-      let tasks : ℕ → Fraction = λ i. over (costUnder s rows i) (at rows i .tmin) in
+      let tasks : ℕ → Fraction = λ i. outOf (costUnder s rows i) (at rows i .tmin) in
       let room-for-all : n ≤ s .m * scale = omega (arith, ready .passed .m-some, ready .passed .few) in
       let sum = sum-within scale tasks load n (s .m * scale) room-for-all (tmin-some room ready) (near room ready) (leb-true _ _ spares) in
       let passing = sum-pooled (meant (s .policy)) (s .m) load n pooled sum in
@@ -111,7 +111,7 @@ module _ (serves : Bool) (s : Settings) (rows : List Task) (n : ℕ) (pooled : m
       let less : s .m * scale - n ≤ s .m * scale - (n - 1) = omega arith in
       le-leb _ _ (le-trans (leb-true _ _ spares) (mul-le-mul-right (wanted .bottom) less))
 
-  -- "if the exact sum of cost over Tmin, times S, is at most m × S − n for n tasks, step 0 is accepted"
+  -- "if the exact sum of cost outOf Tmin, times S, is at most m × S − n for n tasks, step 0 is accepted"
   pub zero-accepted : (room : ℕ) → admission serves s rows n room ≡ verdict.Accepted → sparesParts s rows n ≡ true → found serves s rows n room ≡ accepted 0
   zero-accepted room a spares = fewer-parts-accepted room a (spares-fewer spares)
 

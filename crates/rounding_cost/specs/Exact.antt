@@ -8,16 +8,16 @@ pub record Fraction : Type 0 where
   pub top : ℕ
   pub bottom : ℕ
 
-abbrev pub over : ℕ → ℕ → Fraction
-over a b = record { top = a; bottom = b }
+abbrev pub outOf : ℕ → ℕ → Fraction
+outOf a b = record { top = a; bottom = b }
 
 -- a / b + c / d = (a · d + c · b) / (b · d)
 abbrev pub plus : Fraction → Fraction → Fraction
-plus x y = over (x .top * y .bottom + y .top * x .bottom) (x .bottom * y .bottom)
+plus x y = outOf (x .top * y .bottom + y .top * x .bottom) (x .bottom * y .bottom)
 
 -- the exact sum of n fractions, by number
 unfoldable pub exactSum : (ℕ → Fraction) → ℕ → Fraction
-exactSum f zero = over 0 1
+exactSum f zero = outOf 0 1
 exactSum f (suc n) = plus (exactSum f n) (f n)
 
 -- a times the fraction is at most b

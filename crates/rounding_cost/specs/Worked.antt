@@ -12,10 +12,10 @@ use Rattle.kinds.specs.Limits.{shareEdition, chargeEdition}
 use Rattle.kinds.specs.Settings.{settings}
 use Rattle.kinds.specs.Task.{task}
 use Rattle.outcome.specs.Plan.{found}
-use Rattle.rounding_cost.specs.Exact.{Fraction, over}
+use Rattle.rounding_cost.specs.Exact.{Fraction, outOf}
 use Rattle.rounding_cost.specs.RoundingCost.{costOverTmin, sparesParts, sparesFewerParts}
 
--- the exact sum of cost over Tmin, whether it spares a part for each task, whether for each but one, and the number that a call hands back
+-- the exact sum of cost outOf Tmin, whether it spares a part for each task, whether for each but one, and the number that a call hands back
 pub record Line : Type 0 where
   pub sum : Fraction
   pub spares : Bool
@@ -51,10 +51,10 @@ tables =
 
 unfoldable pub lines : List Line
 lines =
-    record { sum = over 27 27; spares = false; fewer = false; number = 7 } ∷
-    record { sum = over 999998000000 1000000000000; spares = true; fewer = true; number = 0 } ∷
-    record { sum = over 999999000000 1000000000000; spares = false; fewer = true; number = 0 } ∷
-    record { sum = over 999999002000000000 1000000000000000000; spares = false; fewer = false; number = 7 } ∷
+    record { sum = outOf 27 27; spares = false; fewer = false; number = 7 } ∷
+    record { sum = outOf 999998000000 1000000000000; spares = true; fewer = true; number = 0 } ∷
+    record { sum = outOf 999999000000 1000000000000; spares = false; fewer = true; number = 0 } ∷
+    record { sum = outOf 999999002000000000 1000000000000000000; spares = false; fewer = false; number = 7 } ∷
     []
 
 -- the claim, for both editions

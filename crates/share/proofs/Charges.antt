@@ -9,7 +9,7 @@ use Rattle.kinds.specs.Settings.{testsCharge}
 use Rattle.kinds.specs.Task.{Good, OnNotch}
 use Rattle.rule.proofs.Shares.{part-low, part-falls}
 use Rattle.rule.proofs.Periods.{charge-high}
-use Rattle.share.specs.Share.{costOf, shareAt, periodAt, chargeAt, loadAt}
+use Rattle.share.specs.Share.{shareAt, periodAt, chargeAt, loadAt}
 use Rattle.share.proofs.Tasks.{falls, at-zero, share-some, share-most, shortest-on, shortest-at-zero}
 
 module _ (t : Task) (g : Good t) (q : ℕ) (on : OnNotch q t) where
@@ -26,15 +26,15 @@ module _ (t : Task) (g : Good t) (q : ℕ) (on : OnNotch q t) where
   -- "A granted period is rounded up, so its task uses less than its share", or as much
   pub charge-share : (k : ℕ) → chargeAt q t k ≤ shareAt t k
   unfolding chargeAt periodAt
-  charge-share k = charge-high q (on .some) (costOf t) (t .tmin) (shareAt t k) (omega (arith, g .c-some, g .c-tmin)) (share-some t g k)
+  charge-share k = charge-high q (on .some) (t .c) (t .tmin) (shareAt t k) (omega (arith, g .c-some, g .c-tmin)) (share-some t g k)
 
   pub charge-some : (k : ℕ) → 1 ≤ chargeAt q t k
   unfolding chargeAt
-  charge-some k = part-low (costOf t) (periodAt q t k) 0 (period-some k) (omega (arith, g .c-some))
+  charge-some k = part-low (t .c) (periodAt q t k) 0 (period-some k) (omega (arith, g .c-some))
 
   pub charge-falls : (j k : ℕ) → j ≤ k → chargeAt q t k ≤ chargeAt q t j
   unfolding chargeAt
-  charge-falls j k h = part-falls (costOf t) (periodAt q t j) (periodAt q t k) (period-some j) (period-rises j k h)
+  charge-falls j k h = part-falls (t .c) (periodAt q t j) (periodAt q t k) (period-some j) (period-rises j k h)
 
   -- at step 0 the period is Tmin, and the charge is the share
   pub charge-at-zero : chargeAt q t 0 ≡ shareAt t 0

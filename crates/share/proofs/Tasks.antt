@@ -8,7 +8,7 @@ use Rattle.kinds.specs.Task.{Good, OnNotch}
 use Rattle.rule.specs.Rule.{shareOf, periodOf, Shortest, ShortestOn}
 use Rattle.rule.proofs.Shares.{part-high, part-low, part-falls, share-falls, share-least, share-zero, share-rigid, share-high, share-saturated, share-above, saturation-high}
 use Rattle.rule.proofs.Periods.{period-shortest, notched-shortest, notched-one}
-use Rattle.share.specs.Share.{costOf, largestOf, leastOf, shareAt, saturationAt, periodAt}
+use Rattle.share.specs.Share.{largestOf, leastOf, shareAt, saturationAt, periodAt}
 use Rattle.share.specs.Handover.{ShareIs}
 
 -- the share never rises with the step
@@ -33,13 +33,13 @@ above t k h = share-above (largestOf t) (leastOf t) (t .e) k h .1
 
 module _ (t : Task) (g : Good t) where
   pub largest-most : largestOf t ≤ scale
-  largest-most = omega (arith, part-high (costOf t) (t .tmin) 1 (omega arith) (omega arith))
+  largest-most = omega (arith, part-high (t .c) (t .tmin) 1 (omega arith) (omega arith))
 
   pub least-some : 1 ≤ leastOf t
-  least-some = omega (arith, part-low (costOf t) (t .tmax) 0 (omega arith) (omega arith))
+  least-some = omega (arith, part-low (t .c) (t .tmax) 0 (omega arith) (omega arith))
 
   pub least-largest : leastOf t ≤ largestOf t
-  least-largest = part-falls (costOf t) (t .tmin) (t .tmax) (omega arith) (g .tmin-tmax)
+  least-largest = part-falls (t .c) (t .tmin) (t .tmax) (omega arith) (g .tmin-tmax)
 
   -- at step 0 the share is the largest
   pub at-zero : shareAt t 0 ≡ largestOf t
@@ -64,26 +64,26 @@ module _ (t : Task) (g : Good t) where
       omega (arith, saturation-high (largestOf t) (leastOf t) (t .e), largest-most, least-some)
 
   -- document 01: "the smallest whole T from Tmin to Tmax with C × S ≤ share × T. One always exists."
-  pub shortest : (k : ℕ) → Shortest (costOf t) (t .tmin) (t .tmax) (shareAt t k) (periodOf (costOf t) (t .tmin) (shareAt t k))
+  pub shortest : (k : ℕ) → Shortest (t .c) (t .tmin) (t .tmax) (shareAt t k) (periodOf (t .c) (t .tmin) (shareAt t k))
   shortest k =
-      period-shortest (costOf t) (t .tmin) (t .tmax) (shareAt t k) (omega arith) (g .tmin-tmax) (share-some k) (at-least t k)
+      period-shortest (t .c) (t .tmin) (t .tmax) (shareAt t k) (omega arith) (g .tmin-tmax) (share-some k) (at-least t k)
 
   -- with notches of one tick the period is document 01's
-  pub shortest-of-one : (k : ℕ) → Shortest (costOf t) (t .tmin) (t .tmax) (shareAt t k) (periodAt 1 t k)
+  pub shortest-of-one : (k : ℕ) → Shortest (t .c) (t .tmin) (t .tmax) (shareAt t k) (periodAt 1 t k)
   unfolding periodAt
-  shortest-of-one k = rw (notched-one (periodOf (costOf t) (t .tmin) (shareAt t k))) (shortest k)
+  shortest-of-one k = rw (notched-one (periodOf (t .c) (t .tmin) (shareAt t k))) (shortest k)
 
   module _ (q : ℕ) (on : OnNotch q t) where
     -- Ask 5: "the smallest multiple of q from Tmin to Tmax with (C + 2w) × S ≤ share × T"; one always exists
-    pub shortest-on : (k : ℕ) → ShortestOn q (costOf t) (t .tmin) (t .tmax) (shareAt t k) (periodAt q t k)
+    pub shortest-on : (k : ℕ) → ShortestOn q (t .c) (t .tmin) (t .tmax) (shareAt t k) (periodAt q t k)
     unfolding periodAt
-    shortest-on k = notched-shortest q (on .some) (costOf t) (t .tmin) (t .tmax) (shareAt t k) _ (on .tmax-on) (shortest k)
+    shortest-on k = notched-shortest q (on .some) (t .c) (t .tmin) (t .tmax) (shareAt t k) _ (on .tmax-on) (shortest k)
 
     -- document 01: "At step 0 it is Tmin."
     pub shortest-at-zero : periodAt q t 0 ≡ t .tmin
     shortest-at-zero =
         let s = shortest-on 0 in
-        let e : costOf t * scale ≤ shareAt t 0 * t .tmin = rw at-zero (ceil-enough (costOf t * scale) (t .tmin) (omega arith)) in
+        let e : t .c * scale ≤ shareAt t 0 * t .tmin = rw at-zero (ceil-enough (t .c * scale) (t .tmin) (omega arith)) in
         omega (arith, s .low, s .only (t .tmin) (on .tmin-on) (omega arith) e)
 
   -- what the functions hand back

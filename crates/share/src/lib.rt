@@ -5,12 +5,12 @@ use kinds::Share;
 use kinds::Task;
 ghost use mathlib.Core.Path.{_≡_};
 ghost use Rattle.kinds.specs.Task.{Good};
-ghost use Rattle.share.specs.Share.{costOf, largestOf, leastOf, shareAt, shareUnder};
+ghost use Rattle.share.specs.Share.{largestOf, leastOf, shareAt, shareUnder};
 ghost use Rattle.share.specs.Handover.{ShareIs};
 
 // The whole cost of a job: the C of a record whose swaps are paid for.
 pub fn cost(task: Task) -> u64
-    ensures { λ r. ⌜ r ≡ costOf task ⌝ }
+    ensures { λ r. ⌜ r ≡ task .c ⌝ }
 {
     task.c as u64
 }

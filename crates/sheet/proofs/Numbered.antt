@@ -5,7 +5,7 @@ use Rattle.kinds.specs.declared.Sheet.{Sheet}
 use Rattle.kinds.specs.declared.Refusal.{Refusal}
 use Rattle.kinds.specs.declared.Refusal.the-variants.{TooManyTasks, SheetEnds, WrongSettingsCount, WrongResultCount, BytesAfterLast}
 use Rattle.kinds.specs.Limits.{mostTasks}
-use Rattle.kinds.specs.Answer.{Handed, accepted, judged}
+use Rattle.kinds.specs.Answer.{Handed, accepted, demanded}
 use Rattle.kinds.proofs.Refusals.{refusal-numbered}
 use Rattle.sheet.specs.Sections.{numbersPlace, tasksPlace, recordsPlace, resultsPlace, grantedPlace, settingsFit, resultsFit}
 use Rattle.sheet.specs.Reading.{noSheet, settingsCount, taskCount, resultCount, endOf, sheetIn, readRows, readSheet}
@@ -14,7 +14,7 @@ use Rattle.sheet.specs.Reading.{noSheet, settingsCount, taskCount, resul
 abbrev Numbered : Handed Sheet → Type 0
 Numbered h = h .number ≡ 0 → h ≡ accepted (h .value)
 
-judged-numbered : (test : Bool) (refusal : Refusal) (rest : Handed Sheet) → Numbered rest → Numbered (judged noSheet test refusal rest)
+judged-numbered : (test : Bool) (refusal : Refusal) (rest : Handed Sheet) → Numbered rest → Numbered (demanded noSheet test refusal rest)
 judged-numbered true refusal rest n e = n e
 judged-numbered false refusal rest n e = absurd (omega (arith, refusal-numbered refusal))
 

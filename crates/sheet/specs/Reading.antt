@@ -13,7 +13,7 @@ use Rattle.kinds.specs.declared.Refusal.the-variants.{TooManyTasks, SheetEnds, 
 use Rattle.kinds.specs.Limits.{mostSettings, mostTasks}
 use Rattle.kinds.specs.Settings.{fillIns, settingsOf}
 use Rattle.kinds.specs.Task.{noTasks}
-use Rattle.kinds.specs.Answer.{Handed, accepted, judged, handedWith}
+use Rattle.kinds.specs.Answer.{Handed, accepted, demanded, handedWith}
 use Rattle.field.specs.Number.{u16At}
 use Rattle.sheet.specs.declared.Reading.{Reading}
 use Rattle.sheet.specs.Sections.{settingSize, taskSize, grantedSize, settingsPlace, numbersPlace, tasksPlace, recordsPlace, resultsPlace, grantedPlace, endPlace, settingsFit, resultsFit}
@@ -52,7 +52,7 @@ tasksIn s = rowsAt noTasks taskSize taskAt s (recordsPlace (settingsCount s)) (t
 abbrev pub resultsIn : List ℕ → List Granted
 resultsIn s = rowsAt noResults grantedSize grantedAt s (grantedPlace (settingsCount s) (taskCount s)) (resultCount s)
 
--- the sheet that stands in bytes; neither policy nor processors nor records are judged
+-- the sheet that stands in bytes; neither policy nor processors nor records are demanded
 unfoldable pub sheetIn : List ℕ → Sheet
 sheetIn s =
     record {
@@ -62,9 +62,9 @@ sheetIn s =
       results = record { rows = resultsIn s; n = resultCount s };
     }
 
--- something is judged: the rest where the test holds, else the refusal, with a sheet of zeros
+-- something is demanded: the rest where the test holds, else the refusal, with a sheet of zeros
 abbrev pub judge : Bool → Refusal → Handed Sheet → Handed Sheet
-judge = judged noSheet
+judge = demanded noSheet
 
 -- 8: a field is due that ends at a place
 abbrev pub due : List ℕ → ℕ → Handed Sheet → Handed Sheet

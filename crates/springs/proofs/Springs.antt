@@ -7,7 +7,7 @@ use Rattle.kinds.specs.Task.{Good, OnNotch}
 use Rattle.rule.specs.Rule.{periodOf, notchedUp}
 use Rattle.rule.proofs.Shares.{part-falls, share-falls, share-rigid, share-saturated, share-above, saturation-high}
 use Rattle.rule.proofs.Periods.{period-shortest, period-rises, notched-from, notched-least, notched-rises, charge-high}
-use Rattle.share.specs.Share.{costOf, leastOf, shareAt, saturationAt, periodAt, chargeAt}
+use Rattle.share.specs.Share.{leastOf, shareAt, saturationAt, periodAt, chargeAt}
 use Rattle.share.proofs.Tasks.{least-some, largest-most, least-largest, at-zero}
 use Rattle.share.proofs.Charges.{charge-at-zero}
 use Rattle.springs.specs.declared.Spring.{Spring}
@@ -97,11 +97,11 @@ module _ (t : Task) (g : Good t) where
       record { largest-most = largest-most t g; least-largest = least-largest t g; elasticity-most = g .e-most; saturated = sym (saturation-on t) }
 
   module _ (q : ℕ) (on : OnNotch q t) where
-    period-high : notchedUp q (periodOf (costOf t) (t .tmin) (leastOf t)) ≤ longestPeriod
+    period-high : notchedUp q (periodOf (t .c) (t .tmin) (leastOf t)) ≤ longestPeriod
     period-high =
-        let short = period-shortest (costOf t) (t .tmin) (t .tmax) (leastOf t)
+        let short = period-shortest (t .c) (t .tmin) (t .tmax) (leastOf t)
         (omega (arith, g .c-some, g .c-tmin, g .tmin-tmax)) (g .tmin-tmax) (least-some t g) (omega arith) in
-        omega (arith, notched-least q (on .some) (periodOf (costOf t) (t .tmin) (leastOf t)) (t .tmax) (on .tmax-on) (short .high), g .tmax-most)
+        omega (arith, notched-least q (on .some) (periodOf (t .c) (t .tmin) (leastOf t)) (t .tmax) (on .tmax-on) (short .high), g .tmax-most)
 
     charged-whole : chargeFor q (springOf t) (springOf t .largest) ≡ springOf t .largest
     unfolding chargeAt periodAt

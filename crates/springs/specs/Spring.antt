@@ -6,12 +6,12 @@ use Rattle.kinds.specs.declared.Task.{Task}
 use Rattle.kinds.specs.declared.Settings.{Settings}
 use Rattle.kinds.specs.Settings.{testsCharge}
 use Rattle.rule.specs.Rule.{partOf, shareOf, saturationOf, periodOf, notchedUp}
-use Rattle.share.specs.Share.{costOf, largestOf, leastOf, saturationAt}
+use Rattle.share.specs.Share.{largestOf, leastOf, saturationAt}
 use Rattle.springs.specs.declared.Spring.{Spring}
 
 abbrev pub springOf : Task → Spring
 springOf t =
-    record { largest = largestOf t; least = leastOf t; elasticity = t .e; saturation = saturationAt t; cost = costOf t; tmin = t .tmin }
+    record { largest = largestOf t; least = leastOf t; elasticity = t .e; saturation = saturationAt t; cost = t .c; tmin = t .tmin }
 
 unfoldable pub shareOn : Spring → ℕ → ℕ
 shareOn s k = shareOf (s .largest) (s .least) (s .elasticity) k

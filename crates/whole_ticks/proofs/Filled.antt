@@ -12,7 +12,7 @@ use Rattle.whole_ticks.specs.Reach.{wants, reach}
 use Rattle.whole_ticks.proofs.Choices.{both-hold, bit-grows}
 use Rattle.whole_ticks.proofs.Sums.{sum-flat}
 use Rattle.whole_ticks.proofs.Reach.{reach-self, reach-grows, reach-step}
-use Rattle.whole_ticks.proofs.Gain.{heldIn, More, gain}
+use Rattle.whole_ticks.proofs.Gain.{cellsIn, More, gain}
 use Rattle.whole_ticks.proofs.Closed.{Closed, none-lacks}
 
 module _ (parts : Parts) (cells : Cells) (r : ℕ) where
@@ -87,13 +87,13 @@ one-more parts enough cells fits r row less =
 
 module _ (parts : Parts) (enough : Enough parts) where
   -- one after the other
-  fill : (left : ℕ) (cells : Cells) → Fits parts cells → sumTo (parts .ask) (parts .rows) ≤ heldIn parts cells + left
+  fill : (left : ℕ) (cells : Cells) → Fits parts cells → sumTo (parts .ask) (parts .rows) ≤ cellsIn parts cells + left
       → (all : Cells) × Fits parts all × Full parts all
-  unfolding heldIn
+  unfolding cellsIn
   fill zero cells fits h =
       (cells, fits, λ r l. omega (arith, sum-gap (across cells (parts .columns)) (parts .ask) (parts .rows) (fits .asked) r l))
   fill (suc left) cells fits h =
-      by-le (sumTo (parts .ask) (parts .rows)) (heldIn parts cells)
+      by-le (sumTo (parts .ask) (parts .rows)) (cellsIn parts cells)
       (λ l. fill left cells fits (omega arith))
       (λ l.
       let lacks = sum-larger (across cells (parts .columns)) (parts .ask) (parts .rows) l in

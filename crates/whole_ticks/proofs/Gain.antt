@@ -14,12 +14,12 @@ use Rattle.whole_ticks.proofs.Changes.{put-adds, put-takes, adds-across
 use Rattle.whole_ticks.proofs.Reach.{reach-same, reach-back}
 
 -- how many cells are held in all
-unfoldable pub heldIn : Parts → Cells → ℕ
-heldIn parts cells = sumTo (across cells (parts .columns)) (parts .rows)
+unfoldable pub cellsIn : Parts → Cells → ℕ
+cellsIn parts cells = sumTo (across cells (parts .columns)) (parts .rows)
 
 -- other cells that fit, and are more
 abbrev pub More : Parts → Cells → Type 0
-More parts cells = (more : Cells) × Fits parts more × (heldIn parts cells < heldIn parts more)
+More parts cells = (more : Cells) × Fits parts more × (cellsIn parts cells < cellsIn parts more)
 
 -- row x wants column t, of which there is some left
 pub record Free (parts : Parts) (cells : Cells) (x t : ℕ) : Type 0 where
@@ -44,7 +44,7 @@ module _ (parts : Parts) (cells : Cells) (fits : Fits parts cells) where
 
   -- the row itself takes the column
   gain-here : (r t : ℕ) → across cells (parts .columns) r < parts .ask r → Free parts cells r t → More parts cells
-  unfolding heldIn
+  unfolding cellsIn
   gain-here r t less free =
       let two = wants-two r t (free .wanted) in
       let more = put cells r t true in
@@ -93,7 +93,7 @@ module _ (parts : Parts) (cells : Cells) (fits : Fits parts cells) where
 -- along the rows that are reached, from the last one back
 pub gain : (parts : Parts) (k : ℕ) (cells : Cells) (r x u : ℕ) → Fits parts cells → across cells (parts .columns) r < parts .ask r
     → reach parts cells r k x ≡ true → Free parts cells x u → More parts cells
-unfolding reach heldIn
+unfolding reach cellsIn
 gain parts zero cells r x u fits less e free = gain-here parts cells fits r u less (let z = eqb-true x r e in rw z at free)
 gain parts (suc k) cells r x u fits less e free =
     by-bool (reach parts cells r k x)

@@ -22,11 +22,11 @@ use Rattle.sheet.specs.Reading.{settingsCount, taskCount, resultCount, numbersI
 use Rattle.sheet.proofs.Stages.{settings-few, fits-few}
 use Rattle.sheet.proofs.Whole.{Whole, whole-accepted}
 use Rattle.writer.specs.Encode.{taskBytes, grantedBytes, rowsBytes, numbersBytes, tasksBytes, resultsBytes, settingsBytes, encode, lengthOf}
-use Rattle.writer.specs.Canonical.{settingIn, grantedIn, canonical, TaskHeld, GrantedHeld, SheetHeld}
+use Rattle.writer.specs.Canonical.{settingIn, grantedIn, canonical, TaskStorable, GrantedStorable, SheetStorable}
 use Rattle.writer.proofs.Rows.{task-long, granted-long, settings-long, rows-long, tasks-long, encode-long}
 
 -- a row whose bytes stand at a place is read there
-task-back : {s : List ℕ} {place : ℕ} (t : Task) → TaskHeld t → Part s place taskSize (taskBytes t) → taskAt s place ≡ t
+task-back : {s : List ℕ} {place : ℕ} (t : Task) → TaskStorable t → Part s place taskSize (taskBytes t) → taskAt s place ≡ t
 unfolding taskBytes
 task-back {s} {place} t h p =
     let b₁ = bytes-long 4 (t .c) in
@@ -46,7 +46,7 @@ task-back {s} {place} t h p =
     let e = ap (u32At s) (sym e₄) ∙ part-number 4 (t .e) (h .e) p₄ in
     λ i. record { c = c i; tmin = tmin i; tmax = tmax i; e = e i }
 
-granted-back : {s : List ℕ} {place : ℕ} (g : Granted) → GrantedHeld g → Part s place grantedSize (grantedBytes g) → grantedAt s place ≡ g
+granted-back : {s : List ℕ} {place : ℕ} (g : Granted) → GrantedStorable g → Part s place grantedSize (grantedBytes g) → grantedAt s place ≡ g
 unfolding grantedBytes
 granted-back g h p =
     let b = bytes-long 4 (g .period) in
@@ -139,7 +139,7 @@ module _ (x : Sheet) (s : List ℕ) (p : Part s 0 (lengthOf x) (encode x)) where
       rw place at (part-right tasks-size results-size task-section result-section task-section-long sections-part)
 
   -- as they are read
-  module _ (h : SheetHeld x) (taken : settingsFit (x .count) ≡ true) (few : x .table .n ≤ mostTasks)
+  module _ (h : SheetStorable x) (taken : settingsFit (x .count) ≡ true) (few : x .table .n ≤ mostTasks)
       (fit : resultsFit (x .results .n) (x .table .n) ≡ true) where
     settings-counted : settingsCount s ≡ x .count
     unfolding settingsCount
@@ -201,7 +201,7 @@ module _ (x : Sheet) (s : List ℕ) (p : Part s 0 (lengthOf x) (encode x)) where
         record { settings = rw c taken; few = omega arith; fit = rw (r, n) fit; end = omega arith }
 
 -- document 01's sheet, written and read, is its canonical form
-pub forth : (x : Sheet) → SheetHeld x → settingsFit (x .count) ≡ true → x .table .n ≤ mostTasks → resultsFit (x .results .n) (x .table .n) ≡ true
+pub forth : (x : Sheet) → SheetStorable x → settingsFit (x .count) ≡ true → x .table .n ≤ mostTasks → resultsFit (x .results .n) (x .table .n) ≡ true
     → readSheet (encode x) ≡ accepted (canonical x)
 forth x h taken few fit =
     let p : Part (encode x) 0 (lengthOf x) (encode x) = rw (encode-long x) at (part-all (encode x)) in

@@ -12,7 +12,7 @@ use Rattle.kinds.specs.Limits.{mostSettings, mostTasks}
 use Rattle.kinds.specs.Task.{noTask, at}
 use Rattle.kinds.specs.Policy.{meant}
 use Rattle.kinds.specs.Settings.{fillIns, setting, settingsOf, numbersOf}
-use Rattle.kinds.specs.Answer.{accepted, judged, after}
+use Rattle.kinds.specs.Answer.{accepted, demanded, after}
 use Rattle.kinds.proofs.Numbers.{numbers-back, settings-back, meant-of}
 use Rattle.field.specs.Number.{Bytes, u16At}
 use Rattle.sheet.specs.Sections.{settingSize, taskSize, grantedSize, numbersPlace, recordsPlace, grantedPlace, settingsFit, resultsFit}
@@ -24,7 +24,7 @@ use Rattle.kinds.specs.declared.Counted.the-variants as counted
 use Rattle.kinds.proofs.Answers.{count-one}
 use Rattle.writer.specs.Encode.{encode, lengthOf}
 use Rattle.writer.specs.Writing.{writeSheet, afterWrite, Writes}
-use Rattle.writer.specs.Canonical.{settingIn, grantedIn, canonical, SheetHeld}
+use Rattle.writer.specs.Canonical.{settingIn, grantedIn, canonical, SheetStorable}
 use Rattle.writer.proofs.Rows.{encode-long}
 use Rattle.writer.proofs.Answers.{accepts, accepted-after}
 use Rattle.writer.proofs.Back.{back}
@@ -52,7 +52,7 @@ module _ (s : List ℕ) (bytes : Bytes s) (x : Sheet) (e : readSheet s ≡ accep
   read-fit = let w = whole s x e in ap (λ (y : Sheet). resultsFit (y .results .n) (y .table .n)) (w .1) ∙ w .0 .fit
 
   -- into any buffer: refused by 5 where there is too little room, else the same bytes
-  pub read-handed : (room : ℕ) → writeSheet x room ≡ judged 0 (leb (length s) room) (OutputTooShort (length s)) (accepted (length s))
+  pub read-handed : (room : ℕ) → writeSheet x room ≡ demanded 0 (leb (length s) room) (OutputTooShort (length s)) (accepted (length s))
   unfolding writeSheet
   read-handed room = rw (read-taken, le-leb (x .table .n) mostTasks read-few, read-fit, read-length)
 
@@ -70,7 +70,7 @@ module _ (s : List ℕ) (bytes : Bytes s) (x : Sheet) (e : readSheet s ≡ accep
       )
 
 -- writing a sheet and reading it gives its canonical form
-pub write-read : (x : Sheet) → SheetHeld x → (old new : List ℕ) (k : ℕ) → Writes x old (counted.Count k) new → readSheet (take k new) ≡ accepted (canonical x)
+pub write-read : (x : Sheet) → SheetStorable x → (old new : List ℕ) (k : ℕ) → Writes x old (counted.Count k) new → readSheet (take k new) ≡ accepted (canonical x)
 write-read x h old new k p =
     let a = accepts x (length old) k (sym (p .answer)) in
     let front : take k new ≡ encode x =

@@ -31,20 +31,20 @@ canonical x =
     }
 
 -- what every value of the kind has: its numbers fit their fields
-pub record TaskHeld (t : Task) : Type 0 where
+pub record TaskStorable (t : Task) : Type 0 where
   pub c : t .c < limit 4
   pub tmin : t .tmin < limit 4
   pub tmax : t .tmax < limit 4
   pub e : t .e < limit 4
 
-pub record GrantedHeld (g : Granted) : Type 0 where
+pub record GrantedStorable (g : Granted) : Type 0 where
   pub period : g .period < limit 4
   pub processor : g .processor < limit 2
 
 -- and its tables have room for the most tasks
-pub record SheetHeld (x : Sheet) : Type 0 where
+pub record SheetStorable (x : Sheet) : Type 0 where
   pub settings : (i : ℕ) → settingIn x i < limit settingSize
-  pub tasks : (i : ℕ) → TaskHeld (at (x .table .rows) i)
+  pub tasks : (i : ℕ) → TaskStorable (at (x .table .rows) i)
   pub tasks-room : length (x .table .rows) ≡ mostTasks
-  pub results : (i : ℕ) → GrantedHeld (grantedIn x i)
+  pub results : (i : ℕ) → GrantedStorable (grantedIn x i)
   pub results-room : length (x .results .rows) ≡ mostTasks

@@ -8,7 +8,7 @@ use lib.ListN.{length}
 use Rattle.kinds.specs.declared.Sheet.{Sheet}
 use Rattle.kinds.specs.declared.Refusal.the-variants.{TooManyTasks, OutputTooShort, WrongSettingsCount, WrongResultCount}
 use Rattle.kinds.specs.Limits.{mostTasks}
-use Rattle.kinds.specs.Answer.{Handed, accepted, handedCount, judged, after}
+use Rattle.kinds.specs.Answer.{Handed, accepted, handedCount, demanded, after}
 use Rattle.sheet.specs.Sections.{settingsFit, resultsFit}
 use Rattle.kinds.specs.declared.Counted.{Counted}
 use Rattle.writer.specs.Encode.{encode, lengthOf}
@@ -16,10 +16,10 @@ use Rattle.writer.specs.Encode.{encode, lengthOf}
 -- document 01: "The writer gives 3, 10, 5 in that order."; Ask 2: "it gives 9 first"
 unfoldable pub writeSheet : Sheet → ℕ → Handed ℕ
 writeSheet x room =
-    judged 0 (settingsFit (x .count)) WrongSettingsCount
-    (judged 0 (leb (x .table .n) mostTasks) (TooManyTasks (x .table .n))
-    (judged 0 (resultsFit (x .results .n) (x .table .n)) (WrongResultCount 0)
-    (judged 0 (leb (lengthOf x) room) (OutputTooShort (lengthOf x)) (accepted (lengthOf x)))))
+    demanded 0 (settingsFit (x .count)) WrongSettingsCount
+    (demanded 0 (leb (x .table .n) mostTasks) (TooManyTasks (x .table .n))
+    (demanded 0 (resultsFit (x .results .n) (x .table .n)) (WrongResultCount 0)
+    (demanded 0 (leb (lengthOf x) room) (OutputTooShort (lengthOf x)) (accepted (lengthOf x)))))
 
 -- the buffer after: the sheet's bytes and then what stood there; where the call is refused, as it was
 unfoldable pub afterWrite : Sheet → List ℕ → List ℕ

@@ -14,7 +14,7 @@ ghost use Rattle.field.specs.Handover.{Put};
 ghost use Rattle.sheet.specs.Sections.{settingSize, taskSize, grantedSize, tasksPlace};
 ghost use Rattle.writer.specs.Encode.{taskBytes, grantedBytes, numbersBytes, settingsBytes, tasksBytes, resultsBytes, encode, lengthOf};
 ghost use Rattle.writer.specs.Writing.{Writes};
-ghost use Rattle.writer.specs.Canonical.{SheetHeld};
+ghost use Rattle.writer.specs.Canonical.{SheetStorable};
 
 // Stores a task record at a place; returns the place after it.
 fn put_task(out: &mut [u8], at: usize, task: Task) -> usize
@@ -101,9 +101,9 @@ fn put_sheet(out: &mut [u8], x: Sheet) -> usize
     put_results(out, at_granted, granted, r)
 }
 
-// Every sheet by value is held: its numbers fit their fields, and its tables have room for the most tasks.
-pub fn held(x: Sheet)
-    ensures { λ _. ⌜ SheetHeld x ⌝ }
+// Every sheet by value can be stored: its numbers fit their fields, and its tables have room for the most tasks.
+pub fn storable(x: Sheet)
+    ensures { λ _. ⌜ SheetStorable x ⌝ }
 {
     let settings = x.settings;
     settings.numbers();

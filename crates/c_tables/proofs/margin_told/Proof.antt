@@ -7,14 +7,14 @@ use Rattle.kinds.specs.Answer.{accepted, handedMargin}
 use Rattle.kinds.specs.declared.Verdict.the-variants.{Refused}
 use Rattle.margin.specs.Margin.{marginHanded}
 use Rattle.c_numbers.proofs.Beside.{told-beside}
-use Rattle.c_numbers.specs.Numbers.{settingsOf}
+use Rattle.c_numbers.specs.Numbers.{stationSettings}
 use borrow.Author.Needs.{needs}
 use Rattle.c_tables.proofs.margin_told.Statement.{statement}
 use Rattle.c_tables.proofs.margin_told.Tie as tie
 
 -- what the margin hands back, for the settings that the numbers stand for
 handed-back : (c : tie.After-margin-at) → let a = c .before .before .args in
-    handedMargin (c .margin-at .result) ≡ marginHanded (settingsOf (a .station)) (a .table .rows) (a .table .n) (a .step)
+    handedMargin (c .margin-at .result) ≡ marginHanded (stationSettings (a .station)) (a .table .rows) (a .table .n) (a .step)
 handed-back c = rw (c .before .settings-of .ensures) at (c .margin-at .ensures)
 
 returns : tie.Need-returns

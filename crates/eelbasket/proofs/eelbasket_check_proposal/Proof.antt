@@ -3,7 +3,7 @@
 -- Assumes nothing.
 use Rattle.walk.proofs.Thin.{id⊢, w16, w32, of-uint, fact-to}
 use Rattle.walk.proofs.ThinVvsm.{thin}
-use Rattle.c_numbers.specs.Numbers.{settingsOf}
+use Rattle.c_numbers.specs.Numbers.{stationSettings}
 use Rattle.eelbasket.proofs.Bridge.{told-proposal-over}
 use Rattle.lent_rows.proofs.Lent.{gathered}
 use Rattle.eelbasket.proofs.Values as values
@@ -25,5 +25,5 @@ eelbasket-check-proposal-spec 𝓤 H 𝓜 𝓖 𝓡 =
     (record {
       ghost = λ κ κ₁ κ₂ x s k p y g. tt;
       asks = λ κ κ₁ κ₂ x s k p y g. id⊢ 𝓤 _;
-      tells = λ κ κ₁ κ₂ x s k p y g r ws. fact-to 𝓤 (told-proposal-over (settingsOf s) (x .now) k (p .now) (y .now) r (ws .1 .1 .1 .1 .0));
+      tells = λ κ κ₁ κ₂ x s k p y g r ws. fact-to 𝓤 (told-proposal-over (stationSettings s) (x .now) k (p .now) (y .now) r (ws .1 .1 .1 .1 .0));
     })

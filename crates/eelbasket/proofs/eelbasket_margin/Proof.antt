@@ -3,7 +3,7 @@
 use Rattle.ground.proofs.Kit.{_∙_}
 use Rattle.walk.proofs.Thin.{id⊢, w32, of-uint, fact-to}
 use Rattle.walk.proofs.ThinVv.{thin}
-use Rattle.c_numbers.specs.Numbers.{settingsOf}
+use Rattle.c_numbers.specs.Numbers.{stationSettings}
 use Rattle.eelbasket.proofs.Bridge.{margin-over}
 use Rattle.lent_rows.proofs.Lent.{gathered}
 use Rattle.eelbasket.proofs.Values as values
@@ -24,5 +24,5 @@ eelbasket-margin-spec 𝓤 H 𝓜 𝓖 𝓡 =
     (record {
       ghost = λ κ x s k g. tt;
       asks = λ κ x s k g. id⊢ 𝓤 _;
-      tells = λ κ x s k g r ws. fact-to 𝓤 (λ e. e ∙ margin-over (settingsOf s) (x .now) k);
+      tells = λ κ x s k g r ws. fact-to 𝓤 (λ e. e ∙ margin-over (stationSettings s) (x .now) k);
     })

@@ -2,7 +2,7 @@
 -- Assumes nothing.
 use Rattle.walk.proofs.Thin.{id⊢, w32, fact-to}
 use Rattle.walk.proofs.ThinVm.{thin}
-use Rattle.c_numbers.specs.Numbers.{settingsOf}
+use Rattle.c_numbers.specs.Numbers.{stationSettings}
 use Rattle.eelbasket.proofs.Bridge.{told-relief-over}
 use Rattle.lent_rows.proofs.Lent.{gathered}
 use Rattle.eelbasket.proofs.Values as values
@@ -23,5 +23,5 @@ eelbasket-relief-spec 𝓤 H 𝓜 𝓖 𝓡 =
     (record {
       ghost = λ κ κ₁ x s y g. tt;
       asks = λ κ κ₁ x s y g. id⊢ 𝓤 _;
-      tells = λ κ κ₁ x s y g r ws. fact-to 𝓤 (told-relief-over (settingsOf s) (x .now) (y .now) r (ws .1 .1 .0));
+      tells = λ κ κ₁ x s y g r ws. fact-to 𝓤 (told-relief-over (stationSettings s) (x .now) (y .now) r (ws .1 .1 .0));
     })

@@ -1,12 +1,12 @@
 -- `planner::propose` stays in bounds and ends. Assumes nothing.
 use Rattle.ground.proofs.Kit.{sym, arith, needs}
-use Rattle.proposal.specs.Handover.{LoadsHeld}
+use Rattle.proposal.specs.Handover.{LoadsOf}
 use Rattle.planner.proofs.propose.Statement.{statement}
 use Rattle.planner.proofs.propose.Tie as tie
 
 -- the block that the admission leaves has the loads
 held : (c : tie.After-enum-told) → let asked = c .before .before in let args = asked .before .before .before .args in
-    LoadsHeld (args .settings) (args .table .rows) (args .table .n) (args .step) (asked .admit .last .1 .1 .1 .1 .1 .0)
+    LoadsOf (args .settings) (args .table .rows) (args .table .n) (args .step) (asked .admit .last .1 .1 .1 .1 .1 .0)
 held c = c .before .before .admit .ensures .loads (c .enum-told .given .1)
 
 slice-aggregate-first-fit : tie.Need-slice-aggregate-first-fit

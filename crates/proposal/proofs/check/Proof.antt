@@ -4,7 +4,7 @@ use Rattle.kinds.specs.declared.Verdict.the-variants.{Accepted}
 use Rattle.policy.specs.Under.{loadsUnder}
 use Rattle.proposal.specs.Loads.{firstOutOfRange, beforeOverfull}
 use Rattle.proposal.specs.Proposal.{placeIn, admission}
-use Rattle.proposal.specs.Handover.{LoadsHeld}
+use Rattle.proposal.specs.Handover.{LoadsOf}
 use Rattle.proposal.proofs.Loading.{overfull-is, front-is}
 use Rattle.proposal.proofs.Admitting.{Passed, admitted}
 use Rattle.proposal.proofs.Calls.{may-load, refused-meets, out-of-range-meets, overfull-meets, well-meets}
@@ -26,7 +26,7 @@ passed c = admitted _ _ _ _ _ (admits c) .passed
 
 -- the block that the admission leaves has the loads
 held : (c : tie.After-enum-told) → let args = start c .args in
-    LoadsHeld (args .settings) (args .table .rows) (args .table .n) (args .step) (c .before .before .admit .last .1 .1 .1 .1 .1 .0)
+    LoadsOf (args .settings) (args .table .rows) (args .table .n) (args .step) (c .before .before .admit .last .1 .1 .1 .1 .1 .0)
 held c = c .before .before .admit .ensures .loads (c .enum-told .given .1)
 
 -- no task is out of range
