@@ -2,25 +2,23 @@
 -- refusal is given exactly where the plain finder gives it, `relief-exactly`; no second answer fits, `no-second-relief`; and the call depends on the
 -- first n records only, `relieved-same`.
 -- Assumes nothing.
-use Rattle.ground.proofs.Kit.{ℕ, _+_, _-_, _≤_, _<_, true, false, List, _++_, _≡_, sym, _∙_, ap, ap₂, arith, length, getD, drop, eqb, eq-eqb, ne-eqb}
+use Rattle.ground.proofs.Kit.{ℕ, _+_, _-_, _≤_, _<_, true, false, List, _++_, _≡_, sym, _∙_, ap, ap₂, arith, length, getD, drop, eq-eqb, ne-eqb}
 use Rattle.ground.proofs.Kit.{eqb-true}
 use Rattle.ground.specs.Folds.{listTo}
 use Rattle.ground.proofs.Buffer.{list-at, list-past, list-cong}
 use Rattle.ground.proofs.Cases.{by-le, true-false}
-use Rattle.ground.specs.Padded.{padded}
+use Rattle.ground.proofs.Laid.{over-cong}
 use Rattle.kinds.specs.declared.Task.{Task}
 use Rattle.kinds.specs.declared.Settings.{Settings}
 use Rattle.kinds.specs.declared.Answer.{Answer}
-use Rattle.kinds.specs.declared.Verdict.the-variants.{Accepted}
 use Rattle.kinds.specs.Answer.{Handed, handed}
 use Rattle.kinds.specs.Chain.{Exactly}
 use Rattle.kinds.specs.Limits.{mostTasks, mostProcessors}
 use Rattle.kinds.specs.Policy.{meant, isOneCore}
-use Rattle.kinds.specs.Task.{at, noTask}
+use Rattle.kinds.specs.Task.{at, noTasks}
 use Rattle.kinds.proofs.Answers.{handed-one}
 use Rattle.kinds.proofs.Chains.{exactly}
 use Rattle.policy.specs.Under.{leastUnder}
-use Rattle.admission.specs.Admission.{admission}
 use Rattle.admission.proofs.Chain.{Ready, admitted}
 use Rattle.admission.proofs.Exactly.{ready-admitted}
 use Rattle.outcome.specs.Plan.{found}
@@ -160,8 +158,7 @@ module _ (s : Settings) (rows : List Task) (n : ℕ) (old : List ℕ) (answer : 
 module _ (s : Settings) (xs ys : List Task) (n : ℕ) (old : List ℕ) (same : n ≤ mostTasks → (i : ℕ) → i < n → at xs i ≡ at ys i) where
   left-same : n ≤ mostTasks → (i : ℕ) → leftRows xs n i ≡ leftRows ys n i
   unfolding leftRows
-  left-same few i =
-      ap (padded noTask mostTasks) (list-cong (leftRow xs i) (leftRow ys i) (n - 1) (λ j l. same few _ (from-low i j n l)))
+  left-same few i = over-cong noTasks (leftRow xs i) (leftRow ys i) (n - 1) (λ j l. same few _ (from-low i j n l))
 
   without-same : n ≤ mostTasks → listTo (leastWithout s xs n) n ≡ listTo (leastWithout s ys n) n
   without-same few =

@@ -1,10 +1,9 @@
 -- A least step told as a number: `told-at` and `told-none` say what it tells, `told-least` that of an admitted table it is demand 2's search.
 -- Assumes nothing.
-use Rattle.ground.proofs.Kit.{ℕ, _+_, _-_, _≤_, _<_, true, false, List, _≡_, refl, sym, _∙_, ap, ap₂, arith, eqb, eq-eqb, ne-eqb}
+use Rattle.ground.proofs.Kit.{ℕ, _+_, _-_, _≤_, _<_, true, false, List, _≡_, refl, ap, arith, eq-eqb, ne-eqb}
 use lib.Dec.{lit<}
 use Rattle.ground.specs.declared.Step.{Step}
 use Rattle.ground.specs.declared.Step.the-variants.{At, Nothing}
-use Rattle.ground.proofs.Cases.{by-le}
 use Rattle.kinds.specs.declared.Task.{Task}
 use Rattle.kinds.specs.declared.Settings.{Settings}
 use Rattle.kinds.specs.declared.Refusal.{Refusal}
@@ -12,7 +11,7 @@ use Rattle.kinds.specs.declared.Answer.{Answer}
 use Rattle.kinds.specs.declared.Answer.the-variants as answer
 use Rattle.kinds.specs.declared.Verdict.{Verdict}
 use Rattle.kinds.specs.declared.Verdict.the-variants.{Accepted, Refused}
-use Rattle.kinds.specs.Answer.{Handed, accepted, refused, handed, stepOf}
+use Rattle.kinds.specs.Answer.{accepted, refused, handed, stepOf}
 use Rattle.kinds.specs.Refusal.{numberOf}
 use Rattle.kinds.specs.Limits.{mostTasks}
 use Rattle.kinds.specs.Policy.{meant, isFirstFit}
@@ -23,7 +22,8 @@ use Rattle.policy.specs.Under.{rowsUnder, fullUnder, loadsUnder, leastUnder}
 use Rattle.policy.proofs.Demand.{step-at}
 use Rattle.policy.proofs.Under.{least-under-same}
 use Rattle.admission.specs.Admission.{admission}
-use Rattle.admission.proofs.Chain.{admitted, admission-same, admission-many, admission-serves}
+use Rattle.admission.proofs.Chain.{admitted, admission-serves}
+use Rattle.admission.proofs.Gated.{answer-same}
 use Rattle.outcome.specs.Plan.{decided, found}
 use Rattle.outcome.proofs.Found.{accepting}
 use Rattle.relief.specs.Relief.{toldStep, leastTold}
@@ -50,10 +50,6 @@ decided-at Accepted Nothing k e = absurd (omega arith)
 decided-none : (a : Verdict) (step : Step) → (a ≡ Accepted → ⊥) → toldStep (decided a step) ≡ 0
 decided-none (Refused r) step h = refused-told r
 decided-none Accepted step h = absurd (h refl)
-
-decided-apart : (a : Verdict) (x y : Step) → (a ≡ Accepted → ⊥) → decided a x ≡ decided a y
-decided-apart Accepted x y h = absurd (h refl)
-decided-apart (Refused r) x y h = refl
 
 module _ (s : Settings) (rows : List Task) (n : ℕ) where
   -- k + 1 tells that the plain finder accepts at step k
@@ -94,12 +90,7 @@ module _ (s : Settings) (rows : List Task) (n : ℕ) where
 module _ (s : Settings) (xs ys : List Task) (n : ℕ) (same : n ≤ mostTasks → (i : ℕ) → i < n → at xs i ≡ at ys i) where
   pub found-agrees : (room : ℕ) → found true s xs n room ≡ found true s ys n room
   unfolding found
-  found-agrees room =
-      by-le n mostTasks
-      (λ few. ap₂ decided (admission-same true s xs ys n room (same few)) (least-under-same s xs ys n (same few)))
-      (λ many.
-      ap (λ (a : Verdict). decided a (leastUnder s xs n)) (admission-many true s xs ys n room many)
-      ∙ decided-apart (admission true s ys n room) _ _ (λ e. omega (arith, admitted true s ys n room e .passed .few)))
+  found-agrees room = answer-same decided (λ r x y. refl) true s xs ys n room _ _ same (λ e. least-under-same s xs ys n e)
 
   pub told-agrees : leastTold s xs n ≡ leastTold s ys n
   unfolding leastTold
