@@ -11,4 +11,5 @@ abbrev μ-loop : tie.MeasureT-loop
 μ-loop out₀ at s end i₀ next₀ out i next = end - i
 
 pub put-shown-spec : {M : Type 1} → statement M
-put-shown-spec = tie.close (tie.spec Inv-loop μ-loop (λ c. (search needs, refl)) (λ _ _. tt) (λ _ _. tt) (λ _ _. tt) (λ c. search needs) (λ c. search needs) (λ c. search needs) (λ c. search needs) (λ c. tt))
+put-shown-spec = tie.close (tie.spec Inv-loop μ-loop (λ c. (search needs, refl)) (λ _ _. tt) (λ _ _. tt) (λ _ _. tt) (λ c. search needs)
+    (λ c. search needs) (λ c. search needs) (λ c. search needs) (λ c. tt))

@@ -11,4 +11,5 @@ abbrev μ-loop : tie.MeasureT-loop
 μ-loop s from to end₀ end = end
 
 pub before-blanks-spec : {M : Type 1} → statement M
-before-blanks-spec = tie.close (tie.spec Inv-loop μ-loop (λ c. search needs) (λ c. search needs) (λ _ _. tt) (λ _ _. tt) (λ c. tt) (λ c. search needs) (λ c. search needs) (λ c. search needs) (λ c. tt))
+before-blanks-spec = tie.close (tie.spec Inv-loop μ-loop (λ c. search needs) (λ c. search needs) (λ _ _. tt) (λ _ _. tt) (λ c. tt) (λ c. search needs)
+    (λ c. search needs) (λ c. search needs) (λ c. tt))

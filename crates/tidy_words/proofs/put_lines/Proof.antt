@@ -11,4 +11,6 @@ abbrev μ-loop : tie.MeasureT-loop
 μ-loop out₀ s lines at₀ next₀ untaken₀ seen₀ i₀ out at next untaken seen i = lines - i
 
 pub put-lines-spec : {M : Type 1} → statement M
-put-lines-spec = tie.close (tie.spec Inv-loop μ-loop (λ _ _. tt) (λ _ _. tt) (λ _ _. tt) (λ c. (search needs, refl)) (λ c. search needs) (λ c. tt) (λ _ _. tt) (λ _ _. tt) (λ _ _. tt) (λ _ _. tt) (λ _ _. tt) (λ _ _. tt) (λ _ _. tt) (λ _ _. tt) (λ c. search needs) (λ c. search needs) (λ c. search needs) (λ c. search needs) (λ c. tt))
+put-lines-spec = tie.close (tie.spec Inv-loop μ-loop (λ _ _. tt) (λ _ _. tt) (λ _ _. tt) (λ c. (search needs, refl)) (λ c. search needs) (λ c. tt)
+    (λ _ _. tt) (λ _ _. tt) (λ _ _. tt) (λ _ _. tt) (λ _ _. tt) (λ _ _. tt) (λ _ _. tt) (λ _ _. tt) (λ c. search needs) (λ c. search needs)
+    (λ c. search needs) (λ c. search needs) (λ c. tt))
