@@ -9,38 +9,23 @@ const SHOWN: usize = 72;
 
 const QUOTED: usize = 24;
 
-// Where each reason starts, and where the last one ends.
-const STARTS: [usize; 10] = [0, 28, 71, 123, 154, 175, 194, 215, 233, 255];
-
-// Some of the bytes of the reasons.
-fn put_words(out: &mut [u8], at: usize, bytes: &[u8], start: usize, end: usize) -> usize {
-    if end <= bytes.len() {
-        if start <= end {
-            return text::words(out, at, &bytes[start..end]);
-        }
-    }
-    at
-}
-
 // The words of a reason by its number.
-fn put_reason(out: &mut [u8], at: usize, reason: usize) -> usize {
-    if 8 < reason {
-        return at;
-    }
-    put_words(
+fn put_reason(out: &mut [u8], at: usize, reason: u16) -> usize {
+    text::nth_form(
         out,
         at,
-        b"a table has at most 32 tasks\
-            too few fields: C, Tmin, Tmax and E are due\
-            too many fields: a name, C, Tmin, Tmax and E are due\
-            the name has more than 20 bytes\
-            the name is not UTF-8\
-            a number is missing\
-            is not a whole number\
-            begins with a zero\
-            is above 4,294,967,295",
-        STARTS[reason],
-        STARTS[reason + 1],
+        b"a table has at most 32 tasks|\
+            too few fields: C, Tmin, Tmax and E are due|\
+            too many fields: a name, C, Tmin, Tmax and E are due|\
+            the name has more than 20 bytes|\
+            the name is not UTF-8|\
+            five numbers: a name must not be a number|\
+            a number is missing|\
+            is not a whole number|\
+            begins with a zero|\
+            is above 4,294,967,295|",
+        reason,
+        &[],
     )
 }
 
@@ -65,27 +50,28 @@ fn is_digits(s: &[u8], part: Part) -> bool {
 }
 
 // Why a part is no number, by the number of the reason.
-fn reason_of_number(s: &[u8], part: Part) -> usize {
+fn reason_of_number(s: &[u8], part: Part) -> u16 {
     if part.end <= part.start {
-        return 5;
-    }
-    if !is_digits(s, part) {
         return 6;
     }
-    if loose_line::byte_at(s, part.start) == b'0' {
+    if !is_digits(s, part) {
         return 7;
     }
-    8
+    if loose_line::byte_at(s, part.start) == b'0' {
+        return 8;
+    }
+    9
 }
 
 // The number of the reason of a fault; a line without one is surplus.
-fn reason_of(s: &[u8], part: Part, fault: Fault) -> usize {
+fn reason_of(s: &[u8], part: Part, fault: Fault) -> u16 {
     match fault {
         Fault::None => 0,
         Fault::TooFew => 1,
         Fault::TooMany => 2,
         Fault::LongName => 3,
         Fault::OddName => 4,
+        Fault::NumberForName => 5,
         Fault::NoNumber(_) => reason_of_number(s, part),
     }
 }
@@ -102,6 +88,7 @@ fn part_of(s: &[u8], line: Line, fault: Fault) -> Part {
         Fault::TooMany => loose_line::field(s, line, 5),
         Fault::LongName => loose_line::field(s, line, 0),
         Fault::OddName => loose_line::field(s, line, 0),
+        Fault::NumberForName => loose_line::field(s, line, 0),
         Fault::NoNumber(number) => loose_line::field(s, line, number),
     }
 }
@@ -159,8 +146,8 @@ fn columns(s: &[u8], from: usize, to: usize) -> usize {
 }
 
 // The field in quotes, where the reason is one of a number that stands there, and the reason.
-fn put_why(out: &mut [u8], at: usize, s: &[u8], part: Part, reason: usize) -> usize {
-    if reason < 6 {
+fn put_why(out: &mut [u8], at: usize, s: &[u8], part: Part, reason: u16) -> usize {
+    if reason < 7 {
         return put_reason(out, at, reason);
     }
     let opened = text::byte(out, at, b'"');

@@ -19,6 +19,7 @@ pub enum Fault {
     TooMany,
     LongName,
     OddName,
+    NumberForName,
     NoNumber(usize),
 }
 
@@ -117,8 +118,11 @@ fn fault_of_numbers(s: &[u8], line: Line, c: usize, tmin: usize, tmax: usize, e:
     Fault::None
 }
 
-// Why a line with a name cannot be taken.
+// Why a line with a name cannot be taken. Five numbers are not, since nobody can tell whether the first is a name or the last too many.
 fn fault_of_named(s: &[u8], line: Line) -> Fault {
+    if is_number_at(s, line, 0) {
+        return Fault::NumberForName;
+    }
     let fault = fault_of_name(s, loose_line::field(s, line, 0));
     let Fault::None = fault else {
         return fault;
