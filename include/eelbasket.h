@@ -5,30 +5,30 @@
  * where the length is 0), and outputs overlap nothing else. Every call is total: any numbers and bytes may be passed, and bad ones are
  * refused by number, the first in the order that stands with each call. Number 0 is acceptance, with place 0.
  *
- *   No.  Given exactly when                                                Place
- *    1   the policy is not 1 to 5                                          0
- *    2   there are no processors, or more than 16 (policy 5, asked of a    0
- *        finder or the margin: than 1), or q is 0 or the edition neither
- *        1 nor 2 (where a station is asked; a kept table: q is 0)
- *    3   there are more than 32 tasks, or there would be after a join      the count (reading s settings: 2 + 2s, import: 32)
- *    4   policy 4, asked of the quick finder or the margin                 0
- *    5   a lent output holds fewer entries, rows or bytes than needed,     how many are needed
- *        or a proposal fewer entries
- *    6   a record is not good, such as one with C + 2w above Tmin,         the first such record, from 0
- *        or with a Tmin or Tmax that is no multiple of q
- *    7   no step from 0 to full compression passes                         0
- *    8   the sheet ends before or inside a field that is due               its length
- *    9   the settings count is not 2 to 5                                  0
- *   10   the result count is neither 0 nor the task count                  where it stands (writing: 0)
- *   11   there are bytes after the last section                            the first of them
- *   12   a record that is to leave is not there                            its number
- *   13   a proposal's processor is not 1 to m                              the first such task, from 0
- *   14   a proposal loads a processor above S, which is 1,000,000 parts    the lowest such processor, from 1
- *   15   policy 3, which is withdrawn: in the place of 1                   0
- *   16   a line of a text is bad                                           the first such line, from 0
- *   17   a clock's period is 0 or above 1,000,000,000                      the first such task, from 0
- *   18   checking a filled sheet: tasks stand there without results        0
- *   19   checking a filled sheet: a result differs                         the first such result, from 0
+ *  No.   Given exactly when                                                  Place
+ *    1   the policy is not 1 to 5                                            0
+ *    2   there are no processors, or more than 16 (policy 5, asked of a      0
+ *        finder or the margin: than 1), or q is 0 or the edition neither 1
+ *        nor 2 (where a station is asked; a kept table: q is 0)
+ *    3   there are more than 32 tasks, or there would be after a join        the count (reading s settings: 2 + 2s, import: 32)
+ *    4   policy 4, asked of the quick finder or the margin                   0
+ *    5   a lent output holds fewer entries, rows or bytes than needed, or a  how many are needed
+ *        proposal fewer entries
+ *    6   a record is not good, such as one with C + 2w above Tmin, or with   the first such record, from 0
+ *        a Tmin or Tmax that is no multiple of q
+ *    7   no step from 0 to full compression passes                           0
+ *    8   the sheet ends before or inside a field that is due                 its length
+ *    9   the settings count is not 2 to 5                                    0
+ *   10   the result count is neither 0 nor the task count                    where it stands (writing: 0)
+ *   11   there are bytes after the last section                              the first of them
+ *   12   a record that is to leave is not there                              its number
+ *   13   a proposal's processor is not 1 to m                                the first such task, from 0
+ *   14   a proposal loads a processor above S, which is 1,000,000 parts      the lowest such processor, from 1
+ *   15   policy 3, which is withdrawn: in the place of 1                     0
+ *   16   a line of a text is bad                                             the first such line, from 0
+ *   17   a clock's period is 0 or above 1,000,000,000                        the first such task, from 0
+ *   18   checking a filled sheet: tasks stand there without results          0
+ *   19   checking a filled sheet: a result differs                           the first such result, from 0
  *
  * A refusal writes nothing to what was lent, and its step, looks, margin, count or sheet is 0 (but for the looks and the relief of 7, and a
  * kept table is handed back as it was). An acceptance writes what its answer needs, and nothing past it. */
