@@ -47,7 +47,7 @@ int main(void) {
     told = eelbasket_quick(tasks, 7, station, periods, 7, processors, 7);
     printf("the quick finder is refused by %u: it does not serve policy 4\n", told.number);
     const struct eelbasket_station pooled = {.policy = 1, .m = 3, .w = 0, .q = 1, .edition = 1};
-    struct eelbasket_margin margin = eelbasket_margin(tasks, 7, pooled, 0);
+    struct eelbasket_told_margin margin = eelbasket_margin(tasks, 7, pooled, 0);
     printf("pooled, the same tasks have a margin of %lld parts at step 0\n", (long long)margin.margin);
     struct eelbasket_started started = eelbasket_clock_start(periods, 7, 4294967290u);
     struct eelbasket_clock clock = release(started.clock, 4294967290u);

@@ -31,15 +31,63 @@
  *   19   checking a filled sheet: a result differs                           the first such result, from 0
  *
  * A refusal writes nothing to what was lent, and its step, looks, margin, count or sheet is 0 (but for the looks and the relief of 7, and a
- * kept table is handed back as it was). An acceptance writes what its answer needs, and nothing past it. */
+ * kept table is handed back as it was). An acceptance writes what its answer needs, and nothing past it.
+ *
+ * The library keeps nothing from call to call, so that calls may be made at once from any threads on outputs of their own. It asks for memcpy
+ * and memset, and for nothing else. */
 #ifndef EELBASKET_H
 #define EELBASKET_H
 #include <stddef.h>
 #include <stdint.h>
 
-/* The most tasks of a table, and the bytes of the longest sheet. */
+#ifdef __cplusplus
+extern "C" {
+#define EELBASKET_ASSERT static_assert
+#else
+#define EELBASKET_ASSERT _Static_assert
+#endif
+
+/* The version; the most tasks of a table, processors of a station and cores of a job, the bytes of the longest sheet, the parts of a whole processor, the
+ * longest period in ticks and the greatest elasticity. */
+#define EELBASKET_VERSION "1.1.0"
 #define EELBASKET_MOST_TASKS 32
+#define EELBASKET_MOST_PROCESSORS 16
 #define EELBASKET_LONGEST_SHEET 720
+#define EELBASKET_SCALE 1000000
+#define EELBASKET_LONGEST_PERIOD 1000000000
+#define EELBASKET_GREATEST_ELASTICITY 1000000
+
+/* The policies. */
+enum eelbasket_policy {
+    EELBASKET_POOLED = 1,
+    EELBASKET_GLOBAL_EDF = 2,
+    EELBASKET_GLOBAL_RM = 3,
+    EELBASKET_FIRST_FIT = 4,
+    EELBASKET_ONE_CORE_RM = 5,
+};
+
+/* The refusals, as docs/refusals.txt names them. */
+enum eelbasket_refusal {
+    EELBASKET_NO_SUCH_POLICY = 1,
+    EELBASKET_MISSET = 2,
+    EELBASKET_TOO_MANY_TASKS = 3,
+    EELBASKET_POLICY_NOT_SERVED = 4,
+    EELBASKET_OUTPUT_TOO_SHORT = 5,
+    EELBASKET_BAD_RECORD = 6,
+    EELBASKET_NO_STEP_PASSES = 7,
+    EELBASKET_SHEET_ENDS = 8,
+    EELBASKET_WRONG_SETTINGS_COUNT = 9,
+    EELBASKET_WRONG_RESULT_COUNT = 10,
+    EELBASKET_BYTES_AFTER_LAST = 11,
+    EELBASKET_NO_SUCH_RECORD = 12,
+    EELBASKET_PROCESSOR_OUT_OF_RANGE = 13,
+    EELBASKET_PROCESSOR_OVERFULL = 14,
+    EELBASKET_POLICY_WITHDRAWN = 15,
+    EELBASKET_BAD_LINE = 16,
+    EELBASKET_BAD_PERIOD = 17,
+    EELBASKET_NO_RESULTS = 18,
+    EELBASKET_WRONG_RESULT = 19,
+};
 
 /* A task record: cost, shortest and longest period in ticks, elasticity. It is good with a swap cost w and a notch q when 1 <= C,
  * C + 2w <= Tmin, Tmin <= Tmax <= 1,000,000,000, E <= 1,000,000, and Tmin and Tmax are multiples of q. */
@@ -65,7 +113,7 @@ struct eelbasket_told { uint32_t number, step, looks; size_t place; };
 struct eelbasket_verdict { uint32_t number; size_t place; };
 
 /* What the margin tells: the right side of the policy's test minus the left. */
-struct eelbasket_margin { uint32_t number; size_t place; int64_t margin; };
+struct eelbasket_told_margin { uint32_t number; size_t place; int64_t margin; };
 
 /* The least passing step, each task's period and its processor (0: any). Refusals 1 or 15, 2, 3, 5, 6, 7; 5 where either output is short. */
 struct eelbasket_told eelbasket_plain(const struct eelbasket_task *rows, size_t tasks, struct eelbasket_station station,
@@ -77,18 +125,18 @@ struct eelbasket_told eelbasket_quick(const struct eelbasket_task *rows, size_t 
                                       uint32_t *periods, size_t periods_len, uint16_t *processors, size_t processors_len);
 
 /* The margin at any step, for policies 1, 2 and 5. Refusals 1 or 15, 2, 3, 4, 6. */
-struct eelbasket_margin eelbasket_margin(const struct eelbasket_task *rows, size_t tasks, struct eelbasket_station station, uint32_t step);
+struct eelbasket_told_margin eelbasket_margin(const struct eelbasket_task *rows, size_t tasks, struct eelbasket_station station, uint32_t step);
 
 /* ---- Relief ---- */
 
 /* What the relief tells: the plain finder's number, place and step, and with 7 the least step with one processor more, as a number: 0 for
  * none, else the step + 1. */
-struct eelbasket_relief { uint32_t number, step, more; size_t place; };
+struct eelbasket_told_relief { uint32_t number, step, more; size_t place; };
 
 /* The plain finder's answer; and where that is 7, what would relieve the table: the least step with one processor more, and without each
  * task, which is written as such a number to its entry of the output. More than 16 processors, and under policy 5 more than one, is none.
  * Any other answer, an acceptance too, writes nothing and tells 0. Refusals 1 or 15, 2, 3, 5, 6, 7. */
-struct eelbasket_relief eelbasket_relief(const struct eelbasket_task *rows, size_t tasks, struct eelbasket_station station,
+struct eelbasket_told_relief eelbasket_relief(const struct eelbasket_task *rows, size_t tasks, struct eelbasket_station station,
                                          uint32_t *without, size_t without_len);
 
 /* ---- A planner's proposal ---- */
@@ -203,4 +251,17 @@ struct eelbasket_started eelbasket_clock_start(const uint32_t *periods, size_t t
  * the furthest one given, and no task may fall 2,147,483,648 ticks behind. Refusal 3. */
 struct eelbasket_called eelbasket_clock_call(struct eelbasket_clock clock, uint32_t present);
 
+/* ---- The layout, as the proved code has it ---- */
+
+EELBASKET_ASSERT(sizeof(struct eelbasket_task) == 16 && sizeof(struct eelbasket_station) == 10 && sizeof(struct eelbasket_granted) == 8
+    && sizeof(struct eelbasket_wide_task) == 24 && offsetof(struct eelbasket_wide_task, tmin) == 12, "the layout of records");
+#if SIZE_MAX > 0xffffffff
+EELBASKET_ASSERT(sizeof(struct eelbasket_told) == 24 && sizeof(struct eelbasket_verdict) == 16 && sizeof(struct eelbasket_counted) == 24
+    && sizeof(struct eelbasket_reading) == 824 && sizeof(struct eelbasket_changed) == 608 && sizeof(struct eelbasket_called) == 288,
+    "the layout of what is told");
+#endif
+
+#ifdef __cplusplus
+}
+#endif
 #endif

@@ -133,17 +133,17 @@ struct eelbasket_told eelbasket_quick(const struct eelbasket_task *rows, size_t 
     return told(&tells);
 }
 
-struct eelbasket_margin eelbasket_margin(const struct eelbasket_task *rows, size_t tasks, struct eelbasket_station station, uint32_t step) {
+struct eelbasket_told_margin eelbasket_margin(const struct eelbasket_task *rows, size_t tasks, struct eelbasket_station station, uint32_t step) {
     struct proved_margin tells;
     proved_margin(&tells, rows, tasks, eight_bytes(&station, 0), station.edition, step);
-    return (struct eelbasket_margin){tells.number, (size_t)tells.place, tells.margin};
+    return (struct eelbasket_told_margin){tells.number, (size_t)tells.place, tells.margin};
 }
 
-struct eelbasket_relief eelbasket_relief(const struct eelbasket_task *rows, size_t tasks, struct eelbasket_station station,
+struct eelbasket_told_relief eelbasket_relief(const struct eelbasket_task *rows, size_t tasks, struct eelbasket_station station,
                                          uint32_t *without, size_t without_len) {
     struct proved_relief tells;
     proved_relief(&tells, rows, tasks, eight_bytes(&station, 0), station.edition, without, without_len);
-    return (struct eelbasket_relief){tells.number, tells.step, tells.more, (size_t)tells.place};
+    return (struct eelbasket_told_relief){tells.number, tells.step, tells.more, (size_t)tells.place};
 }
 
 struct eelbasket_verdict eelbasket_check_proposal(const struct eelbasket_task *rows, size_t tasks, struct eelbasket_station station,

@@ -67,7 +67,7 @@ void answer_margin(void) {
     struct eelbasket_station station = take_settings().station;
     size_t tasks = (size_t)take_number(2);
     uint32_t step = (uint32_t)take_number(4);
-    struct eelbasket_margin told = eelbasket_margin(lend_tasks(tasks), tasks, station, step);
+    struct eelbasket_told_margin told = eelbasket_margin(lend_tasks(tasks), tasks, station, step);
     put_verdict(told.number, told.place);
     put_number((uint64_t)told.margin, 8);
 }
@@ -78,7 +78,7 @@ void answer_relief(void) {
     size_t without_len = (size_t)take_number(1);
     const struct eelbasket_task *rows = lend_tasks(tasks);
     uint32_t *without = lend_to_write("the steps without each task", without_len * sizeof *without, NUMBER_BEFORE);
-    struct eelbasket_relief told = eelbasket_relief(rows, tasks, station, without, without_len);
+    struct eelbasket_told_relief told = eelbasket_relief(rows, tasks, station, without, without_len);
     put_verdict(told.number, told.place);
     put_number(told.step, 4);
     put_number(told.more, 4);
