@@ -69,7 +69,7 @@ line-iff L R D j pos = (
   λ h. omega (arith, ceil-enough (L - R) D pos, mul-le-mul-right D h),
 )
 
--- j steps on, the leftOf side has fallen by its own fall at each step
+-- j steps on, the left side has fallen by its own fall at each step
 test-line : (w : Weights) (sum x fall d j : ℕ) → (leftOf w sum x ≤ w .r) ↔ (leftOf w (sum + j * fall) (x + j * d) ≤ w .r + j * leftOf w fall d)
 test-line w sum x fall d j = (λ h. omega arith, λ h. omega arith)
 

@@ -45,7 +45,7 @@ pub value-more : (v d : ℕ) (ds : List ℕ) → valueFrom v (d ∷ ds) ≡ valu
 unfolding valueFrom
 value-more v d ds = refl
 
--- holding a value down on the way changes nothing of what is limited of the whole
+-- holding a value down on the way changes nothing of what is held of the whole
 pub value-held : (v w : ℕ) (ds : List ℕ) → limited v ≡ limited w → limited (valueFrom v ds) ≡ limited (valueFrom w ds)
 unfolding valueFrom
 value-held v w [] h = h

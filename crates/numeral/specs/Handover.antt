@@ -12,7 +12,7 @@ pub record Sized (text : List ℕ) (most r : ℕ) : Type 0 where
   pub is : r ≡ length text
   pub few : r ≤ most
 
--- what a run of digits says: the place after it, and its value, limited down
+-- what a run of digits says: the place after it, and its value, held down
 pub record Runs (s : List ℕ) (at : ℕ) (r : Run) : Type 0 where
   pub next-is : r .next ≡ pastDigits s at
   pub value-is : r .value ≡ limited (valueAt s at)

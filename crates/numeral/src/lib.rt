@@ -13,7 +13,7 @@ ghost use Rattle.numeral.specs.Handover.{Sized, Runs};
 // The greatest number that a text may hold.
 pub const MOST_NUMBER: u64 = 4_294_967_295;
 
-// A run of digits: its value, limited down at the number after the most, and the place after it.
+// A run of digits: its value, held down at the number after the most, and the place after it.
 pub struct Run {
     pub value: u64,
     pub next: usize,
@@ -68,7 +68,7 @@ fn is_digit(byte: u8) -> bool
     byte <= 57
 }
 
-// The value with one digit more, limited down, so that no run of digits is too long for it.
+// The value with one digit more, held down, so that no run of digits is too long for it.
 fn grown(value: u64, byte: u8) -> u64
     requires { ⌜ (value ≤ mostNumber + 1) × (isDigit byte ≡ true) ⌝ }
     ensures { λ r. ⌜ r ≡ limited (10 * value + (byte - 48)) ⌝ }

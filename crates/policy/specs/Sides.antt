@@ -29,7 +29,7 @@ rightSide FirstFit m n max = 0
 rightSide OneCoreRm m n max = boundOf n
 rightSide (Further q) m n max = 0
 
--- "the right side of the test minus the leftOf, as a signed number"
+-- "the right side of the test minus the left, as a signed number"
 unfoldable pub marginOf : Policy → ℕ → (ℕ → ℕ) → ℕ → ℤ
 marginOf p m load n = subℕ (rightSide p m n (maxTo load n)) (leftSide p m (sumTo load n) (maxTo load n))
 

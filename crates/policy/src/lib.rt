@@ -47,7 +47,7 @@ pub fn weights_of(policy: Policy, m: u16, n: usize) -> Weights
     }
 }
 
-// The leftOf side of the test, for a sum and a max.
+// The left side of the test, for a sum and a max.
 pub fn left_of(w: Weights, sum: u64, max: u64) -> u64
     requires { ⌜ Light w × (sum ≤ scale * mostTasks) × (max ≤ scale) ⌝ }
     ensures { λ r. ⌜ SideIs (leftOf w sum max) r ⌝ }
@@ -200,7 +200,7 @@ pub fn total_at(block: &[u32; Columns::ROOM], n: usize, k: u32) -> Total
     }
 }
 
-// The right side of the test minus the leftOf, as a signed number, of a policy that is weighed.
+// The right side of the test minus the left, as a signed number, of a policy that is weighed.
 pub fn margin_of(policy: Policy, m: u16, block: &[u32; Columns::ROOM], n: usize) -> i64
     requires { ⌜ Loads (now block) n × (1 ≤ m) × (m ≤ mostProcessors) × (isWeighed policy ≡ true) ⌝ }
     ensures { λ r. ⌜ r ≡ marginOf policy m (loadIn (now (block .entry))) n ⌝ }

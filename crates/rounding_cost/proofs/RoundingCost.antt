@@ -1,5 +1,5 @@
--- Ask 13, said of a call's answer under policy 1, under both editions, with any swap cost and any notch: an accepted plan's exact sum of cost outOf period is at
--- most m, and where the exact sum of cost outOf Tmin spares one part for each task the call is accepted at step 0; a part less is enough.
+-- Ask 13, said of a call's answer under policy 1, under both editions, with any swap cost and any notch: an accepted plan's exact sum of cost over period is at
+-- most m, and where the exact sum of cost over Tmin spares one part for each task the call is accepted at step 0; a part less is enough.
 -- Assumes nothing.
 use Rattle.ground.proofs.Kit.{ℕ, _+_, _-_, _*_, _≤_, _<_, min, Bool, true, List, _≡_, sym, _∙_, ap, subst, le-trans, mul-le-mul-right, arith, length, getD}
 use Rattle.ground.proofs.Kit.{le-leb, leb-true}
@@ -69,7 +69,7 @@ module _ (serves : Bool) (s : Settings) (rows : List Task) (n : ℕ) (pooled : m
         let on = all-on (s .swap) (s .notch) rows n (ready .none-bad) (ready .notched) i l in
         omega (arith, good .c-some, good .c-tmin, shortest-on (at (rowsUnder s rows n) i) good (s .notch) on k .low)
 
-  -- "an accepted plan's exact sum of cost outOf period is at most m", and its bottom is not 0
+  -- "an accepted plan's exact sum of cost over period is at most m", and its bottom is not 0
   pub plan-within : (k : ℕ) (oldPeriods oldProcessors periods processors : List ℕ)
       → Meets (outcome serves s rows n oldPeriods oldProcessors) (Accepted k) periods processors
       → (withinProcessors s rows n periods ≡ true) × (0 < costOverPeriod s rows n periods .bottom)
@@ -111,7 +111,7 @@ module _ (serves : Bool) (s : Settings) (rows : List Task) (n : ℕ) (pooled : m
       let less : s .m * scale - n ≤ s .m * scale - (n - 1) = omega arith in
       le-leb _ _ (le-trans (leb-true _ _ spares) (mul-le-mul-right (wanted .bottom) less))
 
-  -- "if the exact sum of cost outOf Tmin, times S, is at most m × S − n for n tasks, step 0 is accepted"
+  -- "if the exact sum of cost over Tmin, times S, is at most m × S − n for n tasks, step 0 is accepted"
   pub zero-accepted : (room : ℕ) → admission serves s rows n room ≡ verdict.Accepted → sparesParts s rows n ≡ true → found serves s rows n room ≡ accepted 0
   zero-accepted room a spares = fewer-parts-accepted room a (spares-fewer spares)
 

@@ -15,7 +15,7 @@ use Rattle.outcome.specs.Plan.{found}
 use Rattle.rounding_cost.specs.Exact.{Fraction, outOf}
 use Rattle.rounding_cost.specs.RoundingCost.{costOverTmin, sparesParts, sparesFewerParts}
 
--- the exact sum of cost outOf Tmin, whether it spares a part for each task, whether for each but one, and the number that a call hands back
+-- the exact sum of cost over Tmin, whether it spares a part for each task, whether for each but one, and the number that a call hands back
 pub record Line : Type 0 where
   pub sum : Fraction
   pub spares : Bool

@@ -52,7 +52,7 @@ tasksIn s = rowsAt noTasks taskSize taskAt s (recordsPlace (settingsCount s)) (t
 abbrev pub resultsIn : List ℕ → List Granted
 resultsIn s = rowsAt noResults grantedSize grantedAt s (grantedPlace (settingsCount s) (taskCount s)) (resultCount s)
 
--- the sheet that stands in bytes; neither policy nor processors nor records are demanded
+-- the sheet that stands in bytes; neither policy nor processors nor records are judged
 unfoldable pub sheetIn : List ℕ → Sheet
 sheetIn s =
     record {
@@ -62,7 +62,7 @@ sheetIn s =
       results = record { rows = resultsIn s; n = resultCount s };
     }
 
--- something is demanded: the rest where the test holds, else the refusal, with a sheet of zeros
+-- something is judged: the rest where the test holds, else the refusal, with a sheet of zeros
 abbrev pub judge : Bool → Refusal → Handed Sheet → Handed Sheet
 judge = demanded noSheet
 
