@@ -2,7 +2,8 @@
 // and not promised; each call is proved to stay within what is lent.
 use loose_field::Fault;
 use loose_line::Line;
-use loose_line::Part;
+use text::part;
+use text::part::Part;
 
 // How many bytes of a line, and of a field in the reason, are shown.
 const SHOWN: usize = 72;
@@ -41,7 +42,7 @@ fn is_digits(s: &[u8], part: Part) -> bool {
     let end = part.end;
     let mut i = part.start;
     while i < end {
-        if !is_digit(loose_line::byte_at(s, i)) {
+        if !is_digit(part::byte_at(s, i)) {
             return false;
         }
         i += 1;
@@ -57,7 +58,7 @@ fn reason_of_number(s: &[u8], part: Part) -> u16 {
     if !is_digits(s, part) {
         return 7;
     }
-    if loose_line::byte_at(s, part.start) == b'0' {
+    if part::byte_at(s, part.start) == b'0' {
         return 8;
     }
     9
@@ -120,7 +121,7 @@ fn put_shown(out: &mut [u8], at: usize, s: &[u8], part: Part) -> usize {
     let mut i = part.start;
     let mut next = at;
     while i < end {
-        next = text::byte(out, next, shown(loose_line::byte_at(s, i)));
+        next = text::byte(out, next, shown(part::byte_at(s, i)));
         i += 1;
     }
     next
@@ -139,7 +140,7 @@ fn columns(s: &[u8], from: usize, to: usize) -> usize {
     let mut i = from;
     let mut n: usize = 0;
     while i < to {
-        n = loose_line::raised(n, SHOWN, begins_character(loose_line::byte_at(s, i)));
+        n = part::raised(n, SHOWN, begins_character(part::byte_at(s, i)));
         i += 1;
     }
     n

@@ -1,11 +1,9 @@
 // What stands in the fields of a line as an office gives it: a task with or without a name, or why it is none. Nothing is promised of what is
 // found, since a text so read is handed on only where the strict import takes it.
 use loose_line::Line;
-use loose_line::Part;
 use numeral::Numeral;
-
-// How many bytes a name may have.
-pub const LONGEST_NAME: usize = 20;
+use text::part;
+use text::part::Part;
 
 // How many numbers a task has, and how many fields with its name.
 pub const NUMBERS: usize = 4;
@@ -81,7 +79,7 @@ fn is_plain_text(s: &[u8], part: Part) -> bool {
     let mut i = part.start;
     let mut due: u8 = 0;
     while i < end {
-        due = due_after(due, loose_line::byte_at(s, i));
+        due = due_after(due, part::byte_at(s, i));
         if 3 < due {
             return false;
         }
@@ -92,7 +90,9 @@ fn is_plain_text(s: &[u8], part: Part) -> bool {
 
 // Why a name cannot be taken.
 fn fault_of_name(s: &[u8], name: Part) -> Fault {
-    if (LONGEST_NAME as u64) < ground::less_or_zero(name.end as u64, name.start as u64) {
+    if (task_names::LONGEST_NAME as u64)
+        < ground::less_or_zero(name.end as u64, name.start as u64)
+    {
         return Fault::LongName;
     }
     if !is_plain_text(s, name) {

@@ -3,6 +3,7 @@
 use kinds::Table;
 use loose_field::Fault;
 use loose_line::Line;
+use text::part;
 
 // What a line is; one is surplus that is a task where the table is full.
 pub enum Kind {
@@ -57,7 +58,7 @@ impl Seen {
             return self;
         }
         Seen {
-            tasks: loose_line::raised(self.tasks, Table::MOST_TASKS, kind.is_task()),
+            tasks: part::raised(self.tasks, Table::MOST_TASKS, kind.is_task()),
             nothing: false,
         }
     }
@@ -77,7 +78,7 @@ fn begins_word(byte: u8) -> bool {
 // Whether a field begins with a letter.
 fn is_word_at(s: &[u8], line: Line, field: usize) -> bool {
     let part = loose_line::field(s, line, field);
-    begins_word(loose_line::byte_at(s, part.start))
+    begins_word(part::byte_at(s, part.start))
 }
 
 // Whether a line is words, as many as a task has fields.
@@ -120,7 +121,7 @@ pub fn kind_of(s: &[u8], line: Line, seen: Seen) -> Kind {
     if part.end <= part.start {
         return Kind::Blank;
     }
-    if loose_line::byte_at(s, part.start) == b'#' {
+    if part::byte_at(s, part.start) == b'#' {
         return Kind::Comment;
     }
     kind_of_fields(s, line, seen)

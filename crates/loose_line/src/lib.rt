@@ -1,11 +1,7 @@
 // One line of a text as an office or a spreadsheet gives it: where it ends, and where its fields stand. Nothing is promised of what is found,
 // since a text so read is handed on only where the strict import takes it.
-
-// From one place of a text to another, the second not in it.
-pub struct Part {
-    pub start: usize,
-    pub end: usize,
-}
+use text::part;
+use text::part::Part;
 
 // A line without the blanks around it, the byte between its fields, and how many fields it has, six where they are more.
 pub struct Line {
@@ -14,28 +10,13 @@ pub struct Line {
     pub fields: usize,
 }
 
-// The byte at a place, and 0 past the end.
-pub fn byte_at(s: &[u8], at: usize) -> u8 {
-    if at < s.len() { s[at] } else { 0 }
-}
-
 // Where a text begins: behind its byte order mark.
 pub fn first_line(s: &[u8]) -> usize {
-    if byte_at(s, 0) == 239 && byte_at(s, 1) == 187 && byte_at(s, 2) == 191 {
+    if part::byte_at(s, 0) == 239 && part::byte_at(s, 1) == 187 && part::byte_at(s, 2) == 191 {
         3
     } else {
         0
     }
-}
-
-// One more where something is so, and no more than the most.
-pub fn raised(n: usize, most: usize, is: bool) -> usize {
-    if is {
-        if n < most {
-            return n + 1;
-        }
-    }
-    n
 }
 
 // Whether a line begins at a place.
@@ -43,7 +24,7 @@ fn begins_line(s: &[u8], first: usize, at: usize) -> bool {
     if at <= first {
         return true;
     }
-    byte_at(s, at - 1) == b'\n'
+    part::byte_at(s, at - 1) == b'\n'
 }
 
 // How many lines a text has: as many as places where one begins.
@@ -51,7 +32,7 @@ pub fn lines_in(s: &[u8]) -> usize {
     let first = first_line(s);
     let mut n: usize = 0;
     for i in first..s.len() {
-        n = raised(n, s.len(), begins_line(s, first, i));
+        n = part::raised(n, s.len(), begins_line(s, first, i));
     }
     n
 }
@@ -60,21 +41,9 @@ fn is_blank(byte: u8) -> bool {
     byte == b' ' || byte == b'\t' || byte == b'\r'
 }
 
-// The first place from one to another at which a byte stands, or the other.
-pub fn find(s: &[u8], from: usize, to: usize, byte: u8) -> usize {
-    let mut i = from;
-    while i < to {
-        if byte_at(s, i) == byte {
-            return i;
-        }
-        i += 1;
-    }
-    i
-}
-
 // Where the line at a place ends: at its newline, or at the end of the text.
 pub fn line_end(s: &[u8], at: usize) -> usize {
-    find(s, at, s.len(), b'\n')
+    part::find(s, at, s.len(), b'\n')
 }
 
 // The place after a line that ends at a place.
@@ -85,7 +54,7 @@ pub fn after_line(s: &[u8], end: usize) -> usize {
 fn past_blanks(s: &[u8], from: usize, to: usize) -> usize {
     let mut i = from;
     while i < to {
-        if !is_blank(byte_at(s, i)) {
+        if !is_blank(part::byte_at(s, i)) {
             return i;
         }
         i += 1;
@@ -96,7 +65,7 @@ fn past_blanks(s: &[u8], from: usize, to: usize) -> usize {
 fn before_blanks(s: &[u8], from: usize, to: usize) -> usize {
     let mut end = to;
     while from < end {
-        if !is_blank(byte_at(s, end - 1)) {
+        if !is_blank(part::byte_at(s, end - 1)) {
             return end;
         }
         end -= 1;
@@ -119,7 +88,7 @@ fn fields_by(s: &[u8], part: Part, separator: u8) -> usize {
     let mut i = part.start;
     let mut n: usize = 1;
     while i < end {
-        n = raised(n, 6, byte_at(s, i) == separator);
+        n = part::raised(n, 6, part::byte_at(s, i) == separator);
         i += 1;
     }
     n
@@ -158,19 +127,7 @@ pub fn field(s: &[u8], line: Line, number: usize) -> Part {
     let separator = line.separator;
     let mut start = line.part.start;
     for _ in 0..number {
-        start = after_byte(find(s, start, end, separator), end);
+        start = after_byte(part::find(s, start, end, separator), end);
     }
-    trimmed(s, start, find(s, start, end, separator))
-}
-
-// Puts a part of a text at a place of a lent buffer.
-pub fn put_part(out: &mut [u8], at: usize, s: &[u8], part: Part) -> usize {
-    let start = part.start;
-    let end = part.end;
-    if end <= s.len() {
-        if start <= end {
-            return text::words(out, at, &s[start..end]);
-        }
-    }
-    at
+    trimmed(s, start, part::find(s, start, end, separator))
 }

@@ -3,6 +3,7 @@
 use loose_kind::Kind;
 use loose_kind::Seen;
 use loose_line::Line;
+use text::part;
 
 // How many bytes were written for a text, or that it has a line that cannot be taken.
 pub enum Loosened {
@@ -13,7 +14,7 @@ pub enum Loosened {
 // Puts a field of a line, and a byte behind it.
 fn put_field(s: &[u8], line: Line, field: usize, end: u8, out: &mut [u8], at: usize) -> usize {
     let part = loose_line::field(s, line, field);
-    let put = loose_line::put_part(out, at, s, part);
+    let put = part::put(out, at, s, part);
     text::byte(out, put, end)
 }
 
@@ -55,4 +56,26 @@ pub fn loosen(s: &[u8], out: &mut [u8]) -> Loosened {
         at = loose_line::after_line(s, end);
     }
     Loosened::Text(next)
+}
+
+// Keeps the name of a line that is a task, as that of the task of this number.
+fn keep_name(s: &[u8], line: Line, kind: Kind, task: usize, names: &mut [u8; task_names::ROOM]) {
+    if kind.is_task() {
+        task_names::keep_name(names, task, s, loose_field::name_of(s, line));
+    }
+}
+
+// Keeps the name of each task of a text.
+pub fn keep_names(s: &[u8], names: &mut [u8; task_names::ROOM]) {
+    let lines = loose_line::lines_in(s);
+    let mut at = loose_line::first_line(s);
+    let mut seen = Seen::start();
+    for _ in 0..lines {
+        let end = loose_line::line_end(s, at);
+        let line = loose_line::line_of(s, at, end);
+        let kind = loose_kind::kind_of(s, line, seen);
+        keep_name(s, line, kind, seen.tasks, names);
+        seen = seen.after(kind);
+        at = loose_line::after_line(s, end);
+    }
 }

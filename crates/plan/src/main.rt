@@ -129,7 +129,7 @@ fn put_asked(table_text: &[u8], as_sheet: bool, out: &mut [u8]) -> usize {
 // Puts the names of the tasks of a text below its plan.
 fn put_names(given: &[u8], out: &mut [u8], at: usize) -> usize {
     let mut names = [0u8; task_names::ROOM];
-    task_names::keep_names(given, &mut names);
+    loosen::keep_names(given, &mut names);
     task_names::put_names(out, at, &names, Table::MOST_TASKS)
 }
 

@@ -1,52 +1,51 @@
-// The names of tasks, kept beside their table as the office's text has them, for people to read. They are tested and not promised; each call is
-// proved to stay within what is lent.
+// The names of tasks, kept beside their table in one lent block, for people to read. They are tested and not promised; each call is proved to stay
+// within what is lent.
 use kinds::Table;
-use loose_kind::Kind;
-use loose_kind::Seen;
-use loose_line::Line;
-use loose_line::Part;
+use text::part;
+use text::part::Part;
+
+// How many bytes a name may have.
+pub const LONGEST_NAME: usize = 20;
 
 // Room for a name of the greatest length for each task; a byte that no name has is 0.
-pub const ROOM: usize = Table::MOST_TASKS * loose_field::LONGEST_NAME;
+pub const ROOM: usize = Table::MOST_TASKS * LONGEST_NAME;
 
 // How many bytes the longest list of names has: a line for each, and one above them.
-pub const LONGEST: usize = (Table::MOST_TASKS + 1) * (loose_field::LONGEST_NAME + 6);
+pub const LONGEST: usize = (Table::MOST_TASKS + 1) * (LONGEST_NAME + 6);
 
-// Keeps the name of a line that is a task, as that of the task of this number.
-fn keep_name(s: &[u8], line: Line, kind: Kind, task: usize, names: &mut [u8; ROOM]) {
-    if kind.is_task() {
-        if task < Table::MOST_TASKS {
-            let name = loose_field::name_of(s, line);
-            loose_line::put_part(names, task * loose_field::LONGEST_NAME, s, name);
-        }
+// Keeps a part of a text as the name of the task of this number.
+pub fn keep_name(names: &mut [u8; ROOM], task: usize, s: &[u8], name: Part) {
+    if task < Table::MOST_TASKS {
+        part::put(names, task * LONGEST_NAME, s, name);
     }
 }
 
-// Keeps the name of each task of a text.
-pub fn keep_names(s: &[u8], names: &mut [u8; ROOM]) {
-    let lines = loose_line::lines_in(s);
-    let mut at = loose_line::first_line(s);
-    let mut seen = Seen::start();
-    for _ in 0..lines {
-        let end = loose_line::line_end(s, at);
-        let line = loose_line::line_of(s, at, end);
-        let kind = loose_kind::kind_of(s, line, seen);
-        keep_name(s, line, kind, seen.tasks, names);
-        seen = seen.after(kind);
-        at = loose_line::after_line(s, end);
-    }
-}
-
-// Where the name of a task stands.
-fn name_at(names: &[u8; ROOM], task: usize) -> Part {
+// Where the name of a task stands, which is empty where it has none.
+pub fn name_at(names: &[u8; ROOM], task: usize) -> Part {
     if Table::MOST_TASKS <= task {
         return Part { start: 0, end: 0 };
     }
-    let start = task * loose_field::LONGEST_NAME;
+    let start = task * LONGEST_NAME;
     Part {
         start,
-        end: loose_line::find(names, start, start + loose_field::LONGEST_NAME, 0),
+        end: part::find(names, start, start + LONGEST_NAME, 0),
     }
+}
+
+// Puts the name of a task, or its number where it has none.
+fn put_called(out: &mut [u8], at: usize, names: &[u8; ROOM], task: usize) -> usize {
+    let name = name_at(names, task);
+    if name.end <= name.start {
+        return text::form(out, at, b"#", &[task as u64]);
+    }
+    part::put(out, at, names, name)
+}
+
+// Puts the same at the left of a column of so many characters.
+pub fn put_name(out: &mut [u8], at: usize, names: &[u8; ROOM], task: usize, width: usize) -> usize {
+    let put = put_called(out, at, names, task);
+    let blank = ground::less_or_zero(width as u64, part::columns(out, at, put) as u64);
+    text::repeated(out, put, b' ', blank as usize)
 }
 
 // Puts a line with the name of a task, where it has one.
@@ -56,7 +55,7 @@ fn put_named(out: &mut [u8], at: usize, names: &[u8; ROOM], task: usize) -> usiz
         return at;
     }
     let numbered = text::form(out, at, b"###  ", &[task as u64]);
-    let named = loose_line::put_part(out, numbered, names, name);
+    let named = part::put(out, numbered, names, name);
     text::byte(out, named, b'\n')
 }
 

@@ -4,6 +4,7 @@ use libc::STDERR_FILENO;
 use loose_kind::Kind;
 use loose_kind::Seen;
 use loose_line::Line;
+use text::part;
 
 // Room for all that is told: three lines for each line shown, and two more.
 pub const LONGEST: usize = 3_200;
@@ -21,13 +22,7 @@ const UNTAKEN: usize = 4;
 // Puts a line that cannot be taken, and nothing of another.
 fn put_line(out: &mut [u8], at: usize, s: &[u8], line: Line, kind: Kind, number: usize) -> usize {
     if kind.is_untaken() {
-        return fault_words::put_untaken(
-            out,
-            at,
-            s,
-            line,
-            loose_line::raised(number, MOST_COUNTED, true),
-        );
+        return fault_words::put_untaken(out, at, s, line, part::raised(number, MOST_COUNTED, true));
     }
     at
 }
@@ -47,7 +42,7 @@ fn put_lines(out: &mut [u8], s: &[u8]) -> usize {
         let line = loose_line::line_of(s, at, end);
         let kind = loose_kind::kind_of(s, line, seen);
         next = put_line(out, next, s, line, kind, i);
-        untaken = loose_line::raised(untaken, MOST_SHOWN, kind.is_untaken());
+        untaken = part::raised(untaken, MOST_SHOWN, kind.is_untaken());
         seen = seen.after(kind);
         at = loose_line::after_line(s, end);
     }
@@ -58,7 +53,7 @@ fn put_lines(out: &mut [u8], s: &[u8]) -> usize {
 fn count_one(counts: &mut [usize; KINDS], kind: Kind) {
     let i = ground::shorter(kind.number(), UNTAKEN);
     if i < KINDS {
-        counts[i] = loose_line::raised(counts[i], MOST_COUNTED, true);
+        counts[i] = part::raised(counts[i], MOST_COUNTED, true);
     }
 }
 

@@ -1,8 +1,8 @@
--- `loose_line::find` ends. Assumes nothing.
+-- `text::part::find` ends. Assumes nothing.
 -- The loop: no place before the first is looked at; what is left to be looked at falls.
 use Rattle.ground.proofs.Kit.{_-_, _≤_, needs}
-use Rattle.loose_line.proofs.find.Statement.{statement}
-use Rattle.loose_line.proofs.find.Tie as tie
+use Rattle.text.proofs.part.find.Statement.{statement}
+use Rattle.text.proofs.part.find.Tie as tie
 
 abbrev Inv-loop : tie.InvT-loop
 Inv-loop s from to byte i₀ i = from ≤ i

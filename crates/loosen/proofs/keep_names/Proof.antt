@@ -1,8 +1,8 @@
--- `task_names::keep_names` ends and stays within what is lent. Assumes nothing.
+-- `loosen::keep_names` ends and stays within what is lent. Assumes nothing.
 -- The loop: no more lines are taken than there are; how many are left falls.
 use Rattle.ground.proofs.Kit.{_-_, _≤_, needs}
-use Rattle.task_names.proofs.keep_names.Statement.{statement}
-use Rattle.task_names.proofs.keep_names.Tie as tie
+use Rattle.loosen.proofs.keep_names.Statement.{statement}
+use Rattle.loosen.proofs.keep_names.Tie as tie
 
 abbrev Inv-loop : tie.InvT-loop
 Inv-loop s names₀ lines at₀ seen₀ counter₀ names at seen counter = counter ≤ lines
