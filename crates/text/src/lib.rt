@@ -3,7 +3,7 @@
 pub mod part;
 
 use libc::STDOUT_FILENO;
-ghost use Prim.Native.Nat.{_+_, _≤_};
+ghost use Prim.Native.Nat.{_+_, _≤_, _<_};
 ghost use lib.ListN.{length};
 
 // Puts one byte; returns the place after it.
@@ -32,22 +32,76 @@ pub fn repeated(out: &mut [u8], at: usize, one: u8, count: usize) -> usize {
     next
 }
 
+// Bytes at the right of a column that is filled with one byte.
+fn right(out: &mut [u8], at: usize, bytes: &[u8], width: usize, filled: u8) -> usize {
+    let blank = ground::less_or_zero(width as u64, bytes.len() as u64);
+    let next = repeated(out, at, filled, blank as usize);
+    words(out, next, bytes)
+}
+
 // A number in decimal digits, at the right of a column that is filled with one byte.
 fn number(out: &mut [u8], at: usize, n: u64, width: usize, filled: u8) -> usize {
     let mut digits = [0u8; 20];
     let k = io::decimal(n, &mut digits);
-    let blank = ground::less_or_zero(width as u64, k as u64);
-    let next = repeated(out, at, filled, blank as usize);
-    words(out, next, &digits[..k])
+    right(out, at, &digits[..k], width, filled)
 }
 
-// How many `#` stand one after the other from a place on.
+// A comma between digits of which so many are put and so many are left, where these are threes.
+fn comma(out: &mut [u8], at: usize, put: usize, left: usize) -> usize {
+    if 0 < put && left % 3 == 0 {
+        return byte(out, at, b',');
+    }
+    at
+}
+
+// Digits with a comma before each three that are left.
+fn grouped(out: &mut [u8], digits: &[u8]) -> usize {
+    let n = digits.len();
+    let mut next: usize = 0;
+    for i in 0..n {
+        next = comma(out, next, i, n - i);
+        next = byte(out, next, digits[i]);
+    }
+    next
+}
+
+// A number with its thousands set apart, at the right of a column.
+fn apart(out: &mut [u8], at: usize, n: u64, width: usize) -> usize {
+    let mut digits = [0u8; 20];
+    let k = io::decimal(n, &mut digits);
+    let mut commas = [0u8; 26];
+    let end = grouped(&mut commas, &digits[..k]);
+    if end <= commas.len() {
+        return right(out, at, &commas[..end], width, b' ');
+    }
+    at
+}
+
+// A number at the right of a column, its thousands set apart or not.
+pub fn number_in(out: &mut [u8], at: usize, n: u64, width: usize, set_apart: bool) -> usize {
+    if set_apart {
+        return apart(out, at, n, width);
+    }
+    number(out, at, n, width, b' ')
+}
+
+// How many columns a number takes.
+pub fn width_of(n: u64, set_apart: bool) -> usize {
+    let mut scratch = [0u8; 26];
+    number_in(&mut scratch, 0, n, 0, set_apart)
+}
+
+// How many `#` or `@` stand one after the other from a place on, as the byte there does.
 fn column(shape: &[u8], from: usize) -> usize
-    requires { ⌜ from ≤ length (now shape) ⌝ }
+    requires { ⌜ from < length (now shape) ⌝ }
     ensures { λ r. ⌜ from + r ≤ length (now (shape .entry)) ⌝ }
 {
+    let mark = shape[from];
+    if mark != b'#' && mark != b'@' {
+        return 0;
+    }
     for i in from..shape.len() {
-        if shape[i] != b'#' {
+        if shape[i] != mark {
             return i - from;
         }
     }
@@ -64,7 +118,15 @@ fn due(numbers: &[u64], k: usize) -> u64 {
     if k < numbers.len() { numbers[k] } else { 0 }
 }
 
-// Puts a form: each run of `#` is a column for the next of the numbers, and every other byte stands for itself.
+// A number in a column of a form: `@` sets its thousands apart, `#` does not.
+fn put_due(out: &mut [u8], at: usize, n: u64, width: usize, mark: u8, before: u8) -> usize {
+    if mark == b'@' {
+        return apart(out, at, n, width);
+    }
+    number(out, at, n, width, filling(before))
+}
+
+// Puts a form: each run of `#` or `@` is a column for the next of the numbers, and every other byte stands for itself.
 pub fn form(out: &mut [u8], at: usize, shape: &[u8], numbers: &[u64]) -> usize {
     let mut next = at;
     let mut i: usize = 0;
@@ -72,13 +134,13 @@ pub fn form(out: &mut [u8], at: usize, shape: &[u8], numbers: &[u64]) -> usize {
     let mut before = b' ';
     while i < shape.len() {
         let width = column(shape, i);
+        let mark = shape[i];
         if width == 0 {
-            before = shape[i];
-            next = byte(out, next, before);
+            before = mark;
+            next = byte(out, next, mark);
             i += 1;
         } else {
-            let filled = filling(before);
-            next = number(out, next, due(numbers, used), width, filled);
+            next = put_due(out, next, due(numbers, used), width, mark, before);
             i += width;
             used += 1;
         }

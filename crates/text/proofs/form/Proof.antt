@@ -12,5 +12,5 @@ abbrev μ-loop : tie.MeasureT-loop
 
 pub form-spec : {M : Type 1} → statement M
 form-spec = tie.close (tie.spec Inv-loop μ-loop (λ c. (search needs, (search needs, refl))) (λ c κs. search needs) (λ c. search needs) (λ _ _. tt)
-    (λ c. search needs) (λ c. search needs) (λ c. search needs) (λ _ _. tt) (λ _ _. tt) (λ _ _. tt) (λ c. search needs) (λ c. search needs) (λ c. search needs)
+    (λ c. search needs) (λ c. search needs) (λ c. search needs) (λ _ _. tt) (λ _ _. tt) (λ c. search needs) (λ c. search needs) (λ c. search needs)
     (λ c. search needs) (λ c. search needs) (λ c. tt))
