@@ -4,16 +4,10 @@
 use kinds::Counted;
 use libc::STDIN_FILENO;
 use libc::STDOUT_FILENO;
+use loosen::fields;
 ghost use mathlib.Core.Path.{_≡_};
 ghost use Prim.Native.Nat.{_≤_};
 ghost use lib.ListN.{length, take};
-
-// Tells people what they should know of a text.
-fn tell(given: &[u8]) {
-    let mut told = [0u8; tidy_words::LONGEST];
-    let k = tidy_words::put_told(given, &mut told);
-    tidy_words::tell(&told, k);
-}
 
 // The sheet of a text, or the line of its refusal.
 fn enter(policy: &[u8], processors: &[u8], given: &[u8], out: &mut [u8; sheet::LONGEST]) -> usize
@@ -33,7 +27,7 @@ fn main() {
     let m = os::arg(2, &mut processors);
     let mut given = [0u8; tidy::LONGEST + 1];
     let n = io::read_full(STDIN_FILENO, &mut given);
-    tell(&given[..n]);
+    tidy_words::tell(&given[..n], fields::OF_TASK);
     let mut out = [0u8; sheet::LONGEST];
     let k = enter(&policy[..p], &processors[..m], &given[..n], &mut out);
     io::write_all(STDOUT_FILENO, &out[..k]);

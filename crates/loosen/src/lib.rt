@@ -1,9 +1,14 @@
-// A text as an office or a spreadsheet gives it, written as the strict import takes it. It promises nothing of what it writes, so nobody needs
-// to trust it: `tidy::tidied` hands on only what the strict import takes. It ends and stays within what is lent.
-use loose_kind::Kind;
-use loose_kind::Seen;
-use loose_line::Line;
+// A text as an office or a spreadsheet gives it, written as the strict import takes it, and the names in it. It promises nothing of what it finds
+// and writes, so nobody needs to trust it: `tidy::tidied` hands on only what the strict import takes. It ends and stays within what is lent.
+pub mod fields;
+pub mod line;
+pub mod survey;
+
+use line::Line;
 use text::part;
+
+// How many bytes a text may have.
+pub const LONGEST: usize = 16_384;
 
 // How many bytes were written for a text, or that it has a line that cannot be taken.
 pub enum Loosened {
@@ -13,7 +18,7 @@ pub enum Loosened {
 
 // Puts a field of a line, and a byte behind it.
 fn put_field(s: &[u8], line: Line, field: usize, end: u8, out: &mut [u8], at: usize) -> usize {
-    let part = loose_line::field(s, line, field);
+    let part = line::field(s, line, field);
     let put = part::put(out, at, s, part);
     text::byte(out, put, end)
 }
@@ -27,12 +32,9 @@ fn put_fields(s: &[u8], line: Line, first: u8, out: &mut [u8], at: usize) -> usi
     put_field(s, line, from + 3, b'\n', out, tmax)
 }
 
-// Puts the numbers of a line that is a task, and nothing of one that is passed over.
-fn put_line(s: &[u8], line: Line, kind: Kind, out: &mut [u8], at: usize) -> usize {
-    if !kind.is_task() {
-        return at;
-    }
-    if line.fields == loose_field::NUMBERS {
+// Puts the numbers of a line that is a task.
+fn put_line(s: &[u8], line: Line, out: &mut [u8], at: usize) -> usize {
+    if line.fields == fields::OF_TASK as usize {
         return put_fields(s, line, 0, out, at);
     }
     put_fields(s, line, 1, out, at)
@@ -40,42 +42,36 @@ fn put_line(s: &[u8], line: Line, kind: Kind, out: &mut [u8], at: usize) -> usiz
 
 // Puts a line for each task of a text.
 pub fn loosen(s: &[u8], out: &mut [u8]) -> Loosened {
-    let lines = loose_line::lines_in(s);
-    let mut at = loose_line::first_line(s);
+    let mut survey = [0usize; survey::ROOM];
+    survey::take(s, fields::OF_TASK, &mut survey);
+    if 0 < survey::count(&survey, survey::UNTAKEN) {
+        return Loosened::Bad;
+    }
+    let tasks = survey::count(&survey, survey::TASK);
     let mut next: usize = 0;
-    let mut seen = Seen::start();
-    for _ in 0..lines {
-        let end = loose_line::line_end(s, at);
-        let line = loose_line::line_of(s, at, end);
-        let kind = loose_kind::kind_of(s, line, seen);
-        if kind.is_untaken() {
-            return Loosened::Bad;
-        }
-        next = put_line(s, line, kind, out, next);
-        seen = seen.after(kind);
-        at = loose_line::after_line(s, end);
+    for i in 0..tasks {
+        next = put_line(s, survey::task_line(s, &survey, i), out, next);
     }
     Loosened::Text(next)
 }
 
-// Keeps the name of a line that is a task, as that of the task of this number.
-fn keep_name(s: &[u8], line: Line, kind: Kind, task: usize, names: &mut [u8; task_names::ROOM]) {
-    if kind.is_task() {
-        task_names::keep_name(names, task, s, loose_field::name_of(s, line));
+// Keeps the names of the tasks that a survey found, which have so many numbers.
+pub fn keep_names_of(
+    s: &[u8],
+    numbers: u8,
+    survey: &[usize; survey::ROOM],
+    names: &mut [u8; task_names::ROOM],
+) {
+    let tasks = survey::count(survey, survey::TASK);
+    for i in 0..tasks {
+        let line = survey::task_line(s, survey, i);
+        task_names::keep_name(names, i, s, fields::name_of(s, line, numbers));
     }
 }
 
 // Keeps the name of each task of a text.
 pub fn keep_names(s: &[u8], names: &mut [u8; task_names::ROOM]) {
-    let lines = loose_line::lines_in(s);
-    let mut at = loose_line::first_line(s);
-    let mut seen = Seen::start();
-    for _ in 0..lines {
-        let end = loose_line::line_end(s, at);
-        let line = loose_line::line_of(s, at, end);
-        let kind = loose_kind::kind_of(s, line, seen);
-        keep_name(s, line, kind, seen.tasks, names);
-        seen = seen.after(kind);
-        at = loose_line::after_line(s, end);
-    }
+    let mut survey = [0usize; survey::ROOM];
+    survey::take(s, fields::OF_TASK, &mut survey);
+    keep_names_of(s, fields::OF_TASK, &survey, names);
 }

@@ -11,6 +11,7 @@ use kinds::Settings;
 use kinds::Sheet;
 use kinds::Table;
 use libc::STDIN_FILENO;
+use loosen::fields;
 use office_sheet::Setting;
 
 // The settings that the words name, or the refusal of one that is no number.
@@ -151,18 +152,11 @@ fn put_tidy_plan(given: &[u8], as_sheet: bool, out: &mut [u8]) -> usize {
     put_named_plan(given, &exact[..k], as_sheet, out)
 }
 
-// Tells people what they should know of a text.
-fn tell(given: &[u8]) {
-    let mut told = [0u8; tidy_words::LONGEST];
-    let k = tidy_words::put_told(given, &mut told);
-    tidy_words::tell(&told, k);
-}
-
 fn main() {
     let as_sheet = wants_sheet();
     let mut given = [0u8; tidy::LONGEST + 1];
     let n = io::read_full(STDIN_FILENO, &mut given);
-    tell(&given[..n]);
+    tidy_words::tell(&given[..n], fields::OF_TASK);
     let mut out = [0u8; view_text::LONGEST + task_names::LONGEST];
     let k = put_tidy_plan(&given[..n], as_sheet, &mut out);
     text::write(&out, k);

@@ -11,7 +11,7 @@ ghost use Rattle.tidy.specs.Tidied.{strict, Tidies};
 ghost use Rattle.tidy.specs.Handover.{HandsOn};
 
 // How many bytes a text may have that is not the strict import's.
-pub const LONGEST: usize = 16_384;
+pub const LONGEST: usize = loosen::LONGEST;
 
 // What the strict import says of a text.
 fn asked(text: &[u8]) -> Counted
