@@ -15,7 +15,7 @@ def judge(holds, *lines):
         tell(line)
 
 def refusals():
-    """The refusals of docs/refusals.txt, and the reasons of 6, as `scripts/refusals` says them."""
+    """The refusals of docs/refusals.txt, the reasons for which a record is not good, and those of several cores, as `scripts/refusals` says them."""
     return json.loads(subprocess.run(['scripts/refusals', 'json'], capture_output=True, text=True, check=True).stdout)
 
 def finish(held=0, wrong=()):

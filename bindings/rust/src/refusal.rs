@@ -1,8 +1,8 @@
 //! The refusals, each with its number and its words. Printed by `scripts/refusals rust` from docs/refusals.txt.
 
-use std::fmt;
+use core::fmt;
 
-/// The reasons for which a record is not good, in the order in which they are looked for.
+/// The reasons for which a record is refused, in the order in which they are looked for.
 const REASONS: [&str; 7] = [
     "C is 0",
     "C + 2w is above Tmin",
@@ -143,7 +143,8 @@ impl fmt::Display for Refusal {
                 write!(f, "what is lent is too short: {place} entries or bytes are needed")
             }
             Refusal::BadRecord(place) => {
-                write!(f, "task {place} is not good: {}", REASONS.join(", or "))
+                write!(f, "task {place} is not good: {}", REASONS[0])?;
+                REASONS[1..].iter().try_for_each(|reason| write!(f, ", or {reason}"))
             }
             Refusal::NoStepPasses => {
                 write!(f, "the tasks fit at no step: lower C, or raise Tmax, E or m")
@@ -184,4 +185,4 @@ impl fmt::Display for Refusal {
     }
 }
 
-impl std::error::Error for Refusal {}
+impl core::error::Error for Refusal {}

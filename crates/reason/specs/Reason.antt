@@ -40,3 +40,15 @@ Says w q t NoNotch = (1 ≤ t .c) × Good (priced w t) × (q ≡ 0)
 Says w q t TminOffNotch = (1 ≤ t .c) × Good (priced w t) × (1 ≤ q) × (t .tmin % q ≡ 0 → ⊥)
 Says w q t TmaxOffNotch = (1 ≤ t .c) × Good (priced w t) × (1 ≤ q) × (t .tmin % q ≡ 0) × (t .tmax % q ≡ 0 → ⊥)
 Says w q t reason.the-variants.Good = (1 ≤ t .c) × Good (priced w t) × OnNotch q (priced w t)
+
+-- the number that tells a reason: 0 for a good record, then the limits in the documents' order, and last that there is no notch
+abbrev pub reasonNumber : reason.Reason → ℕ
+reasonNumber reason.the-variants.Good = 0
+reasonNumber NoCost = 1
+reasonNumber CostAboveTmin = 2
+reasonNumber TminAboveTmax = 3
+reasonNumber TmaxTooLong = 4
+reasonNumber ElasticityTooGreat = 5
+reasonNumber TminOffNotch = 6
+reasonNumber TmaxOffNotch = 7
+reasonNumber NoNotch = 8

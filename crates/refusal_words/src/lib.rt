@@ -31,18 +31,39 @@ pub fn sentence(out: &mut [u8], at: usize, number: u16, place: usize) -> usize {
     )
 }
 
-// Why a record is not good, behind a colon, by the number of the reason.
+// Why a record is not good, behind a colon, by the number of the reason; nothing of a good one, whose number is 0.
 pub fn reason(out: &mut [u8], at: usize, number: u16) -> usize {
     text::nth_form(
         out,
         at,
-        b": C is 0|\
+        b"|\
+            : C is 0|\
             : C + 2w is above Tmin|\
             : Tmin is above Tmax|\
             : Tmax is above 1,000,000,000|\
             : E is above 1,000,000|\
             : Tmin is not a multiple of q|\
-            : Tmax is not a multiple of q|",
+            : Tmax is not a multiple of q|\
+            : q is 0|",
+        number,
+        &[],
+    )
+}
+
+// The same for a job that needs several cores.
+pub fn wide_reason(out: &mut [u8], at: usize, number: u16) -> usize {
+    text::nth_form(
+        out,
+        at,
+        b"|\
+            : L is 0|\
+            : L is not below Tmin|\
+            : L is not below C|\
+            : C is not above Tmax|\
+            : C is above 16 times Tmin|\
+            : Tmin is above Tmax|\
+            : Tmax is above 1,000,000,000|\
+            : E is above 1,000,000|",
         number,
         &[],
     )

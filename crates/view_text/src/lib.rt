@@ -12,7 +12,6 @@ use kinds::Sheet;
 use kinds::Table;
 use kinds::Task;
 use kinds::Verdict;
-use reason::Reason;
 
 // Room for every view: 32 tasks, 16 processors and ten lines besides, of 80 columns.
 pub const LONGEST: usize = 4_800;
@@ -115,20 +114,10 @@ fn put_room(out: &mut [u8], at: usize, x: Sheet, step: u32) -> usize {
     put_loads(out, at, settings.m, &loads)
 }
 
-// The number of the reason for which a record is not good; none where q is 0, which is refused before.
+// The number of the reason for which a record is not good.
 fn reason_of(task: Task, settings: Settings) -> u16 {
     let reason = reason::reason_of(task, settings.swap, settings.notch);
-    match reason {
-        Reason::NoCost => 0,
-        Reason::CostAboveTmin => 1,
-        Reason::TminAboveTmax => 2,
-        Reason::TmaxTooLong => 3,
-        Reason::ElasticityTooGreat => 4,
-        Reason::TminOffNotch => 5,
-        Reason::TmaxOffNotch => 6,
-        Reason::NoNotch => 7,
-        Reason::Good => 7,
-    }
+    reason.number()
 }
 
 // The line of a refusal, and one sentence on what to look at, without an end.
