@@ -30,8 +30,8 @@
  *   18   checking a filled sheet: tasks stand there without results          0
  *   19   checking a filled sheet: a result differs                           the first such result, from 0
  *
- * A refusal writes nothing to what was lent, and its step, looks, margin, count or sheet is 0 (but for the looks and the relief of 7, and a
- * kept table is handed back as it was). An acceptance writes what its answer needs, and nothing past it.
+ * A refusal writes nothing to what was lent, and its step, looks, margin, count or sheet is 0 (but for the looks of 7, and a kept table is
+ * handed back as it was). An acceptance writes what its answer needs, and nothing past it.
  *
  * The library keeps nothing from call to call, so that calls may be made at once from any threads on outputs of their own. It asks for memcpy
  * and memset, and for nothing else. */
@@ -129,13 +129,13 @@ struct eelbasket_told_margin eelbasket_margin(const struct eelbasket_task *rows,
 
 /* ---- Relief ---- */
 
-/* What the relief tells: the plain finder's number, place and step, and with 7 the least step with one processor more, as a number: 0 for
- * none, else the step + 1. */
-struct eelbasket_told_relief { uint32_t number, step, more; size_t place; };
+/* What the relief tells: the least step of the table as it stands, and with one processor more, each as a number: 0 for none, else the
+ * step + 1. */
+struct eelbasket_told_relief { uint32_t number, least, more; size_t place; };
 
-/* The plain finder's answer; and where that is 7, what would relieve the table: the least step with one processor more, and without each
- * task, which is written as such a number to its entry of the output. More than 16 processors, and under policy 5 more than one, is none.
- * Any other answer, an acceptance too, writes nothing and tells 0. Refusals 1 or 15, 2, 3, 5, 6, 7. */
+/* What would relieve a table that fits at no step, or ease one that fits: the least step with one processor more, and without each task, which
+ * is written as such a number to its entry of the output. More than 16 processors, and under policy 5 more than one, is none. That no step
+ * passes is no refusal here: least is 0. Refusals 1 or 15, 2, 3, 5, 6. */
 struct eelbasket_told_relief eelbasket_relief(const struct eelbasket_task *rows, size_t tasks, struct eelbasket_station station,
                                          uint32_t *without, size_t without_len);
 
@@ -151,13 +151,52 @@ struct eelbasket_verdict eelbasket_check_proposal(const struct eelbasket_task *r
 
 /* ---- Jobs that need several cores ---- */
 
-/* A task record with a span: cost, span, shortest and longest period in ticks, elasticity. */
+/* A task record with a span: cost, span, shortest and longest period in ticks, elasticity. It is good when 1 <= L < Tmin, L < C, Tmax < C,
+ * C <= 16 * Tmin, Tmin <= Tmax <= 1,000,000,000 and E <= 1,000,000. */
 struct eelbasket_wide_task { uint64_t c; uint32_t l, tmin, tmax, e; };
 
 /* The least passing step on m processors, each task's period and how many cores it takes; no looks, and no swap cost, notch or edition
  * counts here. Refusals 2, 3, 5, 6, 7. */
 struct eelbasket_told eelbasket_wide(const struct eelbasket_wide_task *rows, size_t tasks, uint16_t m,
                                      uint32_t *periods, size_t periods_len, uint16_t *cores, size_t cores_len);
+
+/* ---- One record ---- */
+
+/* Why a task record is not good: the first limit that it breaks, in the documents' order. The last is given where the others are kept and q
+ * is 0. */
+enum eelbasket_reason_number {
+    EELBASKET_GOOD = 0,
+    EELBASKET_NO_COST = 1,
+    EELBASKET_COST_ABOVE_TMIN = 2,
+    EELBASKET_TMIN_ABOVE_TMAX = 3,
+    EELBASKET_TMAX_TOO_LONG = 4,
+    EELBASKET_ELASTICITY_TOO_GREAT = 5,
+    EELBASKET_TMIN_OFF_NOTCH = 6,
+    EELBASKET_TMAX_OFF_NOTCH = 7,
+    EELBASKET_NO_NOTCH = 8,
+};
+
+/* The same for a task that needs several cores. */
+enum eelbasket_wide_reason_number {
+    EELBASKET_WIDE_GOOD = 0,
+    EELBASKET_WIDE_NO_SPAN = 1,
+    EELBASKET_WIDE_SPAN_NOT_BELOW_TMIN = 2,
+    EELBASKET_WIDE_SPAN_NOT_BELOW_COST = 3,
+    EELBASKET_WIDE_COST_NOT_ABOVE_TMAX = 4,
+    EELBASKET_WIDE_COST_TOO_GREAT = 5,
+    EELBASKET_WIDE_TMIN_ABOVE_TMAX = 6,
+    EELBASKET_WIDE_TMAX_TOO_LONG = 7,
+    EELBASKET_WIDE_ELASTICITY_TOO_GREAT = 8,
+};
+
+/* The number of the first limit that a record breaks with a swap cost w and a notch q; 0 where it is good. It refuses nothing. */
+uint32_t eelbasket_reason(struct eelbasket_task task, uint16_t w, uint16_t q);
+
+/* The same for a task that needs several cores. It refuses nothing. */
+uint32_t eelbasket_wide_reason(struct eelbasket_wide_task task);
+
+/* The share of a record at any step, in parts of EELBASKET_SCALE; 0 where it is not good. Of the station w and q count. It refuses nothing. */
+uint32_t eelbasket_share(struct eelbasket_task task, struct eelbasket_station station, uint32_t step);
 
 /* ---- Station sheets ---- */
 

@@ -13,7 +13,7 @@ typedef uint64_t usize;
 struct proved_told { uint32_t number, step, looks; usize place; };
 struct proved_verdict { uint32_t number; usize place; };
 struct proved_margin { uint32_t number; usize place; int64_t margin; };
-struct proved_relief { uint32_t number, step, more; usize place; };
+struct proved_relief { uint32_t number, least, more; usize place; };
 struct proved_counted { uint32_t number; usize place, count; };
 struct proved_part { uint32_t which; usize place, size; };
 struct proved_table { struct eelbasket_task rows[EELBASKET_MOST_TASKS]; usize n; };
@@ -39,6 +39,9 @@ void proved_relief(struct proved_relief *, const struct eelbasket_task *, usize,
 void proved_check_proposal(struct proved_verdict *, const struct eelbasket_task *, usize, usize, uint16_t, uint32_t, const uint16_t *, usize,
                            uint32_t *, usize);
 void proved_wide(struct proved_told *, const struct eelbasket_wide_task *, usize, uint16_t, uint32_t *, usize, uint16_t *, usize);
+void proved_reason(uint32_t *, uint64_t, uint64_t, uint16_t, uint16_t);
+void proved_wide_reason(uint32_t *, const struct eelbasket_wide_task *);
+void proved_share(uint32_t *, uint64_t, uint64_t, usize, uint16_t, uint32_t);
 void proved_read(struct proved_reading *, const uint8_t *, usize);
 void proved_write(struct proved_counted *, const struct proved_sheet *, uint8_t *, usize);
 void proved_fill(struct proved_counted *, const uint8_t *, usize, uint8_t *);
@@ -143,7 +146,7 @@ struct eelbasket_told_relief eelbasket_relief(const struct eelbasket_task *rows,
                                          uint32_t *without, size_t without_len) {
     struct proved_relief tells;
     proved_relief(&tells, rows, tasks, eight_bytes(&station, 0), station.edition, without, without_len);
-    return (struct eelbasket_told_relief){tells.number, tells.step, tells.more, (size_t)tells.place};
+    return (struct eelbasket_told_relief){tells.number, tells.least, tells.more, (size_t)tells.place};
 }
 
 struct eelbasket_verdict eelbasket_check_proposal(const struct eelbasket_task *rows, size_t tasks, struct eelbasket_station station,
@@ -159,6 +162,24 @@ struct eelbasket_told eelbasket_wide(const struct eelbasket_wide_task *rows, siz
     struct proved_told tells;
     proved_wide(&tells, rows, tasks, m, periods, periods_len, cores, cores_len);
     return told(&tells);
+}
+
+uint32_t eelbasket_reason(struct eelbasket_task task, uint16_t w, uint16_t q) {
+    uint32_t reason;
+    proved_reason(&reason, eight_bytes(&task, 0), eight_bytes(&task, 8), w, q);
+    return reason;
+}
+
+uint32_t eelbasket_wide_reason(struct eelbasket_wide_task task) {
+    uint32_t reason;
+    proved_wide_reason(&reason, &task);
+    return reason;
+}
+
+uint32_t eelbasket_share(struct eelbasket_task task, struct eelbasket_station station, uint32_t step) {
+    uint32_t share;
+    proved_share(&share, eight_bytes(&task, 0), eight_bytes(&task, 8), eight_bytes(&station, 0), station.edition, step);
+    return share;
 }
 
 struct eelbasket_reading eelbasket_read(const uint8_t *sheet, size_t sheet_len) {

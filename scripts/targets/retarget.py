@@ -14,8 +14,8 @@ PARAMETER = re.compile(r'(i\d+|ptr)(?: noundef)?( byval\(\[\d+ x i8\]\) align \d
 # what is left of x86-64 or exported, and what means something else where a pointer has 32 bits: a struct's layout, and a pointer as a number
 UNKNOWN = re.compile(r'^target .*|^define (?!internal ).*|.*(?:x86|"target-|ptrtoint|inttoptr).*'
                      r'|.*\b(?:alloca|getelementptr) (?!(?:inbounds |nuw )*(?:i\d+|ptr|\[\d+ x i\d+\]),).*', re.M)
-# the answer goes where the first parameter points, or comes back in two registers
-IN_MEMORY, IN_REGISTERS = 'noundef ptr', '{ i64, i64 }'
+# the answer goes where the first parameter points, or comes back in two registers, or is a number
+IN_MEMORY, IN_REGISTERS, NUMBER = 'noundef ptr', '{ i64, i64 }', 'noundef i32'
 
 def stop(why):
     sys.exit(f'retarget: {why}')
@@ -23,7 +23,7 @@ def stop(why):
 def proved(result, name, given):
     """The function proved_NAME, which calls eelbasket_NAME."""
     parameters = [PARAMETER.fullmatch(one) for one in given.split(', ')]
-    if not name.startswith('eelbasket_') or result not in (IN_MEMORY, IN_REGISTERS) or not all(parameters):
+    if not name.startswith('eelbasket_') or result not in (IN_MEMORY, IN_REGISTERS, NUMBER) or not all(parameters):
         stop(f'it is not known how {name} is called: {result} ({given})')
     taken = [f'{one[1]} %a{i}' for i, one in enumerate(parameters)]
     passed = ', '.join(f'{one[1]}{one[2] or ""} %a{i}' for i, one in enumerate(parameters))
@@ -31,7 +31,8 @@ def proved(result, name, given):
         body = f'  %answer = call ptr @{name}({passed})\n'
     else:
         taken.insert(0, 'ptr %out')
-        body = f'  %answer = call {result} @{name}({passed})\n  store {result} %answer, ptr %out, align 8\n'
+        came = result.removeprefix('noundef ')
+        body = f'  %answer = call {came} @{name}({passed})\n  store {came} %answer, ptr %out, align {4 if result == NUMBER else 8}\n'
     return f'\ndefine void @{name.replace("eelbasket", "proved", 1)}({", ".join(taken)}) nounwind {{\n{body}  ret void\n}}\n'
 
 def retarget(text):

@@ -10,6 +10,10 @@ void answer_relief(void);
 void answer_wide(void);
 void answer_proposal(void);
 
+/* on one record */
+void answer_record(void);
+void answer_wide_record(void);
+
 /* on sheets */
 void answer_read(void);
 void answer_write(void);

@@ -11,7 +11,7 @@
 static void (*const answers[])(void) = {
     answer_plain, answer_quick, answer_margin, answer_read,   answer_write,  answer_change_over, answer_fill,
     answer_wide,  answer_check, answer_clock,  answer_import, answer_export, answer_proposal,    answer_keep,
-    answer_relief,
+    answer_relief, answer_record, answer_wide_record,
 };
 
 int main(void) {

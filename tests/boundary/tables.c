@@ -1,4 +1,4 @@
-/* The calls on tables: kinds 1 to 3, 8, 13 and 15. */
+/* The calls on tables: kinds 1 to 3, 8, 13 and 15; and on one record: 16 and 17. */
 #include "answer.h"
 #include "eelbasket.h"
 #include "fault.h"
@@ -80,7 +80,7 @@ void answer_relief(void) {
     uint32_t *without = lend_to_write("the steps without each task", without_len * sizeof *without, NUMBER_BEFORE);
     struct eelbasket_told_relief told = eelbasket_relief(rows, tasks, station, without, without_len);
     put_verdict(told.number, told.place);
-    put_number(told.step, 4);
+    put_number(told.least, 4);
     put_number(told.more, 4);
     for (size_t i = 0; i < without_len; i++) put_number(without[i], 4);
 }
@@ -105,8 +105,7 @@ void answer_proposal(void) {
     for (size_t i = 0; i < loads_len; i++) put_number(loads[i], 4);
 }
 
-static const struct eelbasket_wide_task *lend_wide_tasks(size_t count) {
-    static struct eelbasket_wide_task rows[MOST_ROWS]; /* past the first 32 these stay zeros */
+static void take_wide_tasks(struct eelbasket_wide_task *rows, size_t count) {
     for (size_t i = 0; i < present(count); i++) {
         rows[i].c = take_number(8);
         rows[i].l = (uint32_t)take_number(4);
@@ -114,6 +113,11 @@ static const struct eelbasket_wide_task *lend_wide_tasks(size_t count) {
         rows[i].tmax = (uint32_t)take_number(4);
         rows[i].e = (uint32_t)take_number(4);
     }
+}
+
+static const struct eelbasket_wide_task *lend_wide_tasks(size_t count) {
+    static struct eelbasket_wide_task rows[MOST_ROWS]; /* past the first 32 these stay zeros */
+    take_wide_tasks(rows, count);
     return lend_to_read("the rows", rows, count * sizeof *rows);
 }
 
@@ -127,4 +131,19 @@ void answer_wide(void) {
     expect_no_looks(told);
     put_step(told);
     put_outputs(&lent);
+}
+
+void answer_record(void) {
+    struct eelbasket_station station = take_settings().station;
+    uint32_t step = (uint32_t)take_number(4);
+    struct eelbasket_task task;
+    take_tasks(&task, 1);
+    put_number(eelbasket_reason(task, station.w, station.q), 1);
+    put_number(eelbasket_share(task, station, step), 4);
+}
+
+void answer_wide_record(void) {
+    struct eelbasket_wide_task task;
+    take_wide_tasks(&task, 1);
+    put_number(eelbasket_wide_reason(task), 1);
 }

@@ -40,7 +40,7 @@ pub struct Margin {
 #[repr(C)]
 pub struct Relief {
     pub number: u32,
-    pub step: u32,
+    pub least: u32,
     pub more: u32,
     pub place: usize,
 }
@@ -150,6 +150,9 @@ extern "C" {
         cores: *mut u16,
         cores_len: usize,
     ) -> Told;
+    pub fn eelbasket_reason(task: Task, w: u16, q: u16) -> u32;
+    pub fn eelbasket_wide_reason(task: WideTask) -> u32;
+    pub fn eelbasket_share(task: Task, station: Station, step: u32) -> u32;
     pub fn eelbasket_read(sheet: *const u8, sheet_len: usize) -> Reading;
     pub fn eelbasket_write(sheet: Sheet, out: *mut u8, out_len: usize) -> Counted;
     pub fn eelbasket_fill(

@@ -1,10 +1,15 @@
 //! The finders and the margin.
 
 use crate::boundary::{self, judged};
-use crate::kinds::{Granted, Station, Task, WideTask};
+#[cfg(feature = "alloc")]
+use crate::kinds::Granted;
+use crate::kinds::{Station, Task, WideTask};
 use crate::refusal::Refusal;
+#[cfg(feature = "alloc")]
+use alloc::{vec, vec::Vec};
 
 /// An accepted plan.
+#[cfg(feature = "alloc")]
 #[derive(Clone, Debug, PartialEq, Eq)]
 pub struct Plan {
     /// The compression step: the least that passes.
@@ -25,6 +30,7 @@ pub struct Looked {
 /// The plan of some tasks: the least passing step, and each task's period and processor.
 ///
 /// Refusals 1 or 15, 2, 3, 6, 7.
+#[cfg(feature = "alloc")]
 pub fn find(tasks: &[Task], station: Station) -> Result<Plan, Refusal> {
     let (mut periods, mut processors) = (vec![0; tasks.len()], vec![0; tasks.len()]);
     let step = plain(tasks, station, &mut periods, &mut processors)?;

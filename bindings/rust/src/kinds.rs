@@ -153,6 +153,7 @@ impl Station {
         boundary::Station { policy: policy.number(), m, w, q, edition: edition.number() }
     }
 
+    #[cfg(feature = "alloc")]
     pub(crate) fn of(numbers: boundary::Station) -> Station {
         let boundary::Station { policy, m, w, q, edition } = numbers;
         Station { policy: Policy::of(policy), m, w, q, edition: Edition::of(edition) }

@@ -3,6 +3,8 @@
 use crate::boundary::{self, judged};
 use crate::kinds::{Station, Task};
 use crate::refusal::Refusal;
+#[cfg(feature = "alloc")]
+use alloc::{vec, vec::Vec};
 
 /// Whether the processor proposed for each task is from 1 to m, and the tasks load no processor above 1,000,000 parts at a step, whoever made
 /// the proposal: the load of each processor, from processor 1 on. The policy is not looked at, nor are entries past the tasks.
@@ -17,6 +19,7 @@ use crate::refusal::Refusal;
 /// assert_eq!(check_proposal(&tasks, station, 0, &[2, 1]), Ok(vec![600_000, 600_000]));
 /// assert_eq!(check_proposal(&tasks, station, 0, &[2, 2]), Err(Refusal::ProcessorOverfull(2)));
 /// ```
+#[cfg(feature = "alloc")]
 pub fn check_proposal(
     tasks: &[Task],
     station: Station,

@@ -1,14 +1,19 @@
 //! Station sheets.
 
 use crate::boundary::{self, judged};
+#[cfg(feature = "alloc")]
 use crate::kept::Table;
+#[cfg(feature = "alloc")]
 use crate::kinds::{Granted, Station, Task, MOST_TASKS};
 use crate::refusal::Refusal;
+#[cfg(feature = "alloc")]
+use alloc::vec::Vec;
 
 /// The bytes of the longest sheet.
 pub const LONGEST_SHEET: usize = 720;
 
 /// A station sheet.
+#[cfg(feature = "alloc")]
 #[derive(Clone, Debug, PartialEq, Eq)]
 pub struct Sheet {
     /// How many numbers its settings section has: the first 2 to 5 of policy, m, w, q and edition. A reading keeps it, and only
@@ -23,6 +28,7 @@ pub struct Sheet {
 }
 
 /// The first rows of some, with unused places after them.
+#[cfg(feature = "alloc")]
 fn front<T: Copy + Default>(rows: &[T]) -> [T; MOST_TASKS] {
     let mut held = [T::default(); MOST_TASKS];
     let count = rows.len().min(MOST_TASKS);
@@ -30,6 +36,7 @@ fn front<T: Copy + Default>(rows: &[T]) -> [T; MOST_TASKS] {
     held
 }
 
+#[cfg(feature = "alloc")]
 impl Sheet {
     /// Reads a sheet; it judges neither a number of the settings nor a record.
     ///
@@ -73,7 +80,7 @@ impl Sheet {
 
 /// Reads a sheet and writes it with the plain finder's results, replacing older ones; tells how many bytes it took.
 ///
-/// Refusals of [`Sheet::read`], then 1 or 15, 2, 6, 7.
+/// Refusals 8, 9, 3, 10, 11, whichever comes first from the left, then 1 or 15, 2, 6, 7.
 pub fn fill(sheet: &[u8], out: &mut [u8; LONGEST_SHEET]) -> Result<usize, Refusal> {
     // The pointer comes with its own length, and the output has the room that the call asks for.
     let counted = unsafe { boundary::eelbasket_fill(sheet.as_ptr(), sheet.len(), out) };
@@ -81,6 +88,7 @@ pub fn fill(sheet: &[u8], out: &mut [u8; LONGEST_SHEET]) -> Result<usize, Refusa
 }
 
 /// The bytes of a sheet with the plain finder's results, as [`fill`] writes them.
+#[cfg(feature = "alloc")]
 pub fn filled(sheet: &[u8]) -> Result<Vec<u8>, Refusal> {
     let mut out = [0; LONGEST_SHEET];
     let count = fill(sheet, &mut out)?;
@@ -89,7 +97,7 @@ pub fn filled(sheet: &[u8]) -> Result<Vec<u8>, Refusal> {
 
 /// Whether a filled sheet has the results that the plain finder gives.
 ///
-/// Refusals of [`Sheet::read`], then 1 or 15, 2, 6, 7, then 18, 19.
+/// Refusals 8, 9, 3, 10, 11, whichever comes first from the left, then 1 or 15, 2, 6, 7, then 18, 19.
 pub fn check(sheet: &[u8]) -> Result<(), Refusal> {
     // The pointer comes with its own length.
     let verdict = unsafe { boundary::eelbasket_check(sheet.as_ptr(), sheet.len()) };

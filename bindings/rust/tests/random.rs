@@ -3,8 +3,9 @@
 
 use eelbasket::{
     change_over, check, check_proposal, check_proposal_into, export, filled, import, margin, plain,
-    quick, relief, relief_into, wide, Clock, Edition, Granted, Index, Kept, Looked, Policy,
-    Refusal, Relief, Sheet, Station, Task, Which, WideTask,
+    quick, reason, relief, relief_into, share, wide, wide_reason, Clock, Edition, Granted, Index,
+    Kept, Looked, Policy, Reason, Refusal, Relief, Sheet, Station, Task, Which, WideReason,
+    WideTask,
 };
 use second::answer::{BUFFER_SENTINEL, PERIOD_SENTINEL, PROCESSOR_SENTINEL, ROW_SENTINEL};
 use second::call::{Call, Proposing, Rooms, Settings, Table, WideTable, Writing};
@@ -12,6 +13,7 @@ use second::clock_run::{Beginning, Run};
 use second::definition as by;
 use second::definition::keep::Change;
 use second::definition::kinds::Record;
+use second::definition::wide::WideRecord;
 use second::generator::Calls;
 use second::keeping::Keeping;
 use std::time::{SystemTime, UNIX_EPOCH};
@@ -29,6 +31,11 @@ fn ours<T>(answer: Result<T, Other>) -> Result<T, Refusal> {
 
 fn task(record: &Record) -> Task {
     Task::new(record.c, record.tmin, record.tmax, record.e)
+}
+
+fn wide_task(record: &WideRecord) -> WideTask {
+    let WideRecord { c, l, tmin, tmax, e } = *record;
+    WideTask { c, l, tmin, tmax, e }
 }
 
 fn granted(granted: &by::kinds::Granted) -> Granted {
@@ -76,26 +83,36 @@ fn same_quick(table: &Table, rooms: Rooms) {
     assert_eq!((periods, processors), due);
 }
 
-/// The number for one processor more, and the output; with room for just the tasks, the steps that both tell.
+/// What is told and the output; with room for just the tasks, the steps that both tell.
 fn same_relief(table: &Table, room: u8) {
     let tasks = rows(&table.rows, table.count, task);
     let mut without = vec![PERIOD_SENTINEL; usize::from(room)];
     let mut other = without.clone();
     let told = relief_into(&tasks, station(table.settings), &mut without);
-    let (answer, more) = by::relief::relief(&table.question(), &mut other);
-    assert_eq!((told, &without), ((ours(answer), more), &other));
+    let answer = ours(by::relief::relief(&table.question(), &mut other));
+    let step = |number: u32| number.checked_sub(1);
+    assert_eq!(told, answer.map(|told| (step(told.least), step(told.more))));
+    assert_eq!(without, other);
     if tasks.len() == usize::from(room) {
-        let steps = |relieved: Relief| (relieved.more, relieved.without);
-        let none = |number: u32| number.checked_sub(1);
-        let expected = match told {
-            (Ok(_), _) => Ok(None),
-            (Err(Refusal::NoStepPasses), more) => {
-                Ok(Some((none(more), other.into_iter().map(none).collect())))
-            }
-            (Err(refusal), _) => Err(refusal),
+        let steps = |(least, more)| {
+            let without = other.into_iter().map(step).collect();
+            Relief { least, more, without }
         };
-        assert_eq!(relief(&tasks, station(table.settings)).map(|told| told.map(steps)), expected);
+        assert_eq!(relief(&tasks, station(table.settings)), told.map(steps));
     }
+}
+
+fn same_record(settings: Settings, step: u32, record: &Record) {
+    let Settings { w, q, .. } = settings;
+    let number = reason(task(record), w, q).map_or(0, Reason::number);
+    assert_eq!(number, u32::from(by::reason::reason(*record, w, q)));
+    let parts = share(task(record), station(settings), step).unwrap_or(0);
+    assert_eq!(parts, by::share::share(*record, w, q, step));
+}
+
+fn same_wide_record(record: &WideRecord) {
+    let number = wide_reason(wide_task(record)).map_or(0, WideReason::number);
+    assert_eq!(number, u32::from(by::reason::wide_reason(*record)));
 }
 
 fn same_margin(table: &Table, step: u32) {
@@ -172,13 +189,7 @@ fn same_fill(input: &[u8]) {
 
 fn same_wide(table: &WideTable, rooms: Rooms) {
     let ((mut periods, mut cores), mut due) = (lent(rooms), lent(rooms));
-    let tasks = rows(&table.rows, table.count, |row| WideTask {
-        c: row.c,
-        l: row.l,
-        tmin: row.tmin,
-        tmax: row.tmax,
-        e: row.e,
-    });
+    let tasks = rows(&table.rows, table.count, wide_task);
     let answer = wide(&tasks, table.m, &mut periods, &mut cores);
     assert_eq!(answer, ours(by::wide::find_wide(&table.question(), &mut due.0, &mut due.1)));
     assert_eq!((periods, cores), due);
@@ -260,6 +271,8 @@ fn same(call: &Call) {
         Call::Proposal(asked) => same_proposal(asked),
         Call::Keep(asked) => same_keep(asked),
         Call::Relief(table, room) => same_relief(table, *room),
+        Call::Record { settings, step, record } => same_record(*settings, *step, record),
+        Call::WideRecord(record) => same_wide_record(record),
     }
 }
 

@@ -1,8 +1,6 @@
 -- No second answer meets what a call on a table promises: what is told, read as a call's own numbers, settles every field.
 -- Assumes nothing.
-use Prim.Native.Nat.{ℕ}
-use mathlib.Core.List.{List}
-use mathlib.Core.Path.{_≡_, sym, _∙_}
+use Rattle.ground.proofs.Kit.{ℕ, List, _≡_, sym, _∙_}
 use lib.IntN.{ℤ}
 use Rattle.kinds.specs.declared.Task.{Task}
 use Rattle.kinds.specs.declared.Settings.{Settings}
@@ -48,5 +46,6 @@ pub told-relief-one : (o : Relieved) (r q : ToldRelief) (without other : List �
     → (r ≡ q) × (without ≡ other)
 told-relief-one o r q without other a b =
     let e = a .answers ∙ sym (b .answers) in
-    let m = a .tells ∙ sym (b .tells) in
-    (λ i. record { number = e i .number; step = e i .value; more = m i; place = e i .place }, a .leaves ∙ sym (b .leaves))
+    let l = a .least-told ∙ sym (b .least-told) in
+    let m = a .more-told ∙ sym (b .more-told) in
+    (λ i. record { number = e i .number; least = l i; more = m i; place = e i .place }, a .leaves ∙ sym (b .leaves))

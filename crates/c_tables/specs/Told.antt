@@ -8,7 +8,7 @@ use lib.IntN.{ℤ}
 use lib.ListN.{length}
 use Rattle.kinds.specs.declared.Task.{Task}
 use Rattle.kinds.specs.declared.Settings.{Settings}
-use Rattle.kinds.specs.Answer.{Handed}
+use Rattle.kinds.specs.Answer.{Handed, NumberAndPlace}
 use Rattle.policy.specs.Under.{mostLooks}
 use Rattle.outcome.specs.Plan.{Outcome, outcome}
 use Rattle.quick_finder.specs.Looked.{looks}
@@ -26,8 +26,8 @@ toldHanded r = record { number = r .number; place = r .place; value = r .step }
 abbrev pub toldMargin : ToldMargin → Handed ℤ
 toldMargin r = record { number = r .number; place = r .place; value = r .margin }
 
-abbrev pub toldAnswer : ToldRelief → Handed ℕ
-toldAnswer r = record { number = r .number; place = r .place; value = r .step }
+abbrev pub toldRelief : ToldRelief → NumberAndPlace
+toldRelief r = record { number = r .number; place = r .place; value = tt }
 
 -- the plain finder's promise; it makes no looks
 pub record ToldMeets (o : Outcome) (r : Told) (periods processors : List ℕ) : Type 0 where
@@ -51,6 +51,7 @@ pub record ToldProposal (o : proposal.Outcome) (r : ToldVerdict) (loads : List �
 
 -- the relief's promise
 pub record ToldRelieved (o : Relieved) (r : ToldRelief) (without : List ℕ) : Type 0 where
-  pub answers : toldAnswer r ≡ o .handed
-  pub tells : r .more ≡ o .more
+  pub answers : toldRelief r ≡ o .handed
+  pub least-told : r .least ≡ o .least
+  pub more-told : r .more ≡ o .more
   pub leaves : without ≡ o .without

@@ -1,5 +1,6 @@
-// Calls on a table by value, in numbers. An enum does not cross to C, so a policy comes as its number, and an answer goes as document 01's
-// numbers: 0 for an acceptance. Contracts cite `specs/Told`, which reads the numbers as the calls' own promises. `eelbasket` exports these calls.
+// Calls on a table or on one record by value, in numbers. An enum does not cross to C, so a policy comes as its number, and an answer goes as
+// document 01's numbers: 0 for an acceptance. Contracts cite `specs/Told`, which reads the numbers as the calls' own promises. `eelbasket` exports
+// these calls.
 use c_numbers::Station;
 use c_numbers::ToldVerdict;
 use c_numbers::settings_of;
@@ -7,16 +8,21 @@ use c_numbers::tell_verdict;
 use kinds::Answer;
 use kinds::Margin;
 use kinds::Table;
+use kinds::Task;
 use kinds::Verdict;
 use wide_task::WideTable;
+use wide_task::WideTask;
 ghost use mathlib.Core.Bool.{true};
 ghost use mathlib.Core.Path.{_≡_};
 ghost use Rattle.kinds.specs.Answer.{handed};
+ghost use Rattle.share.specs.Share.{shareUnder};
 ghost use Rattle.outcome.specs.Plan.{outcome};
 ghost use Rattle.margin.specs.Margin.{marginHanded};
 ghost use Rattle.proposal.specs.Proposal as checker;
 ghost use Rattle.relief.specs.Relief.{relieved};
 ghost use Rattle.wide_finder.specs.Wide as wide;
+ghost use Rattle.reason.specs.Reason.{reasonOf, reasonNumber};
+ghost use Rattle.reason.specs.WideReason.{wideReasonOf, wideReasonNumber};
 ghost use Rattle.c_numbers.specs.Numbers.{stationSettings};
 ghost use Rattle.c_tables.specs.Told.{toldHanded, toldMargin, ToldMeets, ToldLooked, ToldProposal, ToldRelieved};
 
@@ -37,11 +43,11 @@ pub struct ToldMargin {
     pub margin: i64,
 }
 
-// Number, step and place of the plain finder, and with 7 the least step with one processor more, as a number.
+// Number and place, the least step and that with one processor more, each as a number: 0 for none, else the step + 1.
 #[repr(C)]
 pub struct ToldRelief {
     pub number: u32,
-    pub step: u32,
+    pub least: u32,
     pub more: u32,
     pub place: usize,
 }
@@ -121,16 +127,16 @@ pub fn margin_told(table: Table, station: Station, step: u32) -> ToldMargin
     }
 }
 
-// What would relieve a table by value that no step passes.
+// What would relieve a table by value.
 pub fn relief_told(table: Table, station: Station, without: &mut [u32]) -> ToldRelief
     ensures { λ r. ⌜ ToldRelieved (relieved (stationSettings station) (table .rows) (table .n) (now (without .entry))) r (now (without .exit)) ⌝ }
 {
     let relief = relief::relief_of(table, settings_of(station), without);
-    let answer = relief.answer;
-    let told = tell(answer, 0);
+    let verdict = relief.verdict;
+    let told = tell_verdict(verdict);
     ToldRelief {
         number: told.number,
-        step: told.step,
+        least: relief.least,
         more: relief.more,
         place: told.place,
     }
@@ -157,4 +163,28 @@ pub fn wide_told(table: WideTable, m: u16, periods: &mut [u32], cores: &mut [u16
         r (now (periods .exit)) (now (cores .exit)) ⌝ }
 {
     tell(wide_finder::find(table, m, periods, cores), 0)
+}
+
+// The number of the first limit that a record breaks where a swap costs w and a notch is q; 0 of a good one.
+pub fn reason_told(task: Task, w: u16, q: u16) -> u32
+    ensures { λ r. ⌜ r ≡ reasonNumber (reasonOf w q task) ⌝ }
+{
+    let reason = reason::reason_of(task, w, q);
+    reason.number() as u32
+}
+
+// The same of a task that needs several cores.
+pub fn wide_reason_told(task: WideTask) -> u32
+    ensures { λ r. ⌜ r ≡ wideReasonNumber (wideReasonOf task) ⌝ }
+{
+    let reason = reason::wide_reason_of(task);
+    reason.number() as u32
+}
+
+// The share of a record at any step; 0 where it is not good.
+pub fn share_told(task: Task, station: Station, step: u32) -> u32
+    ensures { λ r. ⌜ r ≡ shareUnder (stationSettings station) task step ⌝ }
+{
+    let share = share::share_at(task, settings_of(station), step);
+    share.parts as u32
 }

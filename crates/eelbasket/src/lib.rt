@@ -4,6 +4,7 @@
 // cross as the calls' own promises; the laws of `proofs/Bridge` tie what is told of a table to the lent records.
 mod clocked;
 mod kept;
+mod records;
 mod sheets;
 mod texts;
 
@@ -62,7 +63,7 @@ pub extern "C" fn eelbasket_margin(rows: &[Task], station: Station, step: u32) -
     c_tables::margin_told(lent_rows::gather(rows), station, step)
 }
 
-// What would relieve lent records that no step passes.
+// What would relieve lent records.
 #[no_mangle]
 pub extern "C" fn eelbasket_relief(
     rows: &[Task],

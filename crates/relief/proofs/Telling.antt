@@ -1,4 +1,5 @@
--- A least step told as a number: `told-at` and `told-none` say what it tells, `told-least` that of an admitted table it is demand 2's search.
+-- A least step told as a number: `told-at` and `told-none` say what it tells, `told-least` that of an admitted table it is demand 2's search; and
+-- what a finder's answer says of the admission, `admitted-is`.
 -- Assumes nothing.
 use Rattle.ground.proofs.Kit.{ℕ, _+_, _-_, _≤_, _<_, true, false, List, _≡_, refl, ap, arith, eq-eqb, ne-eqb}
 use lib.Dec.{lit<}
@@ -7,6 +8,7 @@ use Rattle.ground.specs.declared.Step.the-variants.{At, Nothing}
 use Rattle.kinds.specs.declared.Task.{Task}
 use Rattle.kinds.specs.declared.Settings.{Settings}
 use Rattle.kinds.specs.declared.Refusal.{Refusal}
+use Rattle.kinds.specs.declared.Refusal.the-variants.{NoStepPasses}
 use Rattle.kinds.specs.declared.Answer.{Answer}
 use Rattle.kinds.specs.declared.Answer.the-variants as answer
 use Rattle.kinds.specs.declared.Verdict.{Verdict}
@@ -16,17 +18,18 @@ use Rattle.kinds.specs.Refusal.{numberOf}
 use Rattle.kinds.specs.Limits.{mostTasks}
 use Rattle.kinds.specs.Policy.{meant, isFirstFit}
 use Rattle.kinds.specs.Task.{at}
+use Rattle.kinds.proofs.Answers.{handed-one}
 use Rattle.kinds.proofs.Refusals.{refusal-numbered}
 use Rattle.share.proofs.Tables.{all-good, full-most}
 use Rattle.policy.specs.Under.{rowsUnder, fullUnder, loadsUnder, leastUnder}
 use Rattle.policy.proofs.Demand.{step-at}
 use Rattle.policy.proofs.Under.{least-under-same}
 use Rattle.admission.specs.Admission.{admission}
-use Rattle.admission.proofs.Chain.{admitted, admission-serves}
+use Rattle.admission.proofs.Chain.{Unlike, admission-serves, admission-unlike}
 use Rattle.admission.proofs.Gated.{answer-same}
 use Rattle.outcome.specs.Plan.{decided, found}
 use Rattle.outcome.proofs.Found.{accepting}
-use Rattle.relief.specs.Relief.{toldStep, leastTold}
+use Rattle.relief.specs.Relief.{toldStep, leastTold, admittedBy}
 
 -- a refusal is told as 0
 pub refused-told : (r : Refusal) → toldStep (refused 0 r) ≡ 0
@@ -72,6 +75,22 @@ module _ (s : Settings) (rows : List Task) (n : ℕ) where
   told-refused h = decided-none (admission true s rows n n) (leastUnder s rows n) h
 
   module _ (room : ℕ) where
+    -- and so is what an answer for any room tells of an admitted table
+    pub told-roomy : admission true s rows n room ≡ Accepted → toldStep (found true s rows n room) ≡ told (leastUnder s rows n)
+    unfolding found
+    told-roomy a = rw a (decided-told (leastUnder s rows n))
+
+    -- a finder's answer comes of a table that the admission admits, or is its refusal
+    pub admitted-is : (x : Answer) → handed x ≡ found true s rows n room → admittedBy x ≡ admission true s rows n room
+    unfolding found
+    admitted-is x e = by (admission true s rows n room) (leastUnder s rows n) (admission-unlike true s rows n room) e
+      where
+        by : (a : Verdict) (step : Step) → Unlike 7 a → handed x ≡ decided a step → admittedBy x ≡ a
+        by (Refused r) step other e =
+            rw (handed-one x (answer.Refused r) e, ne-eqb (numberOf r) 7 other)
+        by Accepted (At k) other e = rw (handed-one x (answer.Accepted k) e)
+        by Accepted Nothing other e = rw (handed-one x (answer.Refused NoStepPasses) e)
+
     -- where policy 4 is not asked, a finder that does not serve it finds the same
     pub found-serves : isFirstFit (meant (s .policy)) ≡ false → found true s rows n room ≡ found false s rows n room
     unfolding found

@@ -1,1 +1,2 @@
 pub mod Relief
+pub mod Chain

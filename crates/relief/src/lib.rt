@@ -1,9 +1,10 @@
-// What would relieve a table that no step passes: one processor more, or one task fewer, each with the least step that passes then. Contracts
-// cite `specs/Relief`.
+// What would relieve a table: one processor more, or one task fewer, each with the least step that passes then, and that of the table as it
+// stands. Contracts cite `specs/Relief`.
 use kinds::Answer;
 use kinds::Refusal;
 use kinds::Settings;
 use kinds::Table;
+use kinds::Verdict;
 ghost use mathlib.Core.Bool.{true};
 ghost use mathlib.Core.List.{_++_};
 ghost use mathlib.Core.Path.{_≡_};
@@ -13,11 +14,12 @@ ghost use Rattle.ground.specs.Folds.{listTo};
 ghost use Rattle.kinds.specs.Answer.{handed, stepOf};
 ghost use Rattle.kinds.specs.Limits.{mostTasks, mostProcessors};
 ghost use Rattle.outcome.specs.Plan.{found};
-ghost use Rattle.relief.specs.Relief.{toldStep, leastTold, oneMore, leastWithout, isTold, relieved, MeetsRelief};
+ghost use Rattle.relief.specs.Relief.{toldStep, leastTold, oneMore, leastWithout, admittedBy, relieved, MeetsRelief};
 
-// The plain finder's answer, and where that is refusal 7 the least step with one processor more, told as a number: 0 for none, else the step + 1.
+// Whether the table is admitted, and where it is its least step and that with one processor more, told as numbers: 0 for none, else the step + 1.
 pub struct Relief {
-    pub answer: Answer,
+    pub verdict: Verdict,
+    pub least: u32,
     pub more: u32,
 }
 
@@ -86,28 +88,41 @@ fn write_without(table: Table, settings: Settings, out: &mut [u32])
     }
 }
 
-// Whether an answer is that no step passes.
-fn none_passes(answer: Answer) -> bool
-    ensures { λ r. ⌜ r ≡ isTold (handed answer) ⌝ }
+// Whether an answer comes of an admitted table: that no step passes is said of such a one only.
+fn admitted(answer: Answer) -> Verdict
+    ensures { λ r. ⌜ r ≡ admittedBy answer ⌝ }
 {
     let Answer::Refused(refusal) = answer else {
-        return false;
+        return Verdict::Accepted;
     };
     let seven = Refusal::NoStepPasses;
-    refusal.number() == seven.number()
+    if refusal.number() == seven.number() {
+        return Verdict::Accepted;
+    }
+    Verdict::Refused(refusal)
 }
 
-// The plain finder's answer on a table. Where no step passes, the least step with one processor more is told with it, and for each task the least
-// step without that task is written to the lent output; any other answer tells and writes nothing.
+// The least step of a table, that with one processor more, and for each task that without it, which is written to the lent output; or the
+// refusal, which tells and writes nothing.
 pub fn relief_of(table: Table, settings: Settings, without: &mut [u32]) -> Relief
     ensures { λ r. ⌜ MeetsRelief (relieved settings (table .rows) (table .n) (now (without .entry))) r (now (without .exit)) ⌝ }
 {
     let answer = decide(table, settings, without.len());
-    if !none_passes(answer) {
-        let more = 0;
-        return Relief { answer, more };
-    }
+    let verdict = admitted(answer);
+    let Verdict::Accepted = verdict else {
+        let told = 0;
+        return Relief {
+            verdict,
+            least: told,
+            more: told,
+        };
+    };
+    let least = tell(answer);
     let more = least_told(table, one_more(settings));
     write_without(table, settings, without);
-    Relief { answer, more }
+    Relief {
+        verdict,
+        least,
+        more,
+    }
 }

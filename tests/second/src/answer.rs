@@ -1,6 +1,6 @@
 //! The answer that document 01 gives to a call, in the bytes of the answer stream.
 
-use crate::call::{Call, Exporting, Proposing, Rooms, Table, WideTable, Writing};
+use crate::call::{Call, Exporting, Proposing, Rooms, Settings, Table, WideTable, Writing};
 use crate::definition::change_over::{change_over, Which};
 use crate::definition::checked::{check, told};
 use crate::definition::finder::{plain, quick};
@@ -10,8 +10,10 @@ use crate::definition::office::{export, import};
 use crate::definition::program::program;
 use crate::definition::proposal::check_proposal;
 use crate::definition::reader::read;
+use crate::definition::reason::{reason, wide_reason};
 use crate::definition::relief::relief;
-use crate::definition::wide::find_wide;
+use crate::definition::share::share;
+use crate::definition::wide::{find_wide, WideRecord};
 use crate::definition::writer::write;
 
 /// What lent outputs hold before a call.
@@ -174,13 +176,24 @@ fn proposal_answer(proposing: &Proposing) -> Vec<u8> {
 
 fn relief_answer(table: &Table, room: u8) -> Vec<u8> {
     let mut without = vec![PERIOD_SENTINEL; usize::from(room)];
-    let (answer, more) = relief(&table.question(), &mut without);
+    let answer = relief(&table.question(), &mut without);
     let mut bytes = Vec::new();
     put_verdict(&mut bytes, &answer);
-    bytes.extend(answer.unwrap_or(0).to_le_bytes());
-    bytes.extend(more.to_le_bytes());
+    let told = answer.unwrap_or_default();
+    bytes.extend([told.least, told.more].into_iter().flat_map(u32::to_le_bytes));
     put_outputs(&mut bytes, &without, &[]);
     bytes
+}
+
+fn record_answer(settings: Settings, step: u32, record: Record) -> Vec<u8> {
+    let Settings { w, q, .. } = settings;
+    let mut bytes = vec![reason(record, w, q)];
+    bytes.extend(share(record, w, q, step).to_le_bytes());
+    bytes
+}
+
+fn wide_record_answer(record: WideRecord) -> Vec<u8> {
+    vec![wide_reason(record)]
 }
 
 /// The answer's bytes, without their length.
@@ -201,5 +214,7 @@ pub fn answer(call: &Call) -> Vec<u8> {
         Call::Proposal(proposing) => proposal_answer(proposing),
         Call::Keep(keeping) => keeping.answer(),
         Call::Relief(table, room) => relief_answer(table, *room),
+        Call::Record { settings, step, record } => record_answer(*settings, *step, *record),
+        Call::WideRecord(record) => wide_record_answer(*record),
     }
 }

@@ -91,10 +91,12 @@ pub enum Call {
     Proposal(Proposing),
     Keep(Keeping),
     Relief(Table, u8),
+    Record { settings: Settings, step: u32, record: Record },
+    WideRecord(WideRecord),
 }
 
 /// The names of the kinds of call, from kind 1.
-pub const KIND_NAMES: [&str; 15] = [
+pub const KIND_NAMES: [&str; 17] = [
     "plain finder",
     "quick finder",
     "margin",
@@ -110,6 +112,8 @@ pub const KIND_NAMES: [&str; 15] = [
     "proposal",
     "kept order",
     "relief",
+    "record",
+    "wide record",
 ];
 
 /// The rows or results that the stream has of a count.
@@ -259,7 +263,11 @@ fn put_wide(bytes: &mut Vec<u8>, table: &WideTable, rooms: Rooms) {
     bytes.extend(table.m.to_le_bytes());
     bytes.extend(table.count.to_le_bytes());
     bytes.extend([rooms.periods, rooms.processors]);
-    for row in &table.rows {
+    put_wide_rows(bytes, &table.rows);
+}
+
+fn put_wide_rows(bytes: &mut Vec<u8>, rows: &[WideRecord]) {
+    for row in rows {
         bytes.extend(row.c.to_le_bytes());
         for number in [row.l, row.tmin, row.tmax, row.e] {
             bytes.extend(number.to_le_bytes());
@@ -302,6 +310,8 @@ impl Call {
             Call::Proposal(..) => 13,
             Call::Keep(..) => 14,
             Call::Relief(..) => 15,
+            Call::Record { .. } => 16,
+            Call::WideRecord(..) => 17,
         }
     }
 
@@ -344,6 +354,12 @@ impl Call {
                 bytes.push(*room);
                 put_rows(&mut bytes, &table.rows);
             }
+            Call::Record { settings, step, record } => {
+                settings.put(&mut bytes);
+                bytes.extend(step.to_le_bytes());
+                put_rows(&mut bytes, &[*record]);
+            }
+            Call::WideRecord(record) => put_wide_rows(&mut bytes, &[*record]),
         }
         bytes
     }

@@ -16,6 +16,7 @@ pub mod policy;
 pub mod program;
 pub mod proposal;
 pub mod reader;
+pub mod reason;
 pub mod relief;
 pub mod share;
 pub mod wide;

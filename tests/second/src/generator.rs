@@ -11,6 +11,7 @@ mod edges_of_keeping;
 mod edges_of_notches;
 pub mod edges_of_office;
 mod edges_of_proposals;
+mod edges_of_records;
 mod edges_of_relief;
 mod edges_of_sheets;
 mod edges_of_swaps;
@@ -46,6 +47,7 @@ impl Calls {
         fixed.extend(edges_of_proposals::calls());
         fixed.extend(edges_of_keeping::calls());
         fixed.extend(edges_of_relief::calls());
+        fixed.extend(edges_of_records::calls());
         Calls { seed, fixed }
     }
 

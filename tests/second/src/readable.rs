@@ -4,6 +4,7 @@ use crate::answer::{BUFFER_SENTINEL, PERIOD_SENTINEL, PROCESSOR_SENTINEL, ROW_SE
 use crate::call::{Call, Rooms, Settings, Table, WideTable, KIND_NAMES};
 use crate::clock_run::released_text;
 use crate::definition::kinds::{Granted, Record, MOST_TASKS};
+use crate::definition::wide::WideRecord;
 use crate::keeping::kept_text;
 use std::fmt::Write;
 
@@ -44,15 +45,16 @@ fn bytes_line(name: &str, bytes: &[u8]) -> String {
     format!("  {name} ({} bytes): {}\n", bytes.len(), hex(bytes))
 }
 
+fn wide_record_line(index: usize, row: &WideRecord) -> String {
+    let WideRecord { c, l, tmin, tmax, e } = row;
+    format!("  row {index}: C {c} L {l} Tmin {tmin} Tmax {tmax} E {e}\n")
+}
+
 fn wide_lines(table: &WideTable) -> String {
     let mut text = format!("  m {}\n", table.m);
     let _ = writeln!(text, "  count {}, rows present {}", table.count, table.rows.len());
     for (index, row) in table.rows.iter().enumerate() {
-        let _ = writeln!(
-            text,
-            "  row {index}: C {} L {} Tmin {} Tmax {} E {}",
-            row.c, row.l, row.tmin, row.tmax, row.e
-        );
+        text.push_str(&wide_record_line(index, row));
     }
     text
 }
@@ -99,6 +101,12 @@ pub fn call_text(call: &Call) -> String {
             text.push_str(&table_lines(table));
             let _ = writeln!(text, "  room: {room} entries");
         }
+        Call::Record { settings, step, record } => {
+            text.push_str(&settings_line(*settings));
+            text.push_str(&record_line(0, record));
+            let _ = writeln!(text, "  at step {step}");
+        }
+        Call::WideRecord(record) => text.push_str(&wide_record_line(0, record)),
         Call::Import { entries, text: lines } => {
             let _ = writeln!(text, "  room: {entries} rows");
             let _ = writeln!(text, "  text: {:?}", String::from_utf8_lossy(lines));
@@ -262,10 +270,14 @@ fn fields_text(call: &Call, answer: &[u8]) -> Option<String> {
         }
         Call::Relief(_, room) => {
             let verdict = fields.verdict()?;
-            let (step, more) = (fields.number(4)?, fields.number(4)?);
+            let (least, more) = (fields.number(4)?, fields.number(4)?);
             let without = fields.entries(*room, 4, u64::from(PERIOD_SENTINEL))?;
-            format!("{verdict}  step {step}, one processor more {more}\n  without: {without}\n")
+            format!("{verdict}  least {least}, one processor more {more}\n  without: {without}\n")
         }
+        Call::Record { .. } => {
+            format!("  reason {}\n  share {}\n", fields.number(1)?, fields.number(4)?)
+        }
+        Call::WideRecord(_) => format!("  reason {}\n", fields.number(1)?),
         Call::Keep(_) => format!("{}{}", fields.verdict()?, kept_text(&mut fields.rest)?),
         Call::Program(_) => program_text(fields.take(answer.len())?),
         Call::Check(_) => {

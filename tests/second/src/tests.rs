@@ -7,6 +7,7 @@ mod finders;
 mod keep;
 mod office;
 mod proposals;
+mod records;
 mod relief;
 mod sheets;
 mod stream;

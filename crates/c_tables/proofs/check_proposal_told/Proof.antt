@@ -1,6 +1,5 @@
 -- `c_tables::check_proposal_told` meets its contract. Assumes nothing.
-use mathlib.Core.Path.{_∙_}
-use borrow.Author.Needs.{needs}
+use Rattle.ground.proofs.Kit.{_∙_, needs}
 use Rattle.c_tables.proofs.check_proposal_told.Statement.{statement}
 use Rattle.c_tables.proofs.check_proposal_told.Tie as tie
 

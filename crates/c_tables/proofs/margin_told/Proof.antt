@@ -1,5 +1,5 @@
 -- `c_tables::margin_told` meets its contract. Assumes nothing.
-use mathlib.Core.Path.{_≡_, sym, ap, _∙_}
+use Rattle.ground.proofs.Kit.{_≡_, sym, _∙_, ap, needs}
 use lib.IntN.{pos}
 use mir.Syntax.{w64}
 use mir.Val.{toZ, ofZ}
@@ -8,7 +8,6 @@ use Rattle.kinds.specs.declared.Verdict.the-variants.{Refused}
 use Rattle.margin.specs.Margin.{marginHanded}
 use Rattle.c_numbers.proofs.Beside.{told-beside}
 use Rattle.c_numbers.specs.Numbers.{stationSettings}
-use borrow.Author.Needs.{needs}
 use Rattle.c_tables.proofs.margin_told.Statement.{statement}
 use Rattle.c_tables.proofs.margin_told.Tie as tie
 

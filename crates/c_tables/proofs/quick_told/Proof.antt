@@ -1,6 +1,5 @@
 -- `c_tables::quick_told` meets its contract. Assumes nothing.
-use mathlib.Core.Path.{_∙_}
-use borrow.Author.Needs.{needs}
+use Rattle.ground.proofs.Kit.{_∙_, needs}
 use Rattle.c_tables.proofs.quick_told.Statement.{statement}
 use Rattle.c_tables.proofs.quick_told.Tie as tie
 

@@ -1,6 +1,5 @@
 -- `c_tables::tell` meets its contract. Assumes nothing.
-use mathlib.Core.Path.{refl}
-use borrow.Author.Needs.{needs}
+use Rattle.ground.proofs.Kit.{refl, needs}
 use Rattle.kinds.specs.declared.Verdict.the-variants.{Refused}
 use Rattle.c_numbers.proofs.Beside.{told-beside}
 use Rattle.c_tables.proofs.tell.Statement.{statement}

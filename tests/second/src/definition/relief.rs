@@ -1,8 +1,8 @@
-//! What would relieve a table that no step passes: one processor more, or one task fewer.
+//! What would relieve a table: one processor more, or one task fewer, beside the table as it stands.
 
 use super::admission::{admit, Question, Serves};
 use super::finder::least_passing_step;
-use super::kinds::{refuse, Refusal};
+use super::kinds::Refusal;
 
 /// A least step told as a number: 0 for none, else the step + 1. A question that is refused has none.
 fn told(question: &Question) -> u32 {
@@ -23,16 +23,18 @@ fn without_task(question: &Question, task: usize) -> Question {
     fewer
 }
 
-/// What the plain finder answers, and where that is 7 the step with one processor more; the step without each task is then written.
-pub fn relief(question: &Question, without: &mut [u32]) -> (Result<u32, Refusal>, u32) {
-    if let Err(refusal) = admit(question, Serves::EveryPolicy, &[without.len()]) {
-        return (Err(refusal), 0);
-    }
-    if let Some(step) = least_passing_step(question) {
-        return (Ok(step), 0);
-    }
+/// What is told of a table, each as such a number.
+#[derive(Clone, Copy, Debug, Default, PartialEq, Eq)]
+pub struct Told {
+    pub least: u32,
+    pub more: u32,
+}
+
+/// The step of the table as it stands, and with one processor more; the step without each task is written.
+pub fn relief(question: &Question, without: &mut [u32]) -> Result<Told, Refusal> {
+    admit(question, Serves::EveryPolicy, &[without.len()])?;
     for task in 0..question.rows.len() {
         without[task] = told(&without_task(question, task));
     }
-    (refuse(7, 0), told(&with_one_processor_more(question)))
+    Ok(Told { least: told(question), more: told(&with_one_processor_more(question)) })
 }

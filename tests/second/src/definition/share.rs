@@ -25,6 +25,14 @@ pub fn spring(record: Record, w: u16) -> Spring {
     }
 }
 
+/// The share of any record at a step; 0 where it is not good.
+pub fn share(record: Record, w: u16, q: u16, step: u32) -> u32 {
+    match record.is_good(w, q) {
+        true => spring(record, w).share_at(step) as u32,
+        false => 0,
+    }
+}
+
 /// The springs of such records, in record order.
 pub fn springs(rows: &[Record], w: u16) -> Vec<Spring> {
     rows.iter().map(|row| spring(*row, w)).collect()

@@ -15,7 +15,7 @@ pub struct WideRecord {
 
 impl WideRecord {
     /// "C at most 16 × Tmin"
-    const MOST_TMINS: u64 = 16;
+    pub const MOST_TMINS: u64 = 16;
 
     pub const fn new(c: u64, l: u32, tmin: u32, tmax: u32, e: u32) -> WideRecord {
         WideRecord { c, l, tmin, tmax, e }

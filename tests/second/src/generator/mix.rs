@@ -30,7 +30,8 @@ pub fn random_call(random: &mut Random, index: usize) -> Call {
     match random.between(0, 99) {
         0..=15 => plain(random),
         16..=31 => quick(random),
-        32..=35 => relief(random),
+        32..=34 => relief(random),
+        35 => record(random),
         36..=45 => margin(random),
         46..=50 => Call::Read(sheet(random)),
         51..=55 => Call::Write(writing(random)),
@@ -94,6 +95,21 @@ fn added(random: &mut Random, w: u16, q: u16) -> Record {
     let period = u32::from(q.max(1)) * random.small(1, 1_000);
     let cost = random.between(1, u64::from(period)).saturating_sub(2 * u64::from(w));
     Record::new(cost as u32, period, period, 0)
+}
+
+/// A record of a table, good or spoilt, at any step; or a task that needs several cores.
+fn record(random: &mut Random) -> Call {
+    if random.one_in(3) {
+        let table = random_wide(random);
+        return Call::WideRecord(table.rows.last().copied().unwrap_or_default());
+    }
+    let mut table = table(random, &EVERY);
+    if random.one_in(2) && !table.rows.is_empty() {
+        spoil(random, &mut table.rows, table.settings.w);
+    }
+    let record = table.rows.last().copied().unwrap_or_else(|| any_record(random));
+    let step = if random.one_in(4) { 0 } else { random.of_any_size(u32::MAX) };
+    Call::Record { settings: table.settings, step, record }
 }
 
 /// A proposal for a table of any policy, at which the checker does not look; first-fit tables come often, since theirs nearly fit.

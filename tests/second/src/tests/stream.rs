@@ -157,6 +157,7 @@ fn the_rows_present_are_those_of_the_count_and_at_most_32() {
                 assert!(proposal.len() <= 40 && room <= 40);
             }
             Call::Read(_) | Call::ChangeOver { .. } | Call::Keep(_) => {}
+            Call::Record { .. } | Call::WideRecord(_) => {}
         }
     }
 }
@@ -169,7 +170,7 @@ fn a_call_hangs_on_seed_and_index_only() {
     assert!((from..from + 200).any(|index| one.call(index) != other.call(index)));
 }
 
-/// The number of an answer whose first byte it is, or the digits of a program's line.
+/// The number of an answer whose first byte it is, a reason too, or the digits of a program's line.
 fn number_of(call: &Call, answer: &[u8]) -> u8 {
     match call {
         Call::Program(_) => match answer.strip_prefix(b"refused ") {
@@ -199,12 +200,12 @@ fn random_calls_reach_every_answer_under_policy_5() {
 #[test]
 fn the_first_15000_calls_reach_every_number_that_a_call_can_give() {
     let calls = Calls::of_seed(1);
-    let mut reached = vec![BTreeSet::new(); 16];
+    let mut reached = vec![BTreeSet::new(); 18];
     for index in 0..15_000 {
         let call = calls.call(index);
         reached[usize::from(call.kind())].insert(number_of(&call, &answer(&call)));
     }
-    let expected: [&[u8]; 15] = [
+    let expected: [&[u8]; 17] = [
         &[0, 1, 2, 3, 5, 6, 7, 15],
         &[0, 1, 2, 3, 4, 5, 6, 7, 15],
         &[0, 1, 2, 3, 4, 6, 15],
@@ -219,7 +220,9 @@ fn the_first_15000_calls_reach_every_number_that_a_call_can_give() {
         &[0, 3, 5],
         &[0, 2, 3, 5, 6, 13, 14],
         &[0, 2, 3, 6, 12],
-        &[0, 1, 2, 3, 5, 6, 7, 15],
+        &[0, 1, 2, 3, 5, 6, 15],
+        &[0, 1, 2, 3, 4, 5, 6, 7, 8],
+        &[0, 1, 2, 3, 4, 5, 6, 7, 8],
     ];
     for (index, numbers) in expected.iter().enumerate() {
         assert_eq!(reached[index + 1], numbers.iter().copied().collect(), "kind {}", index + 1);
