@@ -33,8 +33,14 @@
  * A refusal writes nothing to what was lent, and its step, looks, margin, count or sheet is 0 (but for the looks of 7, and a kept table is
  * handed back as it was). An acceptance writes what its answer needs, and nothing past it.
  *
- * The library keeps nothing from call to call, so that calls may be made at once from any threads on outputs of their own. It asks for memcpy
- * and memset, and for nothing else. */
+ * The library keeps nothing from call to call, so that calls may be made at once from any threads, and from an interrupt, on outputs of their
+ * own. It asks for memcpy and memset, and for nothing else. On x86-64 it has at most 40,000 bytes of code and constants and no data, and no
+ * call takes more than 7,200 bytes of stack; docs/EMBEDDING.md has each by itself.
+ *
+ * Every call ends. The plain finder tests each step from 0 on, at most 1,000,000; the quick one makes at most tasks + 1 looks, in edition 2 at
+ * most 20. The relief searches tasks + 2 times as the quick finder does, and under policy 4 as the plain one. The steps of jobs that need several
+ * cores are halved. A sheet is filled and checked, and a change-over judged, by the plain finder. The other calls take a time that grows with the
+ * tasks or the bytes alone. */
 #ifndef EELBASKET_H
 #define EELBASKET_H
 #include <stddef.h>
