@@ -30,7 +30,7 @@ pub enum Refusal {
     OutputTooShort(usize),
     /// 6: task p is not good.
     BadRecord(usize),
-    /// 7: the tasks fit at no step: lower C, or raise Tmax, E or m.
+    /// 7: the tasks fit at no step, not even at full compression.
     NoStepPasses,
     /// 8: the sheet ends at byte p, where more is due.
     SheetEnds(usize),
@@ -147,7 +147,7 @@ impl fmt::Display for Refusal {
                 REASONS[1..].iter().try_for_each(|reason| write!(f, ", or {reason}"))
             }
             Refusal::NoStepPasses => {
-                write!(f, "the tasks fit at no step: lower C, or raise Tmax, E or m")
+                write!(f, "the tasks fit at no step, not even at full compression")
             }
             Refusal::SheetEnds(place) => {
                 write!(f, "the sheet ends at byte {place}, where more is due")

@@ -1,6 +1,6 @@
-// The program behind `./plan`: shows the plan of the office's text on standard input, with the settings that its words name, or writes the filled
-// sheet where the first word is `--sheet`. The settings are given in their order on a sheet, and the last ones may be left out. What cannot be
-// planned is told in words. The text may be as people give it: `tidy::tidied` makes the exact text of it, and one byte more is read than it takes.
+// The program behind `eelbasket plan`: what the office's text on standard input comes to, with the settings that its words name. The first word says
+// how: `text` for people to read, `sheet` the filled sheet, `csv` lines for other programs. The settings follow in their order on a sheet, and the
+// last ones may be left out. The text may be as people give it: `tidy::tidied` makes the exact text of it, and one byte more is read than it takes.
 use fill::SheetPlan;
 use kinds::Answer;
 use kinds::Counted;
@@ -13,6 +13,7 @@ use kinds::Table;
 use libc::STDIN_FILENO;
 use loosen::fields;
 use office_sheet::Setting;
+use task_names::ROOM;
 
 // The settings that the words name, or the refusal of one that is no number.
 enum Asked {
@@ -20,16 +21,25 @@ enum Asked {
     Refused(Refusal),
 }
 
-// Whether the first word is `--sheet`: the only one of its length that begins so.
-fn wants_sheet() -> bool {
-    let mut word = [0u8; 16];
-    let n = os::arg(1, &mut word);
-    n == 7 && word[0] == b'-' && word[1] == b'-'
+// How a plan is put.
+enum Form {
+    Text,
+    Sheet,
+    Csv,
 }
 
-// Which word names the first setting.
-fn first_setting(as_sheet: bool) -> u16 {
-    if as_sheet { 2 } else { 1 }
+// The form that the first word names: by its second letter, as the command lets no other word through.
+fn form_asked() -> Form {
+    let mut word = [0u8; 16];
+    let n = os::arg(1, &mut word);
+    if n < 2 {
+        return Form::Text;
+    }
+    match word[1] {
+        b'h' => Form::Sheet,
+        b's' => Form::Csv,
+        _ => Form::Text,
+    }
 }
 
 // The setting that a word names, or what is filled in where there is none.
@@ -50,11 +60,11 @@ fn unset(i: usize) -> Refusal {
     Refusal::Misset
 }
 
-// The settings by the words from a place on.
-fn settings_from(first: u16) -> Asked {
+// The settings by the words behind the form.
+fn settings_asked() -> Asked {
     let mut numbers = Settings::FILL_INS;
     for i in 0..Settings::MOST {
-        let Setting::Is(number) = setting(first as usize + i, numbers[i]) else {
+        let Setting::Is(number) = setting(i + 2, numbers[i]) else {
             return Asked::Refused(unset(i));
         };
         numbers[i] = number;
@@ -76,88 +86,70 @@ fn unfilled(settings: Settings, table: Table, count: usize) -> Sheet {
     }
 }
 
-// Puts the filled sheet, or says why there is none.
-fn put_filled(plan: SheetPlan, out: &mut [u8]) -> usize {
-    let answer = plan.answer;
-    if let Answer::Refused(_) = answer {
-        return view_text::put_plan(plan, out);
-    }
-    let written = writer::write(plan.sheet, out);
+// How many settings are given by the words behind the form.
+fn given() -> usize {
+    let words = ground::less_or_zero(os::arg_count() as u64, 2);
+    ground::shorter(words as usize, Settings::MOST)
+}
+
+// Puts the filled sheet.
+fn put_sheet(x: Sheet, out: &mut [u8]) -> usize {
+    let written = writer::write(x, out);
     match written {
         Counted::Count(k) => k,
         Counted::Refused(_) => 0,
     }
 }
 
-// Puts what a table comes to under these settings, of which so many are given.
-fn put_planned(
-    table: Table,
-    settings: Settings,
-    count: usize,
-    as_sheet: bool,
-    out: &mut [u8],
-) -> usize {
-    let plan = fill::fill_sheet(unfilled(settings, table, count));
-    if as_sheet {
-        return put_filled(plan, out);
+// Puts a plan as it is asked for; why there is none is put for people to read.
+fn put_planned(plan: SheetPlan, form: Form, names: &[u8; ROOM], out: &mut [u8]) -> usize {
+    let answer = plan.answer;
+    if let Answer::Refused(_) = answer {
+        return view_text::put_plan(plan, names, out);
     }
-    view_text::put_plan(plan, out)
+    match form {
+        Form::Text => view_text::put_plan(plan, names, out),
+        Form::Sheet => put_sheet(plan.sheet, out),
+        Form::Csv => view_table::put_csv(out, plan.sheet, names),
+    }
 }
 
-// How many settings are given by the words from a place on.
-fn given(first: u16) -> usize {
-    let words = ground::less_or_zero(os::arg_count() as u64, first as u64);
-    ground::shorter(words as usize, Settings::MOST)
+// Puts what an exact text comes to under these settings.
+fn put_table(exact: &[u8], settings: Settings, names: &[u8; ROOM], out: &mut [u8]) -> usize {
+    let imported = office::import(exact, Table::MOST_TASKS);
+    let answer = imported.answer;
+    if let Counted::Refused(refusal) = answer {
+        return view_text::put_line(refusal, out);
+    }
+    let plan = fill::fill_sheet(unfilled(settings, imported.table, given()));
+    put_planned(plan, form_asked(), names, out)
 }
 
-// Puts what a text and the words come to.
-fn put_asked(table_text: &[u8], as_sheet: bool, out: &mut [u8]) -> usize {
-    let first = first_setting(as_sheet);
-    let asked = settings_from(first);
+// Puts what an exact text and the words come to.
+fn put_asked(exact: &[u8], names: &[u8; ROOM], out: &mut [u8]) -> usize {
+    let asked = settings_asked();
     match asked {
         Asked::Refused(refusal) => view_text::put_line(refusal, out),
-        Asked::Is(settings) => {
-            let imported = office::import(table_text, Table::MOST_TASKS);
-            let answer = imported.answer;
-            if let Counted::Refused(refusal) = answer {
-                return view_text::put_line(refusal, out);
-            }
-            put_planned(imported.table, settings, given(first), as_sheet, out)
-        }
+        Asked::Is(settings) => put_table(exact, settings, names, out),
     }
-}
-
-// Puts the names of the tasks of a text below its plan.
-fn put_names(given: &[u8], out: &mut [u8], at: usize) -> usize {
-    let mut names = [0u8; task_names::ROOM];
-    loosen::keep_names(given, &mut names);
-    task_names::put_names(out, at, &names, Table::MOST_TASKS)
-}
-
-// Puts what an exact text comes to, with the names that the text has as it was given.
-fn put_named_plan(given: &[u8], exact: &[u8], as_sheet: bool, out: &mut [u8]) -> usize {
-    let put = put_asked(exact, as_sheet, out);
-    if as_sheet {
-        return put;
-    }
-    put_names(given, out, put)
 }
 
 // Puts what a text comes to as it was given: through its exact text, or by itself where it has none.
-fn put_tidy_plan(given: &[u8], as_sheet: bool, out: &mut [u8]) -> usize {
+fn put_tidy_plan(given: &[u8], names: &[u8; ROOM], out: &mut [u8]) -> usize {
     let mut exact = [0u8; office::LONGEST];
     let Counted::Count(k) = tidy::tidied(given, &mut exact) else {
-        return put_asked(given, as_sheet, out);
+        return put_asked(given, names, out);
     };
-    put_named_plan(given, &exact[..k], as_sheet, out)
+    put_asked(&exact[..k], names, out)
 }
 
 fn main() {
-    let as_sheet = wants_sheet();
     let mut given = [0u8; tidy::LONGEST + 1];
     let n = io::read_full(STDIN_FILENO, &mut given);
     tidy_words::tell(&given[..n], fields::OF_TASK);
-    let mut out = [0u8; view_text::LONGEST + task_names::LONGEST];
-    let k = put_tidy_plan(&given[..n], as_sheet, &mut out);
+    let mut names = [0u8; ROOM];
+    loosen::keep_names(&given[..n], &mut names);
+    let mut out = [0u8; view_text::LONGEST];
+    let k = put_tidy_plan(&given[..n], &names, &mut out);
     text::write(&out, k);
 }

@@ -13,7 +13,7 @@ pub fn sentence(out: &mut [u8], at: usize, number: u16, place: usize) -> usize {
             policy 4 has no quick finder and no margin|\
             what is lent is too short: # entries or bytes are needed|\
             task # is not good|\
-            the tasks fit at no step: lower C, or raise Tmax, E or m|\
+            the tasks fit at no step, not even at full compression|\
             the sheet ends at byte #, where more is due|\
             the sheet must begin with a settings count of 2 to 5|\
             the result count is neither 0 nor the task count|\

@@ -12,12 +12,16 @@ use kinds::Sheet;
 use kinds::Table;
 use kinds::Task;
 use kinds::Verdict;
+use task_names::ROOM;
 
-// Room for every view: 32 tasks, 16 processors and ten lines besides, of 80 columns.
-pub const LONGEST: usize = 4_800;
+// Room for every view: 32 tasks, 16 processors and 16 lines besides, of 80 columns and a name's further bytes.
+pub const LONGEST: usize = 6_400;
+
+// What is much to leave free: a twentieth of a processor.
+const MUCH: u64 = 50_000;
 
 // A load for each of the most processors.
-const MOST_LOADS: usize = Settings::MOST_PROCESSORS as usize;
+pub const MOST_LOADS: usize = Settings::MOST_PROCESSORS as usize;
 
 // A line with the load of a processor.
 fn put_load(out: &mut [u8], at: usize, processor: usize, load: u32) -> usize {
@@ -36,7 +40,7 @@ fn put_load(out: &mut [u8], at: usize, processor: usize, load: u32) -> usize {
 }
 
 // The load of each of so many processors.
-fn put_loads(out: &mut [u8], at: usize, processors: u16, loads: &[u32; MOST_LOADS]) -> usize {
+pub fn put_loads(out: &mut [u8], at: usize, processors: u16, loads: &[u32; MOST_LOADS]) -> usize {
     let m = ground::shorter(processors as usize, MOST_LOADS);
     let mut next = text::byte(out, at, b'\n');
     for j in 0..m {
@@ -59,13 +63,15 @@ fn free(margin: Margin) -> u64 {
     }
 }
 
-// The margin at a step.
-fn put_margin(out: &mut [u8], at: usize, margin: Margin, step: u32) -> usize {
-    text::form(
+// What the margin leaves free. Where a step more left much of a processor free, smaller steps would not.
+fn put_free(out: &mut [u8], at: usize, parts: u64, step: u32) -> usize {
+    let coarse = if 0 < step && MUCH <= parts { 1 } else { 0 };
+    text::nth_form(
         out,
         at,
-        b"\nmargin at step #: # parts of 1,000,000\n",
-        &[step as u64, free(margin)],
+        b"\n#.#% of a processor free\n|\n#.#% of a processor free: the steps are coarse; a smaller E makes them finer\n|",
+        coarse,
+        &[parts / 10_000, parts / 1_000 % 10],
     )
 }
 
@@ -102,7 +108,7 @@ fn put_room(out: &mut [u8], at: usize, x: Sheet, step: u32) -> usize {
     let asked = policy.meant();
     if !asked.is_first_fit() {
         let margin = margin::margin_at(table, settings, step);
-        let margined = put_margin(out, at, margin, step);
+        let margined = put_free(out, at, free(margin), step);
         return put_kernel(out, margined, asked, settings.m);
     }
     let processors = processors_of(x.results);
@@ -146,30 +152,40 @@ fn put_reason(
     refusal_words::reason(out, at, reason_of(task, settings))
 }
 
-// A table that the plain finder refuses: why, and what stands there.
-fn put_refused(out: &mut [u8], refusal: Refusal, table: Table, settings: Settings) -> usize {
+// Where no step passes, by how much the tasks do not fit, and what would help.
+fn put_short(out: &mut [u8], at: usize, refusal: Refusal, x: Sheet, names: &[u8; ROOM]) -> usize {
+    let Refusal::NoStepPasses = refusal else {
+        return at;
+    };
+    shortfall::put_shortfall(out, at, x.table, x.settings, names)
+}
+
+// A sheet that the plain finder refuses: why, and what stands there.
+fn put_refused(out: &mut [u8], refusal: Refusal, x: Sheet, names: &[u8; ROOM]) -> usize {
     let refused = put_refusal(out, 0, refusal);
-    let reasoned = put_reason(out, refused, refusal, table, settings);
-    let ended = text::words(out, reasoned, b"\n\n");
-    let set = view_table::put_settings(out, ended, settings);
-    view_table::put_records(out, set, table)
+    let reasoned = put_reason(out, refused, refusal, x.table, x.settings);
+    let ended = text::byte(out, reasoned, b'\n');
+    let short = put_short(out, ended, refusal, x, names);
+    let apart = text::byte(out, short, b'\n');
+    let set = view_table::put_settings(out, apart, x.settings);
+    view_table::put_table(out, set, x, names, 0, false)
 }
 
 // A sheet with its plan at a step.
-fn put_accepted(out: &mut [u8], step: u32, x: Sheet) -> usize {
+fn put_accepted(out: &mut [u8], step: u32, x: Sheet, names: &[u8; ROOM]) -> usize {
     let set = view_table::put_settings(out, 0, x.settings);
-    let fits = text::form(out, set, b"the tasks fit at step #\n", &[step as u64]);
-    let planned = view_table::put_plan(out, fits, x, step);
+    let fits = text::form(out, set, b"the tasks fit at step @\n", &[step as u64]);
+    let planned = view_table::put_table(out, fits, x, names, step, true);
     put_room(out, planned, x, step)
 }
 
-// What is to be read of a sheet that was filled in: its plan, or why it has none. Returns how many bytes.
-pub fn put_plan(plan: SheetPlan, out: &mut [u8]) -> usize {
+// What is to be read of a sheet that was filled in: its plan with the names of its tasks, or why it has none. Returns how many bytes.
+pub fn put_plan(plan: SheetPlan, names: &[u8; ROOM], out: &mut [u8]) -> usize {
     let answer = plan.answer;
     let x = plan.sheet;
     match answer {
-        Answer::Refused(refusal) => put_refused(out, refusal, x.table, x.settings),
-        Answer::Accepted(step) => put_accepted(out, step, x),
+        Answer::Refused(refusal) => put_refused(out, refusal, x, names),
+        Answer::Accepted(step) => put_accepted(out, step, x, names),
     }
 }
 
@@ -204,6 +220,7 @@ pub fn view(input: &[u8], out: &mut [u8]) -> usize {
     }
     let x = reading.sheet;
     let plan = fill::fill_sheet(x);
-    let said = put_plan(plan, out);
+    let names = [0u8; ROOM];
+    let said = put_plan(plan, &names, out);
     put_stored(out, said, filled_sheet::check_plan(x, plan))
 }

@@ -9,9 +9,9 @@ array-share-prefix-exact c =
     let counted = c .before in
     count-fits _ _ _ _ (counted .before .before .tidied .ensures) _ (counted .k .given .1)
 
-slice-aggregate-put-named-plan : tie.Need-slice-aggregate-put-named-plan
-slice-aggregate-put-named-plan c = sym (length-take-le _ _ (array-share-prefix-exact (c .before)))
+slice-aggregate-put-asked : tie.Need-slice-aggregate-put-asked
+slice-aggregate-put-asked c = sym (length-take-le _ _ (array-share-prefix-exact (c .before)))
 
 pub put-tidy-plan-spec : {M : Type 1} → statement M
 put-tidy-plan-spec = tie.close (tie.spec (λ c κs. search needs) (λ c. search needs) (λ c. search needs) (λ c κs. search needs) (λ c. search needs)
-    (λ c. search needs) array-share-prefix-exact slice-aggregate-put-named-plan (λ c κs. search needs) (λ c. search needs) (λ c. search needs))
+    (λ c. search needs) array-share-prefix-exact slice-aggregate-put-asked (λ c κs. search needs) (λ c. search needs) (λ c. search needs))
