@@ -49,5 +49,8 @@ renew() { # COMMAND FILE SOURCE ..
     exec 9>&-
 }
 
-# the commands of the repository, which stand at its top
-commands() { (cd "$here" && grep -l -d skip '^exec .*/scripts/command"' -- *); }
+# the programs behind the commands, as scripts/command runs them
+programs() { sed -n -e 's/^ *run \([a-z_]*\).*/\1/p' -e 's/.*[);] run \([a-z_]*\).*/\1/p' "$here/scripts/command" | sort -u; }
+
+# the commands of `eelbasket`
+commands() { "$here/eelbasket" --help | sed -n 's/^    \([a-z-]*\) .*/\1/p'; }
