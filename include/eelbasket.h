@@ -5,6 +5,12 @@
  * where the length is 0), and outputs overlap nothing else. Every call is total: any numbers and bytes may be passed, and bad ones are
  * refused by number, the first in the order that stands with each call. Number 0 is acceptance, with place 0.
  *
+ * A task takes C ticks in each period, from Tmin to Tmax. Its share is C / period, in millionths of a processor and rounded up: largest at Tmin,
+ * least at Tmax. With each step it falls by E millionths; at full compression no share falls further, and a share with E = 0 stays. What counts is the
+ * E of the tasks beside each other, and a tenth of every E gives finer steps. With C = 6, Tmin = 10, Tmax = 20 and E = 1000 it is 600,000 at step 0,
+ * 599,000 at step 1, and 300,000 from step 300 on. The margin is what the policy's test leaves free at a step; looks are the steps that the quick
+ * finder tried.
+ *
  *  No.   Given exactly when                                                  Place
  *    1   the policy is not 1 to 5                                            0
  *    2   there are no processors, or more than 16 (policy 5, asked of a      0
