@@ -53,4 +53,4 @@ renew() { # COMMAND FILE SOURCE ..
 programs() { sed -n -e 's/^ *run \([a-z_]*\).*/\1/p' -e 's/.*[);] run \([a-z_]*\).*/\1/p' "$here/scripts/command" | sort -u; }
 
 # the commands of `eelbasket`
-commands() { "$here/eelbasket" --help | sed -n 's/^    \([a-z-]*\) .*/\1/p'; }
+commands() { "$here/eelbasket" --help | sed -n 's/^    \([a-z-]\{1,\}\) .*/\1/p'; }

@@ -27,7 +27,8 @@ impl Task {
     }
 }
 
-/// A task that needs several cores: a cost C, a span L, and the rest as a [`Task`] has it.
+/// A task that needs several cores: a cost C, a span L, and the rest as a [`Task`] has it. It is good when 1 ≤ L < Tmin, L < C,
+/// Tmax < C ≤ 16 × Tmin, Tmin ≤ Tmax ≤ 1,000,000,000 and E ≤ 1,000,000.
 #[repr(C)]
 #[derive(Clone, Copy, Debug, Default, PartialEq, Eq, Hash)]
 pub struct WideTask {
