@@ -1,5 +1,7 @@
 // The one admission: what every call on a table checks before it works, in document 01's order. Between `gate_of` and `judge` a call hands its
 // table to the walk that works the springs out, which says the first bad record. Contracts cite `specs/Admission`.
+#![tactic(auto)]
+
 ghost use Rattle.std.specs.Prelude.{not, ◌≡◌};
 ghost use Rattle.ground.specs.Choice.{both};
 ghost use Rattle.kinds.specs.Policy.{is_first_fit};

@@ -1,5 +1,7 @@
 // The program behind `eelbasket margin` and `eelbasket proposal`: what the tasks of a sheet on standard input come to at a step, which is the first
 // word. Further words are the processors that are proposed for the tasks, one for each; without them both sides of the policy's test are put.
+#![tactic(auto)]
+
 use kinds::{Margin, Settings, Sheet, Table, Verdict};
 use libc::STDIN_FILENO;
 use numeral::Numeral;

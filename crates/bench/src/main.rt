@@ -1,6 +1,8 @@
 // Runs the cases of `stdin`, a line each, on the finders, the margin, the finder of jobs that need several cores, the planner and the checker of
 // proposals; `stdout` has what they must give. Outputs are lent longer than the table and filled with 7 and 9, so that the entry after the last
 // one shows whether it was written.
+#![tactic(auto)]
+
 mod finders;
 mod line;
 mod proposals;

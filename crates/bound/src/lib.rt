@@ -1,5 +1,7 @@
 // The bound of rate monotonic on one processor, in parts, for each number of tasks. Its contract cites `specs/Bound`; the laws of
 // `proofs/Bounds` say that the entries follow document 02's rule.
+#![tactic(auto)]
+
 ghost use Rattle.std.specs.Prelude.{◌≡◌, ◌≤◌};
 ghost use Rattle.kinds.specs.Limits.{most_tasks};
 ghost use Rattle.bound.specs.Bound.{bound_of};

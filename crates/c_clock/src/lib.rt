@@ -1,4 +1,6 @@
 // The release clock in numbers: the clock table crosses by value, both ways. Contracts cite `specs/Clocked`.
+#![tactic(auto)]
+
 ghost use Rattle.std.specs.Prelude.{◌≡◌};
 ghost use Rattle.clock.specs.Start.{started};
 ghost use Rattle.c_clock.specs.Clocked.{told_start, ToldCallIs};
@@ -9,7 +11,7 @@ use kinds::Verdict;
 
 // Number, place and the clock that is started, of zeros where the start is refused.
 #[repr(C)]
-#[derive(Drop)]
+#[derive(Clone, Copy)]
 pub struct ToldStart {
     pub number: u32,
     pub place: usize,
@@ -18,7 +20,7 @@ pub struct ToldStart {
 
 // Number and place, how many tasks are handed back (1 or 0) and which (0 for none), and the clock after the call.
 #[repr(C)]
-#[derive(Drop)]
+#[derive(Clone, Copy)]
 pub struct ToldCall {
     pub number: u32,
     pub due: u32,

@@ -1,4 +1,6 @@
 // Joins and leaves in numbers: the table and the index beside it cross by value, both ways. Contracts cite `specs/Kept`.
+#![tactic(auto)]
+
 ghost use Rattle.std.specs.Prelude.{◌≡◌};
 ghost use Rattle.keep.specs.Keep.{joined, left, handed_change};
 ghost use Rattle.c_kept.specs.Kept.{told_change};
@@ -9,7 +11,7 @@ use kinds::Task;
 
 // Number and place, and what is kept after the change: what was handed in where it is refused.
 #[repr(C)]
-#[derive(Drop)]
+#[derive(Clone, Copy)]
 pub struct ToldChange {
     pub number: u32,
     pub place: usize,

@@ -1,4 +1,6 @@
 // What the calls of several rooms tell: settings, verdicts and counts in numbers. Contracts cite `specs/Numbers`.
+#![tactic(auto)]
+
 ghost use Rattle.std.specs.Prelude.{◌≡◌};
 ghost use Rattle.kinds.specs.Answer.{handed_verdict, handed_count};
 ghost use Rattle.c_numbers.specs.Numbers.{station_settings, told_verdict, told_count};
@@ -7,7 +9,7 @@ use kinds::{Counted, Policy, Settings, Verdict};
 
 // The settings as numbers.
 #[repr(C)]
-#[derive(Drop)]
+#[derive(Clone, Copy)]
 pub struct Station {
     pub policy: u16,
     pub m: u16,
@@ -18,7 +20,7 @@ pub struct Station {
 
 // Number and place.
 #[repr(C)]
-#[derive(Drop)]
+#[derive(Clone, Copy)]
 pub struct ToldVerdict {
     pub number: u32,
     pub place: usize,
@@ -26,7 +28,7 @@ pub struct ToldVerdict {
 
 // Number, place, and how many rows or bytes were handed over, 0 where the call is refused.
 #[repr(C)]
-#[derive(Drop)]
+#[derive(Clone, Copy)]
 pub struct ToldCount {
     pub number: u32,
     pub place: usize,

@@ -1,5 +1,7 @@
 // Station sheets in numbers: a sheet crosses as numbers, its policy as the number that it is written as. Contracts cite `specs/Sheets`
 // and `specs/Back`.
+#![tactic(auto)]
+
 ghost use Rattle.std.specs.Prelude.{◌≡◌, length};
 ghost use Rattle.sheet.specs.Reading.{read_sheet};
 ghost use Rattle.writer.specs.Writing.{write_sheet, after_write};
@@ -16,7 +18,7 @@ use kinds::{Results, Sheet, Table};
 
 // A sheet in numbers: how many numbers its settings section has, and its sections.
 #[repr(C)]
-#[derive(Drop)]
+#[derive(Clone, Copy)]
 pub struct StationSheet {
     pub count: usize,
     pub station: Station,
@@ -26,7 +28,7 @@ pub struct StationSheet {
 
 // Number, place and the sheet that was read, of zeros where it is refused.
 #[repr(C)]
-#[derive(Drop)]
+#[derive(Clone, Copy)]
 pub struct ToldReading {
     pub number: u32,
     pub place: usize,
@@ -35,7 +37,7 @@ pub struct ToldReading {
 
 // A part of the standing sheet, 0, or of the proposed one, 1: where it starts, and how many bytes it has.
 #[repr(C)]
-#[derive(Drop)]
+#[derive(Clone, Copy)]
 pub struct ToldPart {
     pub which: u32,
     pub place: usize,

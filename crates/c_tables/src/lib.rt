@@ -1,6 +1,8 @@
 // Calls on a table or on one record by value, in numbers. An enum does not cross to C, so a policy comes as its number, and an answer goes as
 // document 01's numbers: 0 for an acceptance. Contracts cite `specs/Told`, which reads the numbers as the calls' own promises. `eelbasket` exports
 // these calls.
+#![tactic(auto)]
+
 ghost use Rattle.std.specs.Prelude.{true, ◌≡◌};
 ghost use Rattle.kinds.specs.Answer.{handed};
 ghost use Rattle.share.specs.Share.{share_under};
@@ -20,7 +22,7 @@ use wide_task::{WideTable, WideTask};
 
 // Number, step, looks and place. A refusal's step is 0; the plain finder makes no looks.
 #[repr(C)]
-#[derive(Drop)]
+#[derive(Clone, Copy)]
 pub struct Told {
     pub number: u32,
     pub step: u32,
@@ -30,7 +32,7 @@ pub struct Told {
 
 // Number, place and margin. A refusal's margin is 0.
 #[repr(C)]
-#[derive(Drop)]
+#[derive(Clone, Copy)]
 pub struct ToldMargin {
     pub number: u32,
     pub place: usize,
@@ -39,7 +41,7 @@ pub struct ToldMargin {
 
 // Number and place, the least step and that with one processor more, each as a number: 0 for none, else the step + 1.
 #[repr(C)]
-#[derive(Drop)]
+#[derive(Clone, Copy)]
 pub struct ToldRelief {
     pub number: u32,
     pub least: u32,

@@ -1,11 +1,13 @@
 // The office's texts: what an import and an export answer, in numbers. Contracts cite `specs/Texts`.
+#![tactic(auto)]
+
 ghost use Rattle.c_texts.specs.Texts.{ToldReads, ToldExports};
 
 use c_numbers::{ToldCount, tell_count};
 use kinds::Table;
 
 // What an import by value tells, with the table; a refused one has the table of no tasks.
-#[derive(Drop)]
+#[derive(Clone, Copy)]
 pub struct ToldImport {
     pub told: ToldCount,
     pub table: Table,

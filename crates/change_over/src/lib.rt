@@ -1,4 +1,6 @@
 // The change-over between the standing and the proposed sheet. Contracts cite `specs/ChangeOver`.
+#![tactic(auto)]
+
 ghost use Rattle.std.specs.Prelude.{◌≡◌, ◌≤◌};
 ghost use Rattle.kinds.specs.Limits.{most_settings, most_tasks};
 ghost use Rattle.change_over.specs.ChangeOver.{section_of, tasks_part, change_over, IsPart};
@@ -6,14 +8,14 @@ ghost use Rattle.change_over.specs.ChangeOver.{section_of, tasks_part, change_ov
 use kinds::Verdict;
 
 // The two lent sheets.
-#[derive(Drop)]
+#[derive(Clone, Copy)]
 pub enum Which {
     Standing,
     Proposed,
 }
 
 // A part of one of them: from which place on, and how many bytes.
-#[derive(Drop)]
+#[derive(Clone, Copy)]
 pub struct Part {
     pub which: Which,
     pub from: usize,
@@ -21,7 +23,7 @@ pub struct Part {
 }
 
 // How many settings and tasks a sheet has that reads and that the plain finder accepts.
-#[derive(Drop)]
+#[derive(Clone, Copy)]
 enum Section {
     Tasks(usize, usize),
     Nothing,

@@ -1,6 +1,8 @@
 // The program that changes over: two arguments name the standing and the proposed sheet, and the task section of the one that stands from now on
 // is written. All its work is `change_over::change_over`; a file that cannot be read is an empty sheet, and of each no more than one byte past
 // the longest sheet is read, since nothing further on changes what is written.
+#![tactic(auto)]
+
 ghost use Rattle.io.specs.Counts.{IsPrefixLen};
 
 use libc::STDOUT_FILENO;

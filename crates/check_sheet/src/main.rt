@@ -1,5 +1,7 @@
 // The program: reads a filled sheet from standard input, and writes whether its results are those that we would give. All its work is
 // `filled_sheet::tell`; no more than one byte past the longest sheet is read, since nothing further on changes what is written.
+#![tactic(auto)]
+
 use libc::{STDIN_FILENO, STDOUT_FILENO};
 
 fn main() {

@@ -1,5 +1,7 @@
 // Ask 7: a plan for the cores that nobody needs to trust: what the planner proposes is handed on only where the checker accepts it. The
 // contract cites `specs/Planned`.
+#![tactic(auto)]
+
 ghost use Rattle.checked_proposal.specs.Planned.{HandsOn};
 
 use kinds::{Settings, Table, Verdict};

@@ -1,5 +1,7 @@
 // Ask 12: a release clock on 32 bits. It says which task is due at the present tick, and when that task is released next. Contracts cite
 // `started` of `specs/Start`, and `released` and `after_call` of `specs/Call`; what they mean for time that does not wrap is in `clock_time`.
+#![tactic(auto)]
+
 ghost use Rattle.std.specs.Prelude.{◌≡◌, ◌≤◌, length};
 ghost use Rattle.kinds.specs.Limits.{most_tasks};
 ghost use Rattle.clock.specs.Ticks.{half_turn};
@@ -11,7 +13,7 @@ use kinds::{Refusal, Table, Task, Verdict};
 
 // The clock table by value: for each task its period and its next release, of which the first n count. It is laid out as C lays it out.
 #[repr(C)]
-#[derive(Drop)]
+#[derive(Clone, Copy)]
 pub struct Clock {
     pub periods: [u32; Table::MOST_TASKS],
     pub next: [u32; Table::MOST_TASKS],
@@ -24,14 +26,14 @@ impl Clock {
 }
 
 // The answer to a start, and the clock: of zeros where it is refused.
-#[derive(Drop)]
+#[derive(Clone, Copy)]
 pub struct Started {
     pub answer: Verdict,
     pub clock: Clock,
 }
 
 // What a call answers: the task that is handed back, or that none is due, or the refusal.
-#[derive(Drop)]
+#[derive(Clone, Copy)]
 pub enum Release {
     Of(usize),
     NoneDue,
@@ -39,14 +41,14 @@ pub enum Release {
 }
 
 // The answer to a call, and the clock after it.
-#[derive(Drop)]
+#[derive(Clone, Copy)]
 pub struct Called {
     pub answer: Release,
     pub clock: Clock,
 }
 
 // The greatest lateness, and the lowest task that has it.
-#[derive(Drop)]
+#[derive(Clone, Copy)]
 struct Latest {
     late: u32,
     task: usize,
@@ -54,7 +56,7 @@ struct Latest {
 
 // The half turn that definitions name is the one that the code names.
 pub fn limits()
-    ensures* { do ⌜ (← (⟦Clock::HALF_TURN⟧).entry) ≡ half_turn ⌝ }
+    ensures { Clock.HALF_TURN ≡ half_turn }
 {}
 
 // Whether a clock takes this period.

@@ -1,6 +1,8 @@
 // The program behind `eelbasket cores`: shows the plan of jobs that need several cores. How many cores there are is its first word, and standard
 // input has a line `C,L,Tmin,Tmax,E` for each job, as people give it. The numbers are `wide_finder::find`'s, and what cannot be planned is told in
 // words. One byte more is read than a text may have, so that none is taken that was cut.
+#![tactic(auto)]
+
 mod jobs;
 mod words;
 

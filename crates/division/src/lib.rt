@@ -1,5 +1,7 @@
 // The next saturation step, and the division of the stretch between two saturation steps, on the springs of a lent block. Contracts cite
 // `specs/Next`, `specs/Division` and `specs/Handover`.
+#![tactic(auto)]
+
 ghost use Rattle.std.specs.Prelude.{◌≡◌, ◌*◌, ◌≤◌, max};
 ghost use Rattle.ground.specs.Rounding.{ceil_div};
 ghost use Rattle.kinds.specs.Limits.{scale, greatest_elasticity, most_tasks};
@@ -15,7 +17,7 @@ use policy::Weights;
 use springs::{Columns, Spring};
 
 // How far the left side of a test is above the right, and by how much that falls at each step.
-#[derive(Drop)]
+#[derive(Clone, Copy)]
 pub struct Line {
     pub over: u64,
     pub by: u64,

@@ -2,6 +2,8 @@
 // Those on a table are document 01's thin calls over a lent slice of records: `lent_rows` copies the rows, and the covered call is made. A
 // slice is a pointer and then a length. Contracts cite the definitions of those rooms and of `c_numbers`, which read the numbers that
 // cross as the calls' own promises; the laws of `proofs/Bridge` tie what is told of a table to the lent records.
+#![tactic(auto)]
+
 mod clocked;
 mod kept;
 mod records;

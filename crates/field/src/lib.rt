@@ -1,19 +1,21 @@
 // Fields: numbers of 2 and of 4 bytes, lowest byte first, read at a place of a lent slice and put at a place of a lent buffer. Contracts
 // cite `specs/Number`, `specs/Field` and `specs/Handover`.
+#![tactic(auto)]
+
 ghost use Rattle.std.specs.Prelude.{◌≡◌, ◌+◌, ◌-◌, ◌≤◌, ◌<◌, length};
 ghost use Rattle.field.specs.Number.{Bytes, bytes_of};
 ghost use Rattle.field.specs.Field.{field16, field32};
 ghost use Rattle.field.specs.Handover.{Put};
 
 // A field of 2 bytes: its value and the place after it, or that it is not there.
-#[derive(Drop)]
+#[derive(Clone, Copy)]
 pub enum Field16 {
     Value(u16, usize),
     Missing,
 }
 
 // A field of 4 bytes: its value and the place after it, or that it is not there.
-#[derive(Drop)]
+#[derive(Clone, Copy)]
 pub enum Field32 {
     Value(u32, usize),
     Missing,

@@ -1,5 +1,7 @@
 // The program's whole work on slices: a sheet in, the sheet with the plain finder's results out, or the line of a refusal. Contracts cite
 // `specs/Results` and `specs/Fill`.
+#![tactic(auto)]
+
 ghost use Rattle.std.specs.Prelude.{◌≡◌, ◌≤◌};
 ghost use Rattle.kinds.specs.Limits.{most_tasks};
 ghost use Rattle.refusal_line.specs.Fronts.{Fronts};
@@ -28,7 +30,7 @@ fn results_of(
 }
 
 // The plain finder's answer to a sheet, and the sheet with that plan for its results; as it was where it is refused.
-#[derive(Drop)]
+#[derive(Clone, Copy)]
 pub struct SheetPlan {
     pub answer: Answer,
     pub sheet: Sheet,

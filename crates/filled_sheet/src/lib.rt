@@ -1,5 +1,7 @@
 // Ask 14: whether the results of a filled sheet are those that we would give, as a verdict and as the program's line. Contracts cite
 // `specs/Checked` and `specs/Told`.
+#![tactic(auto)]
+
 ghost use Rattle.std.specs.Prelude.{◌≡◌};
 ghost use Rattle.ground.specs.First.{first_below};
 ghost use Rattle.kinds.specs.Answer.{handed_verdict};

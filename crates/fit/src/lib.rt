@@ -1,5 +1,7 @@
 // First fit: take tasks in record order, give each to the lowest-numbered processor whose load with it is at most S. Contracts cite
 // `specs/Fit`.
+#![tactic(auto)]
+
 ghost use Rattle.std.specs.Prelude.{◌≤◌, length};
 ghost use Rattle.kinds.specs.Limits.{most_processors};
 ghost use Rattle.fit.specs.Fit.{load_in};
@@ -8,7 +10,7 @@ ghost use Rattle.fit.specs.Handover.{Loads, FitIs};
 use kinds::{Settings, Share, Table};
 
 // How a trial ended: whether every task is placed, and the processor of each task that was, from 1.
-#[derive(Drop)]
+#[derive(Clone, Copy)]
 pub struct Fit {
     pub placed: bool,
     pub processors: [u16; Table::MOST_TASKS],

@@ -1,6 +1,8 @@
 // The office's program: makes the station sheet of a text. The policy and the processors are two arguments, by number; the text is standard
 // input, as people give it. `tidy::tidied` makes the exact text of it, `tidy_words` tells what was passed over and what cannot be taken, and the
 // sheet is `office_sheet::enter`'s. One byte more is read than a text may have that is tidied, so that none is taken that was cut.
+#![tactic(auto)]
+
 ghost use Rattle.std.specs.Prelude.{◌≡◌, ◌≤◌, length, take};
 
 use kinds::Counted;

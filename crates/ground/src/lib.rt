@@ -1,16 +1,18 @@
 // Arithmetic on plain numbers and the answer of a search for a step. Contracts cite `specs/Rounding`.
+#![tactic(auto)]
+
 ghost use Rattle.std.specs.Prelude.{◌≡◌, ◌+◌, ◌-◌, ◌*◌, ◌≤◌, max, min};
 ghost use Rattle.ground.specs.Rounding.{ceil_div};
 
 // The answer of a search for a step.
-#[derive(Drop)]
+#[derive(Clone, Copy)]
 pub enum Step {
     At(u32),
     Nothing,
 }
 
 // How a search for a step ended: its answer, and the looks that it made.
-#[derive(Drop)]
+#[derive(Clone, Copy)]
 pub struct Ended {
     pub step: Step,
     pub looks: u32,

@@ -1,5 +1,7 @@
 // Ask 10: the quick finder's search under edition 2. It halves the range of steps from 0 to full compression and one more, which means none,
 // and tests each middle on the charges. Contracts cite `specs/Halves`.
+#![tactic(auto)]
+
 ghost use Rattle.std.specs.Prelude.{◌≡◌, ◌≤◌, ◌<◌};
 ghost use Rattle.kinds.specs.Limits.{scale};
 ghost use Rattle.springs.specs.Columns.{spring_in, full_in};
@@ -13,7 +15,7 @@ use policy::Weights;
 use springs::Columns;
 
 // The steps that are left, and the looks made.
-#[derive(Drop)]
+#[derive(Clone, Copy)]
 pub struct Range {
     pub from: u32,
     pub to: u32,

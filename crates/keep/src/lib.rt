@@ -1,5 +1,7 @@
 // Ask 6: tasks join and leave a table, beside which the index by saturation step is kept. The promises of `join` and `leave` are `joined`
 // and `left` of `specs/Keep`.
+#![tactic(auto)]
+
 ghost use Rattle.std.specs.Prelude.{◌≡◌, ◌+◌, ◌≤◌, ◌<◌};
 ghost use Rattle.ground.specs.Laid.{padded_to};
 ghost use Rattle.kinds.specs.Limits.{most_tasks};
@@ -12,14 +14,14 @@ use springs::Columns;
 
 // A table, and beside it the index of its tasks. It is laid out as C lays it out.
 #[repr(C)]
-#[derive(Drop)]
+#[derive(Clone, Copy)]
 pub struct Kept {
     pub table: Table,
     pub index: Index,
 }
 
 // The answer to a change, and what is kept after it.
-#[derive(Drop)]
+#[derive(Clone, Copy)]
 pub struct Changed {
     pub answer: Verdict,
     pub kept: Kept,

@@ -1,5 +1,7 @@
 // The kinds that document 01 speaks of, each with its limits, and the numbers that stand for them. Contracts cite `specs/`, one file for
 // each kind.
+#![tactic(auto)]
+
 ghost use Rattle.std.specs.Prelude.{◌≡◌, ◌+◌, ◌*◌, ◌≤◌};
 ghost use Rattle.kinds.specs.Limits.{scale, longest_period, greatest_elasticity, most_tasks, most_processors};
 ghost use Rattle.kinds.specs.Limits.{fewest_settings, most_settings, share_edition, charge_edition};
@@ -10,7 +12,7 @@ ghost use Rattle.kinds.specs.Refusal.{handed_back, number_of, place_of};
 ghost use Rattle.kinds.specs.Answer.{is_accepted, step_of};
 
 // A share of one processor, in parts.
-#[derive(Drop)]
+#[derive(Clone, Copy)]
 pub struct Share {
     pub parts: u64,
 }
@@ -28,7 +30,7 @@ impl Share {
 
 // A task record: cost C, shortest and longest period, elasticity E. Any numbers may stand in it. What crosses to C is laid out as C lays it out.
 #[repr(C)]
-#[derive(Drop)]
+#[derive(Clone, Copy)]
 pub struct Task {
     pub c: u32,
     pub tmin: u32,
@@ -107,7 +109,7 @@ impl Task {
 
 // The task table by value: room for the most tasks, of which the first n count. A lent count may be greater than the room.
 #[repr(C)]
-#[derive(Drop)]
+#[derive(Clone, Copy)]
 pub struct Table {
     pub rows: [Task; Table::MOST_TASKS],
     pub n: usize,
@@ -125,14 +127,14 @@ impl Table {
 
 // The index beside a table by value: numbers of its records, with room for the most tasks, of which the first n count.
 #[repr(C)]
-#[derive(Drop)]
+#[derive(Clone, Copy)]
 pub struct Index {
     pub entries: [u16; Table::MOST_TASKS],
     pub n: usize,
 }
 
 // A policy is a choice of its own; a number outside 1 to 5 is kept in the further choice.
-#[derive(Drop)]
+#[derive(Clone, Copy)]
 pub enum Policy {
     Pooled,
     GlobalEdf,
@@ -209,7 +211,7 @@ impl Policy {
 
 // The station settings: the policy, how many processors there are, what a swap costs, the notch of the timer wheel, and the edition of the
 // charge.
-#[derive(Drop)]
+#[derive(Clone, Copy)]
 pub struct Settings {
     pub policy: Policy,
     pub m: u16,
@@ -282,7 +284,7 @@ impl Settings {
 
 // What an accepted plan grants a task: its period, and its processor, 0 for any.
 #[repr(C)]
-#[derive(Drop)]
+#[derive(Clone, Copy)]
 pub struct Granted {
     pub period: u32,
     pub processor: u16,
@@ -298,14 +300,14 @@ impl Granted {
 
 // The results section of a sheet: room for the most tasks, of which the first n count.
 #[repr(C)]
-#[derive(Drop)]
+#[derive(Clone, Copy)]
 pub struct Results {
     pub rows: [Granted; Table::MOST_TASKS],
     pub n: usize,
 }
 
 // A station sheet: how many numbers its settings section has, and its sections.
-#[derive(Drop)]
+#[derive(Clone, Copy)]
 pub struct Sheet {
     pub count: usize,
     pub settings: Settings,
@@ -314,7 +316,7 @@ pub struct Sheet {
 }
 
 // One variant for each number of documents 01 and 02, with its place where that is not 0.
-#[derive(Drop)]
+#[derive(Clone, Copy)]
 pub enum Refusal {
     NoSuchPolicy,
     Misset,
@@ -338,7 +340,7 @@ pub enum Refusal {
 }
 
 // A number that is handed back, and its place.
-#[derive(Drop)]
+#[derive(Clone, Copy)]
 struct Numbered(u16, usize);
 
 impl Refusal {
@@ -383,7 +385,7 @@ impl Refusal {
 }
 
 // What a finder answers: the step of an accepted plan, or the refusal.
-#[derive(Drop)]
+#[derive(Clone, Copy)]
 pub enum Answer {
     Accepted(u32),
     Refused(Refusal),
@@ -411,21 +413,21 @@ impl Answer {
 }
 
 // Yes, or the refusal.
-#[derive(Drop)]
+#[derive(Clone, Copy)]
 pub enum Verdict {
     Accepted,
     Refused(Refusal),
 }
 
 // A count, of rows or of bytes, or the refusal.
-#[derive(Drop)]
+#[derive(Clone, Copy)]
 pub enum Counted {
     Count(usize),
     Refused(Refusal),
 }
 
 // What the margin answers: a signed number, or the refusal.
-#[derive(Drop)]
+#[derive(Clone, Copy)]
 pub enum Margin {
     Is(i64),
     Refused(Refusal),
@@ -433,13 +435,13 @@ pub enum Margin {
 
 // The limits that definitions name are those that the code names.
 pub fn limits()
-    ensures* do_value { do ⌜ (← (⟦Share::SCALE⟧).entry) ≡ scale ⌝ }
-    ensures* do_value_2 { do ⌜ (← (⟦Task::LONGEST_PERIOD⟧).entry) ≡ longest_period ⌝ }
-    ensures* do_value_3 { do ⌜ (← (⟦Task::GREATEST_ELASTICITY⟧).entry) ≡ greatest_elasticity ⌝ }
-    ensures* do_value_4 { do ⌜ (← (⟦Table::MOST_TASKS⟧).entry) ≡ most_tasks ⌝ }
-    ensures* do_value_5 { do ⌜ (← (⟦Settings::MOST_PROCESSORS⟧).entry) ≡ most_processors ⌝ }
-    ensures* do_value_6 { do ⌜ (← (⟦Settings::FEWEST⟧).entry) ≡ fewest_settings ⌝ }
-    ensures* do_value_7 { do ⌜ (← (⟦Settings::MOST⟧).entry) ≡ most_settings ⌝ }
-    ensures* do_value_8 { do ⌜ (← (⟦Settings::SHARE_EDITION⟧).entry) ≡ share_edition ⌝ }
-    ensures* do_value_9 { do ⌜ (← (⟦Settings::CHARGE_EDITION⟧).entry) ≡ charge_edition ⌝ }
+    ensures scale { Share.SCALE ≡ scale }
+    ensures longest_period { Task.LONGEST_PERIOD ≡ longest_period }
+    ensures greatest_elasticity { Task.GREATEST_ELASTICITY ≡ greatest_elasticity }
+    ensures most_tasks { Table.MOST_TASKS ≡ most_tasks }
+    ensures most_processors { Settings.MOST_PROCESSORS ≡ most_processors }
+    ensures fewest_settings { Settings.FEWEST ≡ fewest_settings }
+    ensures most_settings { Settings.MOST ≡ most_settings }
+    ensures share_edition { Settings.SHARE_EDITION ≡ share_edition }
+    ensures charge_edition { Settings.CHARGE_EDITION ≡ charge_edition }
 {}

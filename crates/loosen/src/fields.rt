@@ -19,7 +19,7 @@ const GREATEST_COST: u64 = 16_000_000_000;
 const HELD: u64 = 100_000_000_000_000_000;
 
 // Why a line is no task, and the number of the field at fault. One that is a task where the table is full has no fault of its own.
-#[derive(Drop)]
+#[derive(Clone, Copy)]
 pub struct Fault {
     pub reason: u16,
     pub field: usize,
@@ -50,7 +50,7 @@ impl Fault {
 }
 
 // A number, or the reason for which a part is none.
-#[derive(Drop)]
+#[derive(Clone, Copy)]
 pub enum Number {
     Is(u64),
     Not(u16),

@@ -1,5 +1,7 @@
 // A text as an office or a spreadsheet gives it, written as the strict import takes it, and the names in it. It promises nothing of what it finds
 // and writes, so nobody needs to trust it: `tidy::tidied` hands on only what the strict import takes. It ends and stays within what is lent.
+#![tactic(auto)]
+
 pub mod fields;
 pub mod line;
 pub mod survey;
@@ -11,7 +13,7 @@ use text::part;
 pub const LONGEST: usize = 16_384;
 
 // How many bytes were written for a text, or that it has a line that cannot be taken.
-#[derive(Drop)]
+#[derive(Clone, Copy)]
 pub enum Loosened {
     Text(usize),
     Bad,

@@ -3,7 +3,7 @@ use text::part;
 use text::part::Part;
 
 // A line without the blanks around it, the byte between its fields, and how many fields it has, seven where they are more.
-#[derive(Drop)]
+#[derive(Clone, Copy)]
 pub struct Line {
     pub part: Part,
     pub separator: u8,

@@ -1,4 +1,6 @@
 // The margin of a step: by how much a table passes or fails the test of policies 1, 2 and 5. Contracts cite `specs/Margin`.
+#![tactic(auto)]
+
 ghost use Rattle.std.specs.Prelude.{◌≡◌};
 ghost use Rattle.kinds.specs.Answer.{handed_margin};
 ghost use Rattle.margin.specs.Margin.{margin_handed};

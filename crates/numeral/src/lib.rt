@@ -1,6 +1,8 @@
 // Numbers as text: the decimal digits of a number, put at a place of a lent buffer, and the number at a place of a lent text. Contracts
 // cite `specs/Decimal`, `specs/Scan` and `specs/Handover`; the last laws of `proofs/OneText` and `proofs/Numerals` say that each number has exactly one
 // text, and each accepted text exactly one number.
+#![tactic(auto)]
+
 ghost use Rattle.std.specs.Prelude.{true, ◌≡◌, ◌+◌, ◌*◌, ◌-◌, ◌≤◌, ◌<◌, length, get_or};
 ghost use Rattle.field.specs.Handover.{Put};
 ghost use Rattle.numeral.specs.Decimal.{decimal};
@@ -11,14 +13,14 @@ ghost use Rattle.numeral.specs.Handover.{Sized, Runs};
 pub const MOST_NUMBER: u64 = 4_294_967_295;
 
 // A run of digits: its value, held down at the number after the most, and the place after it.
-#[derive(Drop)]
+#[derive(Clone, Copy)]
 pub struct Run {
     pub value: u64,
     pub next: usize,
 }
 
 // A number and the place after the byte that ended it, or none.
-#[derive(Drop)]
+#[derive(Clone, Copy)]
 pub enum Numeral {
     Is(u32, usize),
     Bad,

@@ -1,6 +1,8 @@
 // Task tables as the office keeps them: comma-separated text, a line for each task. `import` and `export` work on a table by value; the
 // calls over lent rows are those of `eelbasket`. Contracts cite `specs/Text`, `specs/Reading` and `specs/Carrying`; the last laws of
 // `proofs/RoundTrip` are the two round trips.
+#![tactic(auto)]
+
 ghost use Rattle.std.specs.Prelude.{◌≡◌, ◌+◌, ◌≤◌, length};
 ghost use Rattle.kinds.specs.Limits.{most_tasks};
 ghost use Rattle.field.specs.Handover.{Put};
@@ -26,14 +28,14 @@ const LINE: usize = 4 * DIGITS + 3 + 1;
 pub const LONGEST: usize = Table::MOST_TASKS * LINE;
 
 // A line's task and the place after it, or none.
-#[derive(Drop)]
+#[derive(Clone, Copy)]
 pub enum Line {
     Row(Task, usize),
     Bad,
 }
 
 // What an import by value answers, with the table; a refused one has the table of no tasks.
-#[derive(Drop)]
+#[derive(Clone, Copy)]
 pub struct Imported {
     pub answer: Counted,
     pub table: Table,

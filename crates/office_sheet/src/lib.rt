@@ -1,5 +1,7 @@
 // The work of the office's programs on slices: `enter` makes an unfilled station sheet of a text, `take_out` writes the text of a sheet's
 // table; each writes the line of a refusal instead. Contracts cite `specs/Written`.
+#![tactic(auto)]
+
 ghost use Rattle.std.specs.Prelude.{◌≡◌, ◌≤◌, length};
 ghost use Rattle.kinds.specs.Limits.{most_tasks};
 ghost use Rattle.sheet.specs.Sections.{longest_sheet};
@@ -11,7 +13,7 @@ use kinds::{Counted, Granted, Policy, Refusal, Results, Settings, Sheet, Table, 
 use numeral::Numeral;
 
 // A number of the station settings, or none.
-#[derive(Drop)]
+#[derive(Clone, Copy)]
 pub enum Setting {
     Is(u16),
     Bad,

@@ -1,5 +1,7 @@
 // What an accepted plan grants: each task's period and processor, written to the two lent outputs. Contracts cite `specs/Plan`, which
 // settles a finder's call whole, and `specs/Handover`.
+#![tactic(auto)]
+
 ghost use Rattle.std.specs.Prelude.{◌++◌, ◌≡◌, ℕ, ◌≤◌, length, get_or, drop};
 ghost use Rattle.ground.specs.Folds.{list_to};
 ghost use Rattle.kinds.specs.Answer.{handed};

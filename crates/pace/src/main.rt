@@ -1,5 +1,7 @@
 // The program: reads a sheet from standard input, and writes it filled, or the line of its refusal, to standard output. All its work is
 // `fill`; no more than one byte past the longest sheet is read, since nothing further on changes what is written.
+#![tactic(auto)]
+
 use libc::{STDIN_FILENO, STDOUT_FILENO};
 
 fn main() {

@@ -1,6 +1,8 @@
 // The plain finder: it tests the policy at step 0, 1, 2, … to full compression, on the loads of the settings' edition. The springs are worked
 // out once for a call, and under edition 1 the shares are let down from step to step. Contracts cite `specs/Handover`; the promise of `find` is
 // `outcome true` of `outcome`.
+#![tactic(auto)]
+
 ghost use Rattle.std.specs.Prelude.{true, ◌≡◌, ◌≤◌};
 ghost use Rattle.kinds.specs.Answer.{handed};
 ghost use Rattle.kinds.specs.Limits.{most_processors};

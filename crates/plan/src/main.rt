@@ -1,6 +1,8 @@
 // The program behind `eelbasket plan`: what the office's text on standard input comes to, with the settings that its words name. The first word says
 // how: `text` for people to read, `sheet` the filled sheet, `csv` lines for other programs. The settings follow in their order on a sheet, and the
 // last ones may be left out. The text may be as people give it: `tidy::tidied` makes the exact text of it, and one byte more is read than it takes.
+#![tactic(auto)]
+
 use fill::SheetPlan;
 use kinds::{Answer, Counted, Granted, Refusal, Results, Settings, Sheet, Table};
 use libc::STDIN_FILENO;
@@ -9,14 +11,14 @@ use office_sheet::Setting;
 use task_names::ROOM;
 
 // The settings that the words name, or the refusal of one that is no number.
-#[derive(Drop)]
+#[derive(Clone, Copy)]
 enum Asked {
     Is(Settings),
     Refused(Refusal),
 }
 
 // How a plan is put.
-#[derive(Drop)]
+#[derive(Clone, Copy)]
 enum Form {
     Text,
     Sheet,

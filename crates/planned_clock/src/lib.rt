@@ -1,5 +1,7 @@
 // From a plan to a clock. The promise is `PlanIs` of `specs/ClockPlan`; that a start never refuses the periods of an accepted plan is
 // `accepted-starts` of `proofs/Accepted`.
+#![tactic(auto)]
+
 ghost use Rattle.std.specs.Prelude.{true};
 ghost use Rattle.outcome.specs.Plan.{outcome};
 ghost use Rattle.planned_clock.specs.ClockPlan.{PlanIs};
@@ -8,7 +10,7 @@ use clock::Clock;
 use kinds::{Answer, Settings, Table};
 
 // What the plain finder answers, and the clock: of zeros where it refuses.
-#[derive(Drop)]
+#[derive(Clone, Copy)]
 pub struct Planned {
     pub plan: Answer,
     pub clock: Clock,

@@ -1,5 +1,7 @@
 // Ask 7: a planner for the cores, which proposes a processor for each task at a step. It promises nothing of what it proposes, so nobody
 // needs to trust it: `proposal::check` says whether a proposal may be used. Contracts say only what keeps the walks in bounds.
+#![tactic(auto)]
+
 ghost use Rattle.std.specs.Prelude.{◌≤◌, ◌<◌};
 ghost use Rattle.kinds.specs.Limits.{scale, most_tasks, most_processors};
 ghost use Rattle.fit.specs.Handover.{Loads};

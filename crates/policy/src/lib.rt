@@ -1,5 +1,7 @@
 // The five policies over any loads: their sum and max, the two sides of a policy's test, passing and the margin; and the tests of a step on
 // springs. The loads stand first in a lent block. Contracts cite `specs/Sides`, `specs/Passing` and `specs/Weighed`.
+#![tactic(auto)]
+
 ghost use Rattle.std.specs.Prelude.{true, ◌≡◌, ◌*◌, ◌≤◌, leb};
 ghost use Rattle.std.proofs.Math.IntN.{sub_ℕ};
 ghost use Rattle.ground.specs.Folds.{sum_to};
@@ -19,7 +21,7 @@ use kinds::{Policy, Share};
 use springs::Columns;
 
 // The test of a policy that is weighed is sum + b · max ≤ r.
-#[derive(Drop)]
+#[derive(Clone, Copy)]
 pub struct Weights {
     pub b: u64,
     pub r: u64,
@@ -54,7 +56,7 @@ pub fn left_of(w: Weights, sum: u64, max: u64) -> u64
 }
 
 // The sum and the max of some loads.
-#[derive(Drop)]
+#[derive(Clone, Copy)]
 pub struct Total {
     pub sum: u64,
     pub max: u64,

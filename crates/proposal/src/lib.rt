@@ -1,5 +1,7 @@
 // Ask 7: the checker of a proposal, a processor for each task at a step, whoever made it. The promise of `check` is `outcome` of
 // `specs/Proposal`; the other contracts cite `specs/Loads` and `specs/Handover`.
+#![tactic(auto)]
+
 ghost use Rattle.std.specs.Prelude.{◌++◌, ◌≡◌, ℕ, ◌≤◌, length, get_or, drop};
 ghost use Rattle.ground.specs.First.{first_below};
 ghost use Rattle.ground.specs.Folds.{list_to};

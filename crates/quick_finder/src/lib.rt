@@ -1,6 +1,8 @@
 // The quick finder. Under edition 1 it looks at step 0, then at each distinct saturation step above 0 in rising order, until one passes; the
 // step inside the last stretch comes by division. Under edition 2 it halves the range of steps. Contracts cite `specs/Search` and
 // `specs/Handover`; the promise of `find` is `outcome false` of `outcome` with the looks of `specs/Looked`.
+#![tactic(auto)]
+
 ghost use Rattle.std.specs.Prelude.{false, ◌≡◌, ◌≤◌, ◌<◌};
 ghost use Rattle.kinds.specs.Answer.{handed};
 ghost use Rattle.kinds.specs.Limits.{most_tasks};
@@ -21,7 +23,7 @@ use policy::Weights;
 use springs::Columns;
 
 // What the quick finder answers, and the looks that it made.
-#[derive(Drop)]
+#[derive(Clone, Copy)]
 pub struct Looked {
     pub answer: Answer,
     pub looks: u32,
@@ -29,7 +31,7 @@ pub struct Looked {
 
 // Where a search stands: the looks made, the step of the last, the step before it, whether the last one passed, and the sum of the
 // shares at its step.
-#[derive(Drop)]
+#[derive(Clone, Copy)]
 pub struct Search {
     pub looks: u32,
     pub step: u32,

@@ -1,5 +1,7 @@
 // Why a record of either kind is not good: the first of the limits that it breaks, in the documents' order, and the number that tells it.
 // Contracts cite `specs/Reason` and, for a task that needs several cores, `specs/WideReason`.
+#![tactic(auto)]
+
 ghost use Rattle.std.specs.Prelude.{◌≡◌};
 ghost use Rattle.reason.specs.Reason.{notch_reason, reason_of, reason_number};
 ghost use Rattle.reason.specs.WideReason.{rest_reason, wide_reason_of, wide_reason_number};
@@ -8,7 +10,7 @@ use kinds::Task;
 use wide_task::WideTask;
 
 // The limits of a record, in the documents' order, and that none is broken.
-#[derive(Drop)]
+#[derive(Clone, Copy)]
 pub enum Reason {
     NoCost,
     CostAboveTmin,
@@ -41,7 +43,7 @@ impl Reason {
 }
 
 // The limits of a task that needs several cores, in the documents' order, and that none is broken.
-#[derive(Drop)]
+#[derive(Clone, Copy)]
 pub enum WideReason {
     NoSpan,
     SpanNotBelowTmin,

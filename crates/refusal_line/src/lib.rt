@@ -1,4 +1,6 @@
 // What every program writes: bytes at the front of a lent buffer, and the line of a refusal. Contracts cite `specs/Line` and `specs/Fronts`.
+#![tactic(auto)]
+
 ghost use Rattle.std.specs.Prelude.{◌+◌, ◌≤◌, length};
 ghost use Rattle.kinds.specs.Refusal.{number_of, place_of};
 ghost use Rattle.field.specs.Handover.{Put};

@@ -1,5 +1,6 @@
 // The refusals of documents 01 and 02 in words, put at a place of a lent buffer as `text` puts them. Printed by `scripts/refusals rattle` from
 // docs/refusals.txt: the sentences stand in one run of bytes, as a check costs seconds for each place where bytes are lent.
+#![tactic(auto)]
 
 // One sentence on what to look at, of the refusal of a number at a place; none has the number 0.
 pub fn sentence(out: &mut [u8], at: usize, number: u16, place: usize) -> usize {

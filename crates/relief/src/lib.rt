@@ -1,5 +1,7 @@
 // What would relieve a table: one processor more, or one task fewer, each with the least step that passes then, and that of the table as it
 // stands. Contracts cite `specs/Relief`.
+#![tactic(auto)]
+
 ghost use Rattle.std.specs.Prelude.{true, ◌++◌, ◌≡◌, ◌≤◌, ◌<◌, length, drop};
 ghost use Rattle.ground.specs.Folds.{list_to};
 ghost use Rattle.kinds.specs.Answer.{handed, step_of};
@@ -10,7 +12,7 @@ ghost use Rattle.relief.specs.Relief.{told_step, least_told, one_more, least_wit
 use kinds::{Answer, Refusal, Settings, Table, Verdict};
 
 // Whether the table is admitted, and where it is its least step and that with one processor more, told as numbers: 0 for none, else the step + 1.
-#[derive(Drop)]
+#[derive(Clone, Copy)]
 pub struct Relief {
     pub verdict: Verdict,
     pub least: u32,

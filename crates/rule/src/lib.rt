@@ -1,4 +1,6 @@
 // The rules of document 01, "Numbers on a task", on plain numbers: a cost, periods, an elasticity, a step. Contracts cite `specs/Rule`.
+#![tactic(auto)]
+
 ghost use Rattle.std.specs.Prelude.{◌≡◌, ◌≤◌};
 ghost use Rattle.rule.specs.Rule.{most_cost, most_parts, part_of, share_of, saturation_of, period_of, notched_up};
 

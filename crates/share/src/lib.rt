@@ -1,5 +1,7 @@
 // The rules of document 01, "Numbers on a task", for a task record: its cost and its two shares. Contracts cite `specs/Share`; what the
 // rules give at a step and for a table is in `specs/Share` and `specs/Table`, and `springs` works it out.
+#![tactic(auto)]
+
 ghost use Rattle.std.specs.Prelude.{◌≡◌};
 ghost use Rattle.kinds.specs.Task.{Good};
 ghost use Rattle.share.specs.Share.{largest_of, least_of, share_at, share_under};

@@ -1,5 +1,7 @@
 // Reading a station sheet: fields, rows and sections on a slice and a place, and above them the `Reader`, which holds both. Callers use
 // `read`. Contracts cite `specs/Sections`, `specs/Rows`, `specs/Reading` and `specs/Handover`.
+#![tactic(auto)]
+
 ghost use Rattle.std.specs.Prelude.{◌≡◌, ◌≤◌, length};
 ghost use Rattle.kinds.specs.Limits.{most_settings, most_tasks};
 ghost use Rattle.kinds.specs.Answer.{refused};
@@ -12,7 +14,7 @@ use field::{Field16, Field32};
 use kinds::{Granted, Refusal, Results, Settings, Sheet, Table, Task, Verdict};
 
 // A verdict, and the sheet: that of zeros where it was refused.
-#[derive(Drop)]
+#[derive(Clone, Copy)]
 pub struct Reading {
     pub verdict: Verdict,
     pub sheet: Sheet,
@@ -77,14 +79,14 @@ pub fn results_fit(r: usize, n: usize) -> bool
 }
 
 // A task record and the place after it, or that it is not there.
-#[derive(Drop)]
+#[derive(Clone, Copy)]
 enum TaskField {
     Value(Task, usize),
     Missing,
 }
 
 // A result and the place after it, or that it is not there.
-#[derive(Drop)]
+#[derive(Clone, Copy)]
 enum GrantedField {
     Value(Granted, usize),
     Missing,
@@ -123,7 +125,7 @@ fn read_granted(s: &[u8], at: usize) -> GrantedField
 }
 
 // The numbers of the settings section: whether all are there, the numbers, and the place after them.
-#[derive(Drop)]
+#[derive(Clone, Copy)]
 struct SettingRows {
     whole: bool,
     rows: [u16; Settings::MOST],
@@ -131,7 +133,7 @@ struct SettingRows {
 }
 
 // The rows of the task section: whether all are there, the rows, and the place after them.
-#[derive(Drop)]
+#[derive(Clone, Copy)]
 struct TaskRows {
     whole: bool,
     rows: [Task; Table::MOST_TASKS],
@@ -139,7 +141,7 @@ struct TaskRows {
 }
 
 // The rows of the results section: whether all are there, the rows, and the place after them.
-#[derive(Drop)]
+#[derive(Clone, Copy)]
 struct GrantedRows {
     whole: bool,
     rows: [Granted; Table::MOST_TASKS],
@@ -249,7 +251,7 @@ fn refusing(refusal: Refusal) -> Reading
 }
 
 // The settings count, the settings and the task count, or the refusal.
-#[derive(Drop)]
+#[derive(Clone, Copy)]
 enum Head {
     Value(usize, Settings, usize),
     Refused(Refusal),
@@ -374,7 +376,7 @@ fn read_rest(s: &[u8], at: usize, head: Head) -> Reading
 }
 
 // Document 01: "a reader that holds the lent sheet and its place in it."
-#[derive(Drop)]
+#[derive(Clone, Copy)]
 pub struct Reader<'a> {
     pub sheet: &'a [u8],
     pub at: usize,

@@ -1,5 +1,7 @@
 // What people read of a table that no step passes: by how much it does not fit at full compression, and what alone would make it fit; and of any
 // table both sides of the policy's test at a step. All numbers come from proved calls. The text is tested and not promised.
+#![tactic(auto)]
+
 ghost use Rattle.std.specs.Prelude.{◌≤◌};
 ghost use Rattle.kinds.specs.Limits.{most_processors};
 ghost use Rattle.fit.specs.Handover.{Loads};
@@ -17,7 +19,7 @@ const MOST_SHOWN: usize = 5;
 const FULL: u32 = Share::SCALE as u32;
 
 // The two sides of the policy's test at a step, and where first fit places the tasks there.
-#[derive(Drop)]
+#[derive(Clone, Copy)]
 struct Sides {
     asked: u64,
     there: u64,

@@ -1,5 +1,7 @@
 // The springs of a table, worked out once for a call into a lent block of columns; the loads of a step come from them and stand in the block's
 // first column. Contracts cite `specs/Spring`, of springs, `specs/Columns`, of where they stand, and `specs/Handover`.
+#![tactic(auto)]
+
 ghost use Rattle.std.specs.Prelude.{◌≡◌, ℕ, ◌-◌, ◌≤◌, ◌<◌, max, get_or};
 ghost use Rattle.kinds.specs.Limits.{scale, greatest_elasticity, longest_period, most_tasks};
 ghost use Rattle.kinds.specs.Task.{Good};
@@ -10,7 +12,7 @@ ghost use Rattle.springs.specs.Handover.{Within, Allowed, Roomy, Springy, Charge
 use kinds::{Settings, Table, Task};
 
 // All that a task's shares, periods and charges depend on.
-#[derive(Drop)]
+#[derive(Clone, Copy)]
 pub struct Spring {
     pub largest: u32,
     pub least: u32,
@@ -21,7 +23,7 @@ pub struct Spring {
 }
 
 // The columns of a block, by their places in it. The first holds the loads of a step: the shares, or the charges.
-#[derive(Drop)]
+#[derive(Clone, Copy)]
 pub struct Columns {}
 
 impl Columns {

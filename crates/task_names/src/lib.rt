@@ -1,5 +1,7 @@
 // The names of tasks, kept beside their table in one lent block, for people to read. They are tested and not promised; each call is proved to stay
 // within what is lent.
+#![tactic(auto)]
+
 use kinds::Table;
 use text::part;
 use text::part::Part;

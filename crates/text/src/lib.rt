@@ -1,5 +1,7 @@
 // Text for people, put at a place of a lent buffer as far as there is room: words, forms with numbers in their columns, gauges. What stands there
 // afterwards is tested and not promised; each call is proved to stay within what is lent.
+#![tactic(auto)]
+
 pub mod part;
 
 ghost use Rattle.std.specs.Prelude.{◌+◌, ◌≤◌, ◌<◌, length};

@@ -1,7 +1,7 @@
 // A part of a text, from one place to another. What is found in it is tested and not promised; each call is proved to stay within what is lent.
 
 // From one place of a text to another, the second not in it.
-#[derive(Drop)]
+#[derive(Clone, Copy)]
 pub struct Part {
     pub start: usize,
     pub end: usize,

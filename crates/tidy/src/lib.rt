@@ -1,6 +1,8 @@
 // A room in front of the strict import of the office's text: what an office or a spreadsheet gives goes in, and the exact text that `office`
 // takes comes out, or nothing. A text that the strict import takes goes through byte for byte. The contract cites `specs/Tidied`; the laws of
 // `proofs/Tidying` say what it means.
+#![tactic(auto)]
+
 ghost use Rattle.std.specs.Prelude.{◌≡◌};
 ghost use Rattle.kinds.specs.Answer.{handed_count, refused};
 ghost use Rattle.tidy.specs.Tidied.{strict, Tidies};

@@ -1,5 +1,7 @@
 // What people are told of a text as an office gives it: each line that cannot be taken, up to ten, and what was passed over. The text is tested
 // and not promised; each call is proved to stay within what is lent.
+#![tactic(auto)]
+
 mod fault;
 
 use libc::STDERR_FILENO;

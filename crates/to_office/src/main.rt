@@ -1,5 +1,7 @@
 // The way back to the office: writes the text of the table of a sheet on standard input, filled or not. All its work is
 // `office_sheet::take_out`; no more than one byte past the longest sheet is read, since nothing further on changes what is written.
+#![tactic(auto)]
+
 use libc::{STDIN_FILENO, STDOUT_FILENO};
 
 fn main() {

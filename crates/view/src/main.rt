@@ -1,5 +1,7 @@
 // The program: reads a sheet from standard input, and writes what people read of it to standard output. All its work is `view_text::view`; no
 // more than one byte past the longest sheet is read, since nothing further on changes what is written.
+#![tactic(auto)]
+
 use libc::STDIN_FILENO;
 
 fn main() {

@@ -1,5 +1,7 @@
 // The settings of a station and a line for each of its tasks, for people to read: its name or number; in a plan its period, how far that is
 // stretched, its processor and its share; and its record. The columns are as wide as what stands in them. The text is tested and not promised.
+#![tactic(auto)]
+
 use kinds::{Granted, Settings, Sheet, Table, Task};
 use task_names::ROOM;
 use text::part;
@@ -11,7 +13,7 @@ const NUMBERS: usize = 5;
 const LINE: usize = 80;
 
 // What stands in the line of a task beside its name: those numbers, how far it is stretched in per cent of its range, its processor, its share.
-#[derive(Drop)]
+#[derive(Clone, Copy)]
 struct Row {
     numbers: [u64; NUMBERS],
     stretch: u64,
@@ -21,7 +23,7 @@ struct Row {
 }
 
 // How the lines are laid out: the width of the names and of those numbers, whether thousands are set apart, and what is left out.
-#[derive(Drop)]
+#[derive(Clone, Copy)]
 struct Layout {
     name: usize,
     numbers: [usize; NUMBERS],

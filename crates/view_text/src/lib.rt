@@ -1,5 +1,7 @@
 // What people read of a station sheet, put into a lent buffer: its settings, its tasks and their plan, and what that leaves free, or why it is
 // refused. All of it comes from proved calls: the reader, the filling, the margin and both checkers. The text is tested and not promised.
+#![tactic(auto)]
+
 use fill::SheetPlan;
 use kinds::{
     Answer, Margin, Policy, Refusal, Results, Settings, Share, Sheet, Table, Task, Verdict,

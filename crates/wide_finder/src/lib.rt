@@ -1,5 +1,7 @@
 // Ask 4: the finder of jobs that need several cores, by the rules of `wide_task` for one of them. It halves the range of steps. The promise
 // of `find` is `outcome` of `specs/Wide`.
+#![tactic(auto)]
+
 ghost use Rattle.std.specs.Prelude.{◌++◌, ◌≡◌, ◌≤◌, length, drop};
 ghost use Rattle.kinds.specs.Answer.{handed};
 ghost use Rattle.kinds.specs.Limits.{most_tasks, most_processors};

@@ -1,5 +1,7 @@
 // Ask 4: a task that needs several cores, as a type with its limits, and its rules by the leaf functions of `rule`: shares, saturation
 // step, periods, and the cores that it needs at a step. Contracts cite `specs/`, one file for each notion.
+#![tactic(auto)]
+
 ghost use Rattle.std.specs.Prelude.{◌≡◌};
 ghost use Rattle.kinds.specs.Limits.{longest_period, greatest_elasticity};
 ghost use Rattle.wide_task.specs.Limits.{most_tmins};
@@ -11,7 +13,7 @@ use kinds::{Share, Table, Task};
 
 // A task that needs several cores: cost C, span L, shortest and longest period, elasticity E. Any numbers may stand in it.
 #[repr(C)]
-#[derive(Drop)]
+#[derive(Clone, Copy)]
 pub struct WideTask {
     pub c: u64,
     pub l: u32,
@@ -66,7 +68,7 @@ impl WideTask {
 }
 
 // A table of such tasks by value: room for the most tasks, of which the first n count. A lent count may be greater than the room.
-#[derive(Drop)]
+#[derive(Clone, Copy)]
 pub struct WideTable {
     pub rows: [WideTask; Table::MOST_TASKS],
     pub n: usize,
@@ -74,9 +76,9 @@ pub struct WideTable {
 
 // The limits that definitions name are those that the code names.
 pub fn limits()
-    ensures* do_value { do ⌜ (← (⟦WideTask::MOST_TMINS⟧).entry) ≡ most_tmins ⌝ }
-    ensures* do_value_2 { do ⌜ (← (⟦WideTask::LONGEST_PERIOD⟧).entry) ≡ longest_period ⌝ }
-    ensures* do_value_3 { do ⌜ (← (⟦WideTask::GREATEST_ELASTICITY⟧).entry) ≡ greatest_elasticity ⌝ }
+    ensures most_tmins { WideTask.MOST_TMINS ≡ most_tmins }
+    ensures longest_period { WideTask.LONGEST_PERIOD ≡ longest_period }
+    ensures greatest_elasticity { WideTask.GREATEST_ELASTICITY ≡ greatest_elasticity }
 {}
 
 // Document 01: "Largest share: C × S / Tmin rounded up."

@@ -1,5 +1,7 @@
 // Writing a station sheet into a lent buffer: rows, sections, the sheet. Callers use `write`. Contracts cite `specs/Encode` and
 // `specs/Writing`.
+#![tactic(auto)]
+
 ghost use Rattle.std.specs.Prelude.{◌+◌, ◌*◌, ◌≤◌, length};
 ghost use Rattle.kinds.specs.Limits.{most_settings, most_tasks};
 ghost use Rattle.field.specs.Handover.{Put};

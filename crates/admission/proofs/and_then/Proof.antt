@@ -1,5 +1,5 @@
 -- `admission::and_then` meets its contract. Assumes nothing.
-use Rattle.ground.proofs.Kit.{refl, needs}
+use Rattle.ground.proofs.Kit.{refl}
 use Rattle.admission.proofs.and_then.Statement.{statement}
 use Rattle.admission.proofs.and_then.Tie as tie
 

@@ -1,5 +1,4 @@
 -- `admission::gate_of` meets its contract. Assumes nothing.
-use Rattle.ground.proofs.Kit.{needs}
 use Rattle.admission.proofs.gate_of.Statement.{statement}
 use Rattle.admission.proofs.gate_of.Tie as tie
 

@@ -1,5 +1,4 @@
 -- `admission::knows` meets its contract. Assumes nothing.
-use Rattle.ground.proofs.Kit.{needs}
 use Rattle.admission.proofs.knows.Statement.{statement}
 use Rattle.admission.proofs.knows.Tie as tie
 

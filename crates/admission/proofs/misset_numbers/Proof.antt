@@ -1,5 +1,5 @@
 -- `admission::misset_numbers` meets its contract. Assumes nothing.
-use Rattle.ground.proofs.Kit.{false, ◌≡◌, needs, eq-eqb, ne_eqb}
+use Rattle.ground.proofs.Kit.{false, ◌≡◌, eq-eqb, ne_eqb}
 use Rattle.admission.specs.Admission.{misset}
 use Rattle.admission.proofs.misset_numbers.Statement.{statement}
 use Rattle.admission.proofs.misset_numbers.Tie as tie

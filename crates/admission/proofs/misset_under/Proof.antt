@@ -1,5 +1,5 @@
 -- `admission::misset_under` meets its contract. Assumes nothing.
-use Rattle.ground.proofs.Kit.{false, ◌≡◌, needs}
+use Rattle.ground.proofs.Kit.{false, ◌≡◌}
 use Rattle.admission.specs.Admission.{misset_numbers}
 use Rattle.admission.proofs.misset_under.Statement.{statement}
 use Rattle.admission.proofs.misset_under.Tie as tie

@@ -1,5 +1,4 @@
 -- `admission::served` meets its contract. Assumes nothing.
-use Rattle.ground.proofs.Kit.{needs}
 use Rattle.admission.proofs.served.Statement.{statement}
 use Rattle.admission.proofs.served.Tie as tie
 

@@ -1,5 +1,4 @@
 -- `admission::unsuited` meets its contract. Assumes nothing.
-use Rattle.ground.proofs.Kit.{needs}
 use Rattle.admission.proofs.unsuited.Statement.{statement}
 use Rattle.admission.proofs.unsuited.Tie as tie
 

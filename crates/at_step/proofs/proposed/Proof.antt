@@ -1,6 +1,6 @@
 -- `at_step::proposed` ends and stays within the entries. Assumes nothing.
 -- The loop: there stays an entry for each task; how many are left falls.
-use Rattle.ground.proofs.Kit.{◌-◌, ◌≤◌, ◌≡◌, refl, length, length-set, needs}
+use Rattle.ground.proofs.Kit.{◌-◌, ◌≤◌, ◌≡◌, refl, length, length-set}
 use Rattle.kinds.specs.Limits.{most_tasks}
 use Rattle.at_step.proofs.proposed.Statement.{statement}
 use Rattle.at_step.proofs.proposed.Tie as tie

@@ -1,5 +1,5 @@
 -- `at_step::put_proposal` lends no more entries than there are. Assumes nothing.
-use Rattle.ground.proofs.Kit.{sym, arith, length-take-le, needs}
+use Rattle.ground.proofs.Kit.{sym, arith, length-take-le}
 use Rattle.at_step.proofs.put_proposal.Statement.{statement}
 use Rattle.at_step.proofs.put_proposal.Tie as tie
 

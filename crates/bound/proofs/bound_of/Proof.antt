@@ -1,5 +1,5 @@
 -- `bound::bound_of` meets its contract: the code's table is the definition's. Assumes nothing.
-use Rattle.ground.proofs.Kit.{refl, needs}
+use Rattle.ground.proofs.Kit.{refl}
 use Rattle.bound.specs.Bound.{bounds, bound_of}
 use Rattle.bound.proofs.bound_of.Statement.{statement}
 use Rattle.bound.proofs.bound_of.Tie as tie

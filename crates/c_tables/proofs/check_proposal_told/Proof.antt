@@ -1,5 +1,5 @@
 -- `c_tables::check_proposal_told` meets its contract. Assumes nothing.
-use Rattle.ground.proofs.Kit.{◌∙◌, needs}
+use Rattle.ground.proofs.Kit.{◌∙◌}
 use Rattle.c_tables.proofs.check_proposal_told.Statement.{statement}
 use Rattle.c_tables.proofs.check_proposal_told.Tie as tie
 

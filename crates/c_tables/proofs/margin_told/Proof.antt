@@ -1,5 +1,5 @@
 -- `c_tables::margin_told` meets its contract. Assumes nothing.
-use Rattle.ground.proofs.Kit.{◌≡◌, sym, ◌∙◌, ap, needs}
+use Rattle.ground.proofs.Kit.{◌≡◌, sym, ◌∙◌, ap}
 use lib.IntN.{pos}
 use mir.Syntax.{w64}
 use mir.Val.{to_z, of_z}

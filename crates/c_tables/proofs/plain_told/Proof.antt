@@ -1,5 +1,5 @@
 -- `c_tables::plain_told` meets its contract. Assumes nothing.
-use Rattle.ground.proofs.Kit.{◌∙◌, needs}
+use Rattle.ground.proofs.Kit.{◌∙◌}
 use Rattle.c_tables.proofs.plain_told.Statement.{statement}
 use Rattle.c_tables.proofs.plain_told.Tie as tie
 

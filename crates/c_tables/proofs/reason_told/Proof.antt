@@ -1,5 +1,5 @@
 -- `c_tables::reason_told` meets its contract. Assumes nothing.
-use Rattle.ground.proofs.Kit.{◌∙◌, ap, needs}
+use Rattle.ground.proofs.Kit.{◌∙◌, ap}
 use Rattle.reason.specs.Reason.{reason_number}
 use Rattle.c_tables.proofs.reason_told.Statement.{statement}
 use Rattle.c_tables.proofs.reason_told.Tie as tie

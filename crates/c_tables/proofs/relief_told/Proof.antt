@@ -1,5 +1,5 @@
 -- `c_tables::relief_told` meets its contract. Assumes nothing.
-use Rattle.ground.proofs.Kit.{◌∙◌, needs}
+use Rattle.ground.proofs.Kit.{◌∙◌}
 use Rattle.c_tables.proofs.relief_told.Statement.{statement}
 use Rattle.c_tables.proofs.relief_told.Tie as tie
 

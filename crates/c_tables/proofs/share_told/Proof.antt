@@ -1,5 +1,5 @@
 -- `c_tables::share_told` meets its contract. Assumes nothing.
-use Rattle.ground.proofs.Kit.{◌≡◌, arith, needs}
+use Rattle.ground.proofs.Kit.{◌≡◌, arith}
 use Rattle.share.specs.Share.{share_under}
 use Rattle.c_numbers.specs.Numbers.{station_settings}
 use Rattle.c_tables.proofs.Shares.{shared-most}

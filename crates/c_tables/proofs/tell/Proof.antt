@@ -1,5 +1,5 @@
 -- `c_tables::tell` meets its contract. Assumes nothing.
-use Rattle.ground.proofs.Kit.{refl, needs}
+use Rattle.ground.proofs.Kit.{refl}
 use Rattle.kinds.specs.declared.Verdict.TheVariants.{Refused}
 use Rattle.c_numbers.proofs.Beside.{told-beside}
 use Rattle.c_tables.proofs.tell.Statement.{statement}

@@ -1,5 +1,5 @@
 -- `c_tables::wide_reason_told` meets its contract. Assumes nothing.
-use Rattle.ground.proofs.Kit.{◌∙◌, ap, needs}
+use Rattle.ground.proofs.Kit.{◌∙◌, ap}
 use Rattle.reason.specs.WideReason.{wide_reason_number}
 use Rattle.c_tables.proofs.wide_reason_told.Statement.{statement}
 use Rattle.c_tables.proofs.wide_reason_told.Tie as tie

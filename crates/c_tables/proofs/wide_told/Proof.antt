@@ -1,5 +1,5 @@
 -- `c_tables::wide_told` meets its contract. Assumes nothing.
-use Rattle.ground.proofs.Kit.{◌∙◌, needs}
+use Rattle.ground.proofs.Kit.{◌∙◌}
 use Rattle.c_tables.proofs.wide_told.Statement.{statement}
 use Rattle.c_tables.proofs.wide_told.Tie as tie
 

@@ -1,5 +1,5 @@
 -- `change_over::change_over` meets its contract: it lends the part that `part_of` names. Assumes nothing.
-use Rattle.ground.proofs.Kit.{refl, arith, needs}
+use Rattle.ground.proofs.Kit.{refl, arith}
 use Rattle.change_over.specs.declared.Which.TheVariants.{Standing, Proposed}
 use Rattle.change_over.proofs.Parts.{part-fits, lent_fits, lent}
 use Rattle.change_over.proofs.change_over.Statement.{statement}

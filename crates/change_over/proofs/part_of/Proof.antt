@@ -1,5 +1,5 @@
 -- `change_over::part_of` meets its contract: each `return` is one law of `Parts`. Assumes nothing.
-use Rattle.ground.proofs.Kit.{sym, ◌∙◌, needs}
+use Rattle.ground.proofs.Kit.{sym, ◌∙◌}
 use Rattle.change_over.proofs.Sections.{section-fits}
 use Rattle.change_over.proofs.Parts.{takes-proposed, takes-standing, takes-nothing}
 use Rattle.change_over.proofs.part_of.Statement.{statement}

@@ -1,5 +1,4 @@
 -- `change_over::section_of` meets its contract. Assumes nothing.
-use Rattle.ground.proofs.Kit.{needs}
 use Rattle.plain_finder.specs.Asked.{asked}
 use Rattle.change_over.proofs.Sections.{unread, accepts, refuses}
 use Rattle.change_over.proofs.section_of.Statement.{statement}

@@ -1,5 +1,5 @@
 -- `change_over::tasks_of` meets its contract. Assumes nothing.
-use Rattle.ground.proofs.Kit.{◌-◌, ◌*◌, ◌≡◌, arith, needs}
+use Rattle.ground.proofs.Kit.{◌-◌, ◌*◌, ◌≡◌, arith}
 use Rattle.sheet.specs.Sections.{task_size}
 use Rattle.change_over.proofs.Parts.{tasks-part}
 use Rattle.change_over.proofs.tasks_of.Statement.{statement}

@@ -1,5 +1,5 @@
 -- `checked_proposal::plan_or_refuse` meets its contract. Assumes nothing.
-use Rattle.ground.proofs.Kit.{ℕ, min, List, ◌≡◌, sym, subst, arith, length, take, length-take-le, needs}
+use Rattle.ground.proofs.Kit.{ℕ, min, List, ◌≡◌, sym, subst, arith, length, take, length-take-le}
 use Rattle.kinds.specs.Limits.{most_tasks}
 use Rattle.kinds.specs.declared.Verdict.{Verdict}
 use Rattle.kinds.specs.declared.Verdict.TheVariants.{Accepted}

@@ -1,5 +1,4 @@
 -- `clock::call` meets its contract. Assumes nothing.
-use Rattle.ground.proofs.Kit.{needs}
 use Rattle.clock.specs.Call.{moved_on}
 use Rattle.clock.proofs.Calls.{called-many, called-none, called-one}
 use Rattle.clock.proofs.call.Statement.{statement}

@@ -1,5 +1,5 @@
 -- `clock::lateness` meets its contract. Assumes nothing.
-use Rattle.ground.proofs.Kit.{◌≡◌, arith, needs}
+use Rattle.ground.proofs.Kit.{◌≡◌, arith}
 use Rattle.clock.specs.Ticks.{behind}
 use Rattle.clock.proofs.Wrap.{sub_is, late_due, late-not}
 use Rattle.clock.proofs.lateness.Statement.{statement}

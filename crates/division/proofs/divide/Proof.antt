@@ -1,5 +1,5 @@
 -- `division::divide` meets its contract. Assumes nothing.
-use Rattle.ground.proofs.Kit.{◌-◌, ◌+◌, ◌≤◌, ◌<◌, ◌≡◌, arith, needs}
+use Rattle.ground.proofs.Kit.{◌-◌, ◌+◌, ◌≤◌, ◌<◌, ◌≡◌, arith}
 use Rattle.springs.specs.Columns.{spring_in}
 use Rattle.division.specs.Division.{divided}
 use Rattle.division.proofs.Stretches.{something-falls, divided-worked-out}

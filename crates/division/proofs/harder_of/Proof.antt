@@ -1,5 +1,5 @@
 -- `division::harder_of` meets its contract. Assumes nothing.
-use Rattle.ground.proofs.Kit.{mul-le-mul, arith, needs}
+use Rattle.ground.proofs.Kit.{mul-le-mul, arith}
 use Rattle.division.proofs.Lines.{harder-kept, harder-divided}
 use Rattle.division.proofs.harder_of.Statement.{statement}
 use Rattle.division.proofs.harder_of.Tie as tie

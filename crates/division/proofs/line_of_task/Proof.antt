@@ -1,5 +1,5 @@
 -- `division::line_of_task` meets its contract. Assumes nothing.
-use Rattle.ground.proofs.Kit.{arith, needs}
+use Rattle.ground.proofs.Kit.{arith}
 use Rattle.division.proofs.line_of_task.Statement.{statement}
 use Rattle.division.proofs.line_of_task.Tie as tie
 

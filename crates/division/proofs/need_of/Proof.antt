@@ -1,5 +1,5 @@
 -- `division::need_of` meets its contract. Assumes nothing.
-use Rattle.ground.proofs.Kit.{arith, needs}
+use Rattle.ground.proofs.Kit.{arith}
 use Rattle.ground.proofs.Rounding.{ceil-high}
 use Rattle.division.proofs.need_of.Statement.{statement}
 use Rattle.division.proofs.need_of.Tie as tie

@@ -1,5 +1,5 @@
 -- `division::needed` meets its contract. Assumes nothing.
-use Rattle.ground.proofs.Kit.{sym, ◌∙◌, arith, needs}
+use Rattle.ground.proofs.Kit.{sym, ◌∙◌, arith}
 use Rattle.springs.specs.Columns.{spring_in}
 use Rattle.division.proofs.Lines.{need-line}
 use Rattle.division.proofs.Stretches.{need-flatly}

@@ -1,6 +1,6 @@
 -- `field::all_bytes` meets its contract. Assumes nothing.
 -- The loop: every entry before i is a byte, as `wide16` says of the one at i; what is left of the slice falls.
-use Rattle.ground.proofs.Kit.{ℕ, ◌-◌, ◌≤◌, ◌<◌, arith, length, get_or, needs}
+use Rattle.ground.proofs.Kit.{ℕ, ◌-◌, ◌≤◌, ◌<◌, arith, length, get_or}
 use borrow.Author.Count.{below_none, below_more}
 use Rattle.field.proofs.Numbers.{all-bytes}
 use Rattle.field.proofs.all_bytes.Statement.{statement}

@@ -1,5 +1,5 @@
 -- `field::put_u16` meets its contract. Assumes nothing.
-use Rattle.ground.proofs.Kit.{refl, add-one, arith, length-set, needs}
+use Rattle.ground.proofs.Kit.{refl, add-one, arith, length-set}
 use Rattle.field.specs.Number.{bytes_of}
 use Rattle.field.specs.Handover.{stored}
 use Rattle.field.proofs.put_u16.Statement.{statement}

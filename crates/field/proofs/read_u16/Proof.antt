@@ -1,5 +1,5 @@
 -- `field::read_u16` meets its contract. Assumes nothing.
-use Rattle.ground.proofs.Kit.{sym, arith, needs}
+use Rattle.ground.proofs.Kit.{sym, arith}
 use Rattle.field.proofs.Fields.{there16, missing16}
 use Rattle.field.proofs.Numbers.{number-two}
 use Rattle.field.proofs.read_u16.Statement.{statement}

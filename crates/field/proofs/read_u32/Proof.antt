@@ -1,5 +1,5 @@
 -- `field::read_u32` meets its contract. Assumes nothing.
-use Rattle.ground.proofs.Kit.{sym, arith, needs}
+use Rattle.ground.proofs.Kit.{sym, arith}
 use Rattle.field.proofs.Fields.{there32, missing32}
 use Rattle.field.proofs.Numbers.{number-four}
 use Rattle.field.proofs.read_u32.Statement.{statement}

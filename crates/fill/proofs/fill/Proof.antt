@@ -1,6 +1,5 @@
 -- `fill::fill` meets its contract. Assumes nothing.
 use Rattle.fill.proofs.Fills.{tells-sheet, tells-line, kept}
-use Rattle.ground.proofs.Kit.{needs}
 use Rattle.fill.proofs.fill.Statement.{statement}
 use Rattle.fill.proofs.fill.Tie as tie
 

@@ -2,7 +2,7 @@
 use Rattle.fill.proofs.Fills.{refuses}
 use Rattle.fill.proofs.Plans.{filling-refused, filling-written}
 use Rattle.fill.proofs.Readings.{reading-refused, reading-accepted}
-use Rattle.ground.proofs.Kit.{◌∙◌, needs}
+use Rattle.ground.proofs.Kit.{◌∙◌}
 use Rattle.sheet.proofs.Handed.{reading-taken}
 use Rattle.fill.proofs.fill_in.Statement.{statement}
 use Rattle.fill.proofs.fill_in.Tie as tie

@@ -1,5 +1,5 @@
 -- `fill::fill_sheet` meets its contract: each `return` is one law of `Plans`. Assumes nothing.
-use Rattle.ground.proofs.Kit.{refl, needs}
+use Rattle.ground.proofs.Kit.{refl}
 use Rattle.fill.proofs.Plans.{plan-refused, plan-few, plan-filled}
 use Rattle.fill.proofs.fill_sheet.Statement.{statement}
 use Rattle.fill.proofs.fill_sheet.Tie as tie

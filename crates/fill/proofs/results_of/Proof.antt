@@ -1,6 +1,6 @@
 -- `fill::results_of` meets its contract. Assumes nothing.
 -- The loop: the first i rows are the entries of the two outputs, the rest are unused; n − i falls.
-use Rattle.ground.proofs.Kit.{◌-◌, ◌≤◌, ◌≡◌, refl, sym, arith, length, length-set, needs}
+use Rattle.ground.proofs.Kit.{◌-◌, ◌≤◌, ◌≡◌, refl, sym, arith, length, length-set}
 use Rattle.ground.specs.Laid.{padded_to}
 use Rattle.ground.proofs.Laid.{over_none}
 use Rattle.kinds.specs.Limits.{most_tasks}

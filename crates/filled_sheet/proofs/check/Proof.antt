@@ -1,5 +1,5 @@
 -- `filled_sheet::check` meets its contract. Assumes nothing.
-use Rattle.ground.proofs.Kit.{◌∙◌, needs}
+use Rattle.ground.proofs.Kit.{◌∙◌}
 use Rattle.filled_sheet.proofs.Compared.{checked-by}
 use Rattle.filled_sheet.proofs.Readings.{unread, read}
 use Rattle.filled_sheet.proofs.check.Statement.{statement}

@@ -1,5 +1,4 @@
 -- `filled_sheet::check_plan` meets its contract: each `return` is one law of `Compared`. Assumes nothing.
-use Rattle.ground.proofs.Kit.{needs}
 use Rattle.filled_sheet.proofs.Compared.{plan-refuses, without-results, one-differs, all-agree}
 use Rattle.filled_sheet.proofs.check_plan.Statement.{statement}
 use Rattle.filled_sheet.proofs.check_plan.Tie as tie

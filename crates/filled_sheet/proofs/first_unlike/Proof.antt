@@ -1,7 +1,7 @@
 -- `filled_sheet::first_unlike` meets its contract. Assumes nothing.
 -- The loop: none of the first i results differs; how many are held less i falls.
 use lib.ListN.{length-map}
-use Rattle.ground.proofs.Kit.{ℕ, ◌-◌, ◌≤◌, ◌<◌, min, false, ◌≡◌, sym, ◌∙◌, arith, length, needs}
+use Rattle.ground.proofs.Kit.{ℕ, ◌-◌, ◌≤◌, ◌<◌, min, false, ◌≡◌, sym, ◌∙◌, arith, length}
 use Rattle.ground.proofs.First.{first-here, first_more}
 use Rattle.kinds.specs.Limits.{most_tasks}
 use Rattle.filled_sheet.specs.Checked.{unlike}

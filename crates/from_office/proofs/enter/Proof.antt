@@ -1,5 +1,5 @@
 -- `from_office::enter` meets its contract. Assumes nothing.
-use Rattle.ground.proofs.Kit.{sym, length-take-le, needs}
+use Rattle.ground.proofs.Kit.{sym, length-take-le}
 use Rattle.tidy.proofs.Tidying.{count_fits}
 use Rattle.from_office.proofs.enter.Statement.{statement}
 use Rattle.from_office.proofs.enter.Tie as tie

@@ -1,5 +1,5 @@
 -- `ground::times` meets its contract. Assumes nothing.
-use Rattle.ground.proofs.Kit.{◌*◌, ◌≤◌, mul-le-mul, arith, needs}
+use Rattle.ground.proofs.Kit.{◌*◌, ◌≤◌, mul-le-mul, arith}
 use Rattle.ground.proofs.times.Statement.{statement}
 use Rattle.ground.proofs.times.Tie as tie
 

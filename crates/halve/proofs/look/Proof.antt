@@ -1,5 +1,5 @@
 -- `halve::look` meets its contract. Assumes nothing.
-use Rattle.ground.proofs.Kit.{◌≡◌, needs}
+use Rattle.ground.proofs.Kit.{◌≡◌}
 use Rattle.ground.specs.Halving.{middle}
 use Rattle.springs.specs.Columns.{spring_in}
 use Rattle.policy.specs.Weighed.{charged_at}

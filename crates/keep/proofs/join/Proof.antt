@@ -1,5 +1,5 @@
 -- `keep::join` meets its contract. Assumes nothing.
-use Rattle.ground.proofs.Kit.{◌+◌, ◌≤◌, ◌∙◌, ap, arith, needs}
+use Rattle.ground.proofs.Kit.{◌+◌, ◌≤◌, ◌∙◌, ap, arith}
 use Rattle.kinds.specs.declared.Table.{Table}
 use Rattle.springs.specs.Handover.{SprungUntil}
 use Rattle.keep.specs.Keep.{joined_rows}

@@ -1,5 +1,5 @@
 -- `keep::leave` meets its contract. Assumes nothing.
-use Rattle.ground.proofs.Kit.{◌∙◌, needs}
+use Rattle.ground.proofs.Kit.{◌∙◌}
 use Rattle.keep.specs.Keep.{left_rows}
 use Rattle.keep.proofs.Blocks.{left-indexable, left-index}
 use Rattle.keep.proofs.Changes.{fresh-is, leave-zero, leave-many, leave-bad, leave-missing, leave-made}

@@ -1,5 +1,4 @@
 -- `keep::with` meets its contract. Assumes nothing.
-use Rattle.ground.proofs.Kit.{needs}
 use Rattle.keep.proofs.Rows.{joined_is}
 use Rattle.keep.proofs.with.Statement.{statement}
 use Rattle.keep.proofs.with.Tie as tie

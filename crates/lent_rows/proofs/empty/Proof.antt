@@ -1,5 +1,4 @@
 -- `lent_rows::empty` meets its contract. Assumes nothing.
-use Rattle.ground.proofs.Kit.{needs}
 use Rattle.lent_rows.proofs.empty.Statement.{statement}
 use Rattle.lent_rows.proofs.empty.Tie as tie
 

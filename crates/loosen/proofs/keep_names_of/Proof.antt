@@ -1,6 +1,6 @@
 -- `loosen::keep_names_of` ends and stays within what is lent. Assumes nothing.
 -- The loop: no more tasks are taken than there are; how many are left falls.
-use Rattle.ground.proofs.Kit.{◌-◌, ◌≤◌, needs}
+use Rattle.ground.proofs.Kit.{◌-◌, ◌≤◌}
 use Rattle.loosen.proofs.keep_names_of.Statement.{statement}
 use Rattle.loosen.proofs.keep_names_of.Tie as tie
 

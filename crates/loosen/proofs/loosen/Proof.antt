@@ -1,6 +1,6 @@
 -- `loosen::loosen` ends and stays within what is lent. Assumes nothing.
 -- The loop: no more tasks are put than there are, and the buffer keeps its length; how many are left falls.
-use Rattle.ground.proofs.Kit.{◌-◌, ◌≤◌, ◌≡◌, refl, length, needs}
+use Rattle.ground.proofs.Kit.{◌-◌, ◌≤◌, ◌≡◌, refl, length}
 use Rattle.loosen.proofs.loosen.Statement.{statement}
 use Rattle.loosen.proofs.loosen.Tie as tie
 

@@ -1,5 +1,5 @@
 -- `margin::margin_at` meets its contract. Assumes nothing.
-use Rattle.ground.proofs.Kit.{ℕ, ◌<◌, false, ◌≡◌, refl, sym, ◌∙◌, ap, needs}
+use Rattle.ground.proofs.Kit.{ℕ, ◌<◌, false, ◌≡◌, refl, sym, ◌∙◌, ap}
 use Rattle.kinds.specs.Answer.{accepted}
 use Rattle.springs.proofs.Blocks.{loads-are, loads-most}
 use Rattle.fit.specs.Fit.{load_in}

@@ -1,5 +1,5 @@
 -- `numeral::put_decimal` meets its contract; the number falls at each call. Assumes nothing.
-use Rattle.ground.proofs.Kit.{ℕ, ◌<◌, arith, needs}
+use Rattle.ground.proofs.Kit.{ℕ, ◌<◌, arith}
 use borrow.Fn.Kinds.{In}
 use borrow.Fn.PlainCycle.{Measures, is, falls, and}
 use Rattle.numeral.proofs.Digits.{one-long, more-long, puts_one, puts-more}

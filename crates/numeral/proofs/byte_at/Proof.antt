@@ -1,6 +1,6 @@
 -- `numeral::byte_at` meets its contract. Assumes nothing.
 use lib.ListN.{get_or-eq_default}
-use Rattle.ground.proofs.Kit.{sym, needs}
+use Rattle.ground.proofs.Kit.{sym}
 use Rattle.numeral.proofs.byte_at.Statement.{statement}
 use Rattle.numeral.proofs.byte_at.Tie as tie
 

@@ -1,6 +1,5 @@
 -- `numeral::grown` meets its contract. Assumes nothing.
 use Rattle.numeral.proofs.Scan.{digit-is}
-use Rattle.ground.proofs.Kit.{needs}
 use Rattle.numeral.proofs.grown.Statement.{statement}
 use Rattle.numeral.proofs.grown.Tie as tie
 

@@ -1,5 +1,5 @@
 -- `numeral::is_plain` meets its contract, by the count of digits. Assumes nothing.
-use Rattle.ground.proofs.Kit.{ℕ, not, sym, ◌∙◌, ap, arith, eqb, needs}
+use Rattle.ground.proofs.Kit.{ℕ, not, sym, ◌∙◌, ap, arith, eqb}
 use Rattle.numeral.proofs.Scan.{plain-none, plain-one, plain_more, first-digit}
 use Rattle.numeral.proofs.is_plain.Statement.{statement}
 use Rattle.numeral.proofs.is_plain.Tie as tie

@@ -1,5 +1,5 @@
 -- `numeral::number_at` meets its contract. Assumes nothing.
-use Rattle.ground.proofs.Kit.{true, ◌≡◌, sym, ◌∙◌, needs, not-true, not-false}
+use Rattle.ground.proofs.Kit.{true, ◌≡◌, sym, ◌∙◌, not-true, not-false}
 use Rattle.numeral.specs.Scan.{digits_at, plain}
 use Rattle.numeral.proofs.Scan.{not_plain, too_large, number_read}
 use Rattle.numeral.proofs.number_at.Statement.{statement}

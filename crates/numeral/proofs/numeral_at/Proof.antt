@@ -1,5 +1,5 @@
 -- `numeral::numeral_at` meets its contract. Assumes nothing.
-use Rattle.ground.proofs.Kit.{◌<◌, ◌≡◌, sym, ◌∙◌, arith, get_or, needs}
+use Rattle.ground.proofs.Kit.{◌<◌, ◌≡◌, sym, ◌∙◌, arith, get_or}
 use Rattle.numeral.specs.declared.Numeral.TheVariants.{Is}
 use Rattle.numeral.specs.Scan.{number_at}
 use Rattle.numeral.proofs.Scan.{within, no_number, other-end, whole}

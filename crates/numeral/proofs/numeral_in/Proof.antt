@@ -1,5 +1,5 @@
 -- `numeral::numeral_in` meets its contract. Assumes nothing.
-use Rattle.ground.proofs.Kit.{◌≡◌, sym, ◌∙◌, needs}
+use Rattle.ground.proofs.Kit.{◌≡◌, sym, ◌∙◌}
 use Rattle.numeral.specs.declared.Numeral.TheVariants.{Is}
 use Rattle.numeral.specs.Scan.{number_at}
 use Rattle.numeral.proofs.Scan.{in-none, in-longer, in_whole}

@@ -1,6 +1,6 @@
 -- `numeral::run_at` meets its contract. Assumes nothing.
 -- The loop: the digits left after those passed give the whole run; what is left of the text falls.
-use Rattle.ground.proofs.Kit.{◌-◌, ◌<◌, true, ◌≡◌, sym, ◌∙◌, arith, length, needs, not-true, not-false}
+use Rattle.ground.proofs.Kit.{◌-◌, ◌<◌, true, ◌≡◌, sym, ◌∙◌, arith, length, not-true, not-false}
 use Rattle.numeral.specs.Scan.{is_digit}
 use Rattle.numeral.proofs.Scan.{Going, going-none, going_more, going_end, digit-within}
 use Rattle.numeral.proofs.run_at.Statement.{statement}

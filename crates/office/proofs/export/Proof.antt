@@ -1,5 +1,5 @@
 -- `office::export` meets its contract. Assumes nothing.
-use Rattle.ground.proofs.Kit.{arith, needs}
+use Rattle.ground.proofs.Kit.{arith}
 use Rattle.office.proofs.Answers.{exports-many, exports-short, exports-done}
 use Rattle.office.proofs.export.Statement.{statement}
 use Rattle.office.proofs.export.Tie as tie

@@ -1,6 +1,6 @@
 -- `office::import` meets its contract. Assumes nothing.
 -- The loop: the lines left after those read give the whole reading; the rows that a table still has room for fall.
-use Rattle.ground.proofs.Kit.{◌-◌, sym, ◌∙◌, needs}
+use Rattle.ground.proofs.Kit.{◌-◌, sym, ◌∙◌}
 use Rattle.kinds.specs.Limits.{most_tasks}
 use Rattle.office.proofs.Lines.{Going, going-none, going-many, going-bad, going_more}
 use Rattle.office.proofs.Answers.{reads-not, reads_short, reads-done}

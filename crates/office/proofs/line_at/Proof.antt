@@ -1,5 +1,5 @@
 -- `office::line_at` meets its contract, by the first number that is not there. Assumes nothing.
-use Rattle.ground.proofs.Kit.{◌≡◌, sym, ◌∙◌, needs}
+use Rattle.ground.proofs.Kit.{◌≡◌, sym, ◌∙◌}
 use Rattle.numeral.specs.declared.Numeral.TheVariants.{Is}
 use Rattle.numeral.specs.Scan.{numeral_at}
 use Rattle.office.specs.Text.{comma}

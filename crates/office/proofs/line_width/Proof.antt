@@ -1,5 +1,5 @@
 -- `office::line_width` meets its contract. Assumes nothing.
-use Rattle.ground.proofs.Kit.{arith, needs}
+use Rattle.ground.proofs.Kit.{arith}
 use Rattle.office.proofs.Widths.{line-long}
 use Rattle.office.proofs.line_width.Statement.{statement}
 use Rattle.office.proofs.line_width.Tie as tie

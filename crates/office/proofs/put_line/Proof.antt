@@ -1,5 +1,5 @@
 -- `office::put_line` meets its contract: four runs, one after the other. Assumes nothing.
-use Rattle.ground.proofs.Kit.{arith, needs}
+use Rattle.ground.proofs.Kit.{arith}
 use Rattle.office.proofs.Widths.{line-sum, puts-line}
 use Rattle.office.proofs.put_line.Statement.{statement}
 use Rattle.office.proofs.put_line.Tie as tie

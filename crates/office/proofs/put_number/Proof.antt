@@ -1,5 +1,5 @@
 -- `office::put_number` meets its contract. Assumes nothing.
-use Rattle.ground.proofs.Kit.{◌+◌, ◌≤◌, arith, length, needs}
+use Rattle.ground.proofs.Kit.{◌+◌, ◌≤◌, arith, length}
 use Rattle.office.proofs.Widths.{number-long, puts-number}
 use Rattle.office.proofs.put_number.Statement.{statement}
 use Rattle.office.proofs.put_number.Tie as tie

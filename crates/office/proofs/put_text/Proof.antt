@@ -1,6 +1,6 @@
 -- `office::put_text` meets its contract. Assumes nothing.
 -- The loop: the lines of the first i rows are stored at the front, and nothing else; n − i falls.
-use Rattle.ground.proofs.Kit.{◌+◌, ◌-◌, ◌≤◌, ◌≡◌, refl, ◌∙◌, arith, length, needs}
+use Rattle.ground.proofs.Kit.{◌+◌, ◌-◌, ◌≤◌, ◌≡◌, refl, ◌∙◌, arith, length}
 use Rattle.ground.proofs.Joins.{join-longer, join-within}
 use Rattle.field.specs.Handover.{Put}
 use Rattle.field.proofs.Stores.{put-long, put-no-run, put-run}

@@ -1,5 +1,4 @@
 -- `office::refused` meets its contract. Assumes nothing.
-use Rattle.ground.proofs.Kit.{needs}
 use Rattle.office.proofs.refused.Statement.{statement}
 use Rattle.office.proofs.refused.Tie as tie
 

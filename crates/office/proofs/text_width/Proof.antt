@@ -1,6 +1,6 @@
 -- `office::text_width` meets its contract. Assumes nothing.
 -- The loop: the lines of the first i rows are counted; n − i falls.
-use Rattle.ground.proofs.Kit.{ℕ, ◌-◌, ◌*◌, ◌≤◌, ◌≡◌, sym, ◌∙◌, ap, arith, length, needs}
+use Rattle.ground.proofs.Kit.{ℕ, ◌-◌, ◌*◌, ◌≤◌, ◌≡◌, sym, ◌∙◌, ap, arith, length}
 use Rattle.ground.proofs.Joins.{join-none, join-longer}
 use Rattle.office.specs.Text.{row_line, text_to, longest_line}
 use Rattle.office.proofs.text_width.Statement.{statement}

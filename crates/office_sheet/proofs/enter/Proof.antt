@@ -1,5 +1,5 @@
 -- `office_sheet::enter` meets its contract: each `return` is one law of `Entering`. Assumes nothing.
-use Rattle.ground.proofs.Kit.{◌≡◌, sym, ◌∙◌, needs}
+use Rattle.ground.proofs.Kit.{◌≡◌, sym, ◌∙◌}
 use Rattle.office_sheet.specs.declared.Setting.TheVariants.{Is}
 use Rattle.office_sheet.specs.Written.{setting_of, entered_text, entered}
 use Rattle.office_sheet.proofs.Entering.{policy-bad, processors-bad, text-entered, text-refused, table-few, text-taken}

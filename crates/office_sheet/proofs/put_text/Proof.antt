@@ -1,6 +1,5 @@
 -- `office_sheet::put_text` meets its contract. Assumes nothing.
 use Rattle.office_sheet.proofs.Taking.{table-refused, table_taken}
-use Rattle.ground.proofs.Kit.{needs}
 use Rattle.office_sheet.proofs.put_text.Statement.{statement}
 use Rattle.office_sheet.proofs.put_text.Tie as tie
 

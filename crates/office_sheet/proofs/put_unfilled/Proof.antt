@@ -1,6 +1,5 @@
 -- `office_sheet::put_unfilled` meets its contract: the sheet is never refused. Assumes nothing.
 use Rattle.office_sheet.proofs.Entering.{unrefused, sheet-fronts}
-use Rattle.ground.proofs.Kit.{needs}
 use Rattle.office_sheet.proofs.put_unfilled.Statement.{statement}
 use Rattle.office_sheet.proofs.put_unfilled.Tie as tie
 

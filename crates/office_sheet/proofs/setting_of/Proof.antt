@@ -1,5 +1,5 @@
 -- `office_sheet::setting_of` meets its contract. Assumes nothing.
-use Rattle.ground.proofs.Kit.{◌≡◌, sym, ◌∙◌, needs}
+use Rattle.ground.proofs.Kit.{◌≡◌, sym, ◌∙◌}
 use Rattle.numeral.specs.declared.Numeral.TheVariants as numeral
 use Rattle.numeral.specs.Scan.{numeral_in}
 use Rattle.office_sheet.proofs.Entering.{setting-bad, setting-large, setting-is}

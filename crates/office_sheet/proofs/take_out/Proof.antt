@@ -1,6 +1,5 @@
 -- `office_sheet::take_out` meets its contract. Assumes nothing.
 use Rattle.office_sheet.proofs.Taking.{sheet-refused, sheet-taken}
-use Rattle.ground.proofs.Kit.{needs}
 use Rattle.office_sheet.proofs.take_out.Statement.{statement}
 use Rattle.office_sheet.proofs.take_out.Tie as tie
 

@@ -1,5 +1,4 @@
 -- `outcome::decide` meets its contract. Assumes nothing.
-use Rattle.ground.proofs.Kit.{needs}
 use Rattle.outcome.proofs.decide.Statement.{statement}
 use Rattle.outcome.proofs.decide.Tie as tie
 

@@ -1,5 +1,5 @@
 -- `outcome::grant` meets its contract. Assumes nothing.
-use Rattle.ground.proofs.Kit.{ℕ, List, ◌++◌, sym, ◌∙◌, ap, length, drop, needs}
+use Rattle.ground.proofs.Kit.{ℕ, List, ◌++◌, sym, ◌∙◌, ap, length, drop}
 use Rattle.kinds.specs.Answer.{is_accepted, step_of}
 use Rattle.outcome.specs.Handover.{Grantable}
 use Rattle.outcome.proofs.Writing.{granted-at, written-refused, written-accepted}

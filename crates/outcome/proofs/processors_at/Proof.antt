@@ -1,5 +1,5 @@
 -- `outcome::processors_at` meets its contract. Assumes nothing.
-use Rattle.ground.proofs.Kit.{sym, ◌∙◌, arith, needs}
+use Rattle.ground.proofs.Kit.{sym, ◌∙◌, arith}
 use Rattle.kinds.specs.Policy.{meant}
 use Rattle.springs.specs.Spring.{loads_on}
 use Rattle.springs.specs.Columns.{spring_in}

@@ -1,5 +1,4 @@
 -- `outcome::stepped` meets its contract. Assumes nothing.
-use Rattle.ground.proofs.Kit.{needs}
 use Rattle.outcome.proofs.stepped.Statement.{statement}
 use Rattle.outcome.proofs.stepped.Tie as tie
 

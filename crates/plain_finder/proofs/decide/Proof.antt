@@ -1,5 +1,5 @@
 -- `plain_finder::decide` meets its contract. Assumes nothing.
-use Rattle.ground.proofs.Kit.{true, refl, needs}
+use Rattle.ground.proofs.Kit.{true, refl}
 use Rattle.admission.specs.Handover.{AdmittedSprung}
 use Rattle.admission.proofs.Opened.{may-walk, admitted-sprung}
 use Rattle.outcome.proofs.Searches.{gate-admission, found-refused, may-search, found-sprung}

@@ -1,5 +1,5 @@
 -- `plain_finder::find` meets its contract. Assumes nothing.
-use Rattle.ground.proofs.Kit.{min, true, ◌≡◌, refl, length, needs}
+use Rattle.ground.proofs.Kit.{min, true, ◌≡◌, refl, length}
 use Rattle.kinds.specs.declared.Verdict.TheVariants.{Accepted}
 use Rattle.admission.specs.Handover.{AdmittedSprung}
 use Rattle.admission.proofs.Opened.{may-walk, admitted-sprung}

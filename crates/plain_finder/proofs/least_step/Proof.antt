@@ -1,5 +1,5 @@
 -- `plain_finder::least_step` meets its contract. Assumes nothing.
-use Rattle.ground.proofs.Kit.{sym, ◌∙◌, needs}
+use Rattle.ground.proofs.Kit.{sym, ◌∙◌}
 use Rattle.springs.proofs.Blocks.{charged-springy}
 use Rattle.plain_finder.proofs.Stepping.{as_first, as-second}
 use Rattle.plain_finder.proofs.least_step.Statement.{statement}

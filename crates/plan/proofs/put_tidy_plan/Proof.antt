@@ -1,5 +1,5 @@
 -- `plan::put_tidy_plan` stays within what is lent. Assumes nothing.
-use Rattle.ground.proofs.Kit.{sym, length-take-le, needs}
+use Rattle.ground.proofs.Kit.{sym, length-take-le}
 use Rattle.tidy.proofs.Tidying.{count_fits}
 use Rattle.plan.proofs.put_tidy_plan.Statement.{statement}
 use Rattle.plan.proofs.put_tidy_plan.Tie as tie

@@ -1,6 +1,6 @@
 -- `plan::settings_asked` ends and stays within the settings. Assumes nothing.
 -- The loop: there stays a number for each setting; how many settings are left falls.
-use Rattle.ground.proofs.Kit.{◌-◌, ◌≤◌, ◌≡◌, refl, length, length-set, needs}
+use Rattle.ground.proofs.Kit.{◌-◌, ◌≤◌, ◌≡◌, refl, length, length-set}
 use Rattle.kinds.specs.Limits.{most_settings}
 use Rattle.plan.proofs.settings_asked.Statement.{statement}
 use Rattle.plan.proofs.settings_asked.Tie as tie

@@ -1,5 +1,5 @@
 -- `planned_clock::start_plan` meets its contract. Assumes nothing.
-use Rattle.ground.proofs.Kit.{sym, ◌∙◌, length-take-le, needs}
+use Rattle.ground.proofs.Kit.{sym, ◌∙◌, length-take-le}
 use Rattle.planned_clock.proofs.Accepted.{roomy, planned-well, planned-none}
 use Rattle.planned_clock.proofs.start_plan.Statement.{statement}
 use Rattle.planned_clock.proofs.start_plan.Tie as tie

@@ -1,5 +1,5 @@
 -- `planner::propose` stays in bounds and ends. Assumes nothing.
-use Rattle.ground.proofs.Kit.{sym, arith, needs}
+use Rattle.ground.proofs.Kit.{sym, arith}
 use Rattle.proposal.specs.Handover.{LoadsOf}
 use Rattle.planner.proofs.propose.Statement.{statement}
 use Rattle.planner.proofs.propose.Tie as tie

@@ -1,5 +1,5 @@
 -- `policy::difference` meets its contract. Assumes nothing.
-use Rattle.ground.proofs.Kit.{◌∙◌, needs}
+use Rattle.ground.proofs.Kit.{◌∙◌}
 use mir.Facts.{to_z-of_z}
 use Rattle.policy.proofs.Signed.{difference-is, difference-fits}
 use Rattle.policy.proofs.difference.Statement.{statement}

@@ -1,5 +1,5 @@
 -- `policy::margin_of` meets its contract. Assumes nothing.
-use Rattle.ground.proofs.Kit.{◌∙◌, needs}
+use Rattle.ground.proofs.Kit.{◌∙◌}
 use Rattle.policy.proofs.Tests.{margin-worked-out}
 use Rattle.policy.proofs.margin_of.Statement.{statement}
 use Rattle.policy.proofs.margin_of.Tie as tie

@@ -1,5 +1,4 @@
 -- `policy::most_sum` meets its contract. Assumes nothing.
-use Rattle.ground.proofs.Kit.{needs}
 use Rattle.policy.proofs.most_sum.Statement.{statement}
 use Rattle.policy.proofs.most_sum.Tie as tie
 

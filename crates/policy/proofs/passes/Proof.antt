@@ -1,5 +1,5 @@
 -- `policy::passes` meets its contract. Assumes nothing.
-use Rattle.ground.proofs.Kit.{refl, sym, ◌∙◌, needs}
+use Rattle.ground.proofs.Kit.{refl, sym, ◌∙◌}
 use Rattle.policy.proofs.Tests.{passes-worked-out, first-fit-passes}
 use Rattle.policy.proofs.passes.Statement.{statement}
 use Rattle.policy.proofs.passes.Tie as tie

@@ -1,5 +1,5 @@
 -- `policy::passes_charged` meets its contract. Assumes nothing.
-use Rattle.ground.proofs.Kit.{sym, ◌∙◌, arith, needs}
+use Rattle.ground.proofs.Kit.{sym, ◌∙◌, arith}
 use Rattle.springs.proofs.Blocks.{loaded-beside}
 use Rattle.policy.proofs.Tests.{too_much, passes_same}
 use Rattle.policy.proofs.Weighing.{charges-loads}

@@ -1,5 +1,5 @@
 -- `policy::passes_summed` meets its contract. Assumes nothing.
-use Rattle.ground.proofs.Kit.{sym, arith, needs}
+use Rattle.ground.proofs.Kit.{sym, arith}
 use Rattle.fit.specs.Fit.{load_in}
 use Rattle.policy.proofs.Tests.{too_much}
 use Rattle.policy.proofs.passes_summed.Statement.{statement}

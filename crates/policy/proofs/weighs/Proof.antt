@@ -1,5 +1,4 @@
 -- `policy::weighs` meets its contract. Assumes nothing.
-use Rattle.ground.proofs.Kit.{needs}
 use Rattle.policy.proofs.weighs.Statement.{statement}
 use Rattle.policy.proofs.weighs.Tie as tie
 

@@ -1,5 +1,5 @@
 -- `policy::weighs_charged` meets its contract. Assumes nothing.
-use Rattle.ground.proofs.Kit.{◌∙◌, needs}
+use Rattle.ground.proofs.Kit.{◌∙◌}
 use Rattle.springs.proofs.Blocks.{loaded-beside}
 use Rattle.policy.proofs.Weighing.{charges-loads, charged-weighed, summed-loads}
 use Rattle.policy.proofs.weighs_charged.Statement.{statement}

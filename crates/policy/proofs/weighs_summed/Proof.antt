@@ -1,5 +1,5 @@
 -- `policy::weighs_summed` meets its contract. Assumes nothing.
-use Rattle.ground.proofs.Kit.{sym, ◌∙◌, arith, needs}
+use Rattle.ground.proofs.Kit.{sym, ◌∙◌, arith}
 use Rattle.policy.proofs.Weighing.{weighed-worked-out, weighed-too-much, weighed-sum}
 use Rattle.policy.proofs.weighs_summed.Statement.{statement}
 use Rattle.policy.proofs.weighs_summed.Tie as tie

@@ -1,5 +1,5 @@
 -- `policy::weights_of` meets its contract. Assumes nothing.
-use Rattle.ground.proofs.Kit.{refl, arith, needs}
+use Rattle.ground.proofs.Kit.{refl, arith}
 use Rattle.bound.proofs.Bounds.{bound-high}
 use Rattle.policy.proofs.weights_of.Statement.{statement}
 use Rattle.policy.proofs.weights_of.Tie as tie

@@ -1,5 +1,5 @@
 -- `proposal::admit` meets its contract. Assumes nothing.
-use Rattle.ground.proofs.Kit.{◌≡◌, sym, ◌∙◌, arith, needs}
+use Rattle.ground.proofs.Kit.{◌≡◌, sym, ◌∙◌, arith}
 use Rattle.kinds.specs.declared.Verdict.TheVariants.{Accepted}
 use Rattle.springs.specs.Handover.{Sprung}
 use Rattle.springs.proofs.Blocks.{sprung-front}

@@ -1,5 +1,5 @@
 -- `proposal::check` meets its contract. Assumes nothing.
-use Rattle.ground.proofs.Kit.{ℕ, ◌≤◌, List, ◌++◌, ◌≡◌, sym, ◌∙◌, ap, arith, length, drop, needs}
+use Rattle.ground.proofs.Kit.{ℕ, ◌≤◌, List, ◌++◌, ◌≡◌, sym, ◌∙◌, ap, arith, length, drop}
 use Rattle.kinds.specs.declared.Verdict.TheVariants.{Accepted}
 use Rattle.policy.specs.Under.{loads_under}
 use Rattle.proposal.specs.Loads.{first_out_of_range, before_overfull}

@@ -1,5 +1,4 @@
 -- `proposal::gate_of` meets its contract. Assumes nothing.
-use Rattle.ground.proofs.Kit.{needs}
 use Rattle.proposal.proofs.gate_of.Statement.{statement}
 use Rattle.proposal.proofs.gate_of.Tie as tie
 

@@ -1,5 +1,5 @@
 -- `quick_finder::find` meets its contract. Assumes nothing.
-use Rattle.ground.proofs.Kit.{min, false, refl, length, needs}
+use Rattle.ground.proofs.Kit.{min, false, refl, length}
 use Rattle.admission.specs.Handover.{AdmittedSprung}
 use Rattle.admission.proofs.Opened.{may-walk, admitted-sprung}
 use Rattle.outcome.proofs.Found.{may-grant, meets}

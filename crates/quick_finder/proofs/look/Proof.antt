@@ -1,5 +1,5 @@
 -- `quick_finder::look` meets its contract. Assumes nothing.
-use Rattle.ground.proofs.Kit.{refl, ◌∙◌, needs}
+use Rattle.ground.proofs.Kit.{refl, ◌∙◌}
 use Rattle.policy.proofs.Weighing.{weighed-worked-out}
 use Rattle.quick_finder.proofs.look.Statement.{statement}
 use Rattle.quick_finder.proofs.look.Tie as tie

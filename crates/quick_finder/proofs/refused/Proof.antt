@@ -1,5 +1,5 @@
 -- `quick_finder::refused` meets its contract. Assumes nothing.
-use Rattle.ground.proofs.Kit.{refl, needs}
+use Rattle.ground.proofs.Kit.{refl}
 use Rattle.quick_finder.proofs.refused.Statement.{statement}
 use Rattle.quick_finder.proofs.refused.Tie as tie
 

@@ -1,5 +1,5 @@
 -- `quick_finder::search_under` meets its contract. Assumes nothing.
-use Rattle.ground.proofs.Kit.{sym, ◌∙◌, needs}
+use Rattle.ground.proofs.Kit.{sym, ◌∙◌}
 use Rattle.ground.proofs.Cases.{true-false}
 use Rattle.springs.proofs.Blocks.{beside_same, charged-springy}
 use Rattle.quick_finder.proofs.search_under.Statement.{statement}

@@ -1,5 +1,4 @@
 -- `reason::off_notch` meets its contract. Assumes nothing.
-use Rattle.ground.proofs.Kit.{needs}
 use Rattle.reason.proofs.Reasons.{no-notch, tmin-off, tmax-off, both-on}
 use Rattle.reason.proofs.off_notch.Statement.{statement}
 use Rattle.reason.proofs.off_notch.Tie as tie

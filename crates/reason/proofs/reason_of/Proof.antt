@@ -1,5 +1,5 @@
 -- `reason::reason_of` meets its contract. Assumes nothing.
-use Rattle.ground.proofs.Kit.{◌+◌, ◌*◌, ◌≤◌, ◌∙◌, needs}
+use Rattle.ground.proofs.Kit.{◌+◌, ◌*◌, ◌≤◌, ◌∙◌}
 use Rattle.reason.proofs.Reasons.{no-cost, cost-above, tmin-above, tmax-above, elasticity-above, limits-kept}
 use Rattle.reason.proofs.reason_of.Statement.{statement}
 use Rattle.reason.proofs.reason_of.Tie as tie

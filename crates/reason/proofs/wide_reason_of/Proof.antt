@@ -1,5 +1,5 @@
 -- `reason::wide_reason_of` meets its contract. Assumes nothing.
-use Rattle.ground.proofs.Kit.{◌∙◌, needs}
+use Rattle.ground.proofs.Kit.{◌∙◌}
 use Rattle.reason.proofs.WideReasons.{no_span, span-tmin, span-cost, cost-tmax, spans}
 use Rattle.reason.proofs.wide_reason_of.Statement.{statement}
 use Rattle.reason.proofs.wide_reason_of.Tie as tie

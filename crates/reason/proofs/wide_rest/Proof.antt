@@ -1,5 +1,5 @@
 -- `reason::wide_rest` meets its contract. Assumes nothing.
-use Rattle.ground.proofs.Kit.{◌*◌, ◌≤◌, needs}
+use Rattle.ground.proofs.Kit.{◌*◌, ◌≤◌}
 use Rattle.wide_task.specs.Limits.{most_tmins}
 use Rattle.reason.proofs.WideReasons.{too-great, tmin-above, tmax-above, elasticity-above, all-kept}
 use Rattle.reason.proofs.wide_rest.Statement.{statement}

@@ -1,6 +1,6 @@
 -- `refusal_line::put_bytes` meets its contract. Assumes nothing.
 -- The loop: the first i bytes are stored from the place on, and nothing else; what is left of the bytes falls.
-use Rattle.ground.proofs.Kit.{◌+◌, ◌-◌, ◌≤◌, ◌≡◌, refl, arith, length, take, length-set, needs}
+use Rattle.ground.proofs.Kit.{◌+◌, ◌-◌, ◌≤◌, ◌≡◌, refl, arith, length, take, length-set}
 use Rattle.field.specs.Handover.{Put}
 use Rattle.refusal_line.proofs.Copies.{copied_none, copied_more, copied_all}
 use Rattle.refusal_line.proofs.put_bytes.Statement.{statement}

@@ -1,5 +1,5 @@
 -- `refusal_line::put_refusal` meets its contract: five runs, one after the other. Assumes nothing.
-use Rattle.ground.proofs.Kit.{◌+◌, ◌≤◌, ◌≡◌, arith, length, needs}
+use Rattle.ground.proofs.Kit.{◌+◌, ◌≤◌, ◌≡◌, arith, length}
 use Rattle.field.proofs.Stores.{put_then}
 use Rattle.numeral.specs.Decimal.{decimal}
 use Rattle.numeral.proofs.Digits.{few-digits}

@@ -1,5 +1,5 @@
 -- `relief::admitted` meets its contract. Assumes nothing.
-use Rattle.ground.proofs.Kit.{eq-eqb, ne_eqb, needs}
+use Rattle.ground.proofs.Kit.{eq-eqb, ne_eqb}
 use Rattle.kinds.specs.Refusal.{number_of}
 use Rattle.relief.proofs.admitted.Statement.{statement}
 use Rattle.relief.proofs.admitted.Tie as tie

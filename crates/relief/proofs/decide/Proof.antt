@@ -1,5 +1,5 @@
 -- `relief::decide` meets its contract. Assumes nothing.
-use Rattle.ground.proofs.Kit.{◌≡◌, false, sym, ◌∙◌, needs}
+use Rattle.ground.proofs.Kit.{◌≡◌, false, sym, ◌∙◌}
 use Rattle.kinds.specs.Policy.{meant, is_first_fit}
 use Rattle.relief.proofs.Telling.{found-serves}
 use Rattle.relief.proofs.decide.Statement.{statement}

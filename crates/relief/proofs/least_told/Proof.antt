@@ -1,5 +1,5 @@
 -- `relief::least_told` meets its contract. Assumes nothing.
-use Rattle.ground.proofs.Kit.{◌∙◌, ap, needs}
+use Rattle.ground.proofs.Kit.{◌∙◌, ap}
 use Rattle.relief.specs.Relief.{told_step, least_told}
 use Rattle.relief.proofs.Telling.{step-low}
 use Rattle.relief.proofs.least_told.Statement.{statement}

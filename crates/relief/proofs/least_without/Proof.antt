@@ -1,5 +1,5 @@
 -- `relief::least_without` meets its contract. Assumes nothing.
-use Rattle.ground.proofs.Kit.{◌∙◌, ap, needs}
+use Rattle.ground.proofs.Kit.{◌∙◌, ap}
 use Rattle.kinds.specs.declared.Table.{Table}
 use Rattle.keep.specs.Keep.{left_rows}
 use Rattle.relief.specs.Relief.{least_told}

@@ -1,5 +1,5 @@
 -- `relief::one_more` meets its contract. Assumes nothing.
-use Rattle.ground.proofs.Kit.{arith, needs}
+use Rattle.ground.proofs.Kit.{arith}
 use Rattle.relief.proofs.one_more.Statement.{statement}
 use Rattle.relief.proofs.one_more.Tie as tie
 

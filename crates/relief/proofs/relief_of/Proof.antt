@@ -1,5 +1,5 @@
 -- `relief::relief_of` meets its contract. Assumes nothing.
-use Rattle.ground.proofs.Kit.{◌≤◌, ◌∙◌, ap, length, needs}
+use Rattle.ground.proofs.Kit.{◌≤◌, ◌∙◌, ap, length}
 use Rattle.kinds.specs.declared.Settings.{Settings}
 use Rattle.kinds.specs.Limits.{most_tasks, most_processors}
 use Rattle.relief.specs.Relief.{least_told}

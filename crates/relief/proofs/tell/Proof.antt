@@ -1,5 +1,5 @@
 -- `relief::tell` meets its contract. Assumes nothing.
-use Rattle.ground.proofs.Kit.{sym, arith, needs}
+use Rattle.ground.proofs.Kit.{sym, arith}
 use Rattle.relief.proofs.Telling.{refused-told}
 use Rattle.relief.proofs.tell.Statement.{statement}
 use Rattle.relief.proofs.tell.Tie as tie

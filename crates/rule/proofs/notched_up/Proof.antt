@@ -1,5 +1,5 @@
 -- `rule::notched_up` meets its contract. Assumes nothing.
-use Rattle.ground.proofs.Kit.{sym, arith, needs}
+use Rattle.ground.proofs.Kit.{sym, arith}
 use Rattle.rule.proofs.Periods.{notched-near, notched-one}
 use Rattle.rule.proofs.notched_up.Statement.{statement}
 use Rattle.rule.proofs.notched_up.Tie as tie

@@ -1,5 +1,5 @@
 -- `rule::saturation` meets its contract. Assumes nothing.
-use Rattle.ground.proofs.Kit.{ℕ, ◌∙◌, ap, needs, eq-eqb, ne_eqb}
+use Rattle.ground.proofs.Kit.{ℕ, ◌∙◌, ap, eq-eqb, ne_eqb}
 use Rattle.ground.specs.Rounding.{ceil_div}
 use Rattle.rule.proofs.saturation.Statement.{statement}
 use Rattle.rule.proofs.saturation.Tie as tie

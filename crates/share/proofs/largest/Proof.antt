@@ -1,6 +1,5 @@
 -- `share::largest` meets its contract. Assumes nothing.
 use Rattle.share.proofs.Tasks.{largest-is}
-use Rattle.ground.proofs.Kit.{needs}
 use Rattle.share.proofs.largest.Statement.{statement}
 use Rattle.share.proofs.largest.Tie as tie
 

@@ -1,6 +1,5 @@
 -- `share::least` meets its contract. Assumes nothing.
 use Rattle.share.proofs.Tasks.{least-is}
-use Rattle.ground.proofs.Kit.{needs}
 use Rattle.share.proofs.least.Statement.{statement}
 use Rattle.share.proofs.least.Tie as tie
 

@@ -1,5 +1,5 @@
 -- `share::share_at` meets its contract: each `return` is one law of `Under`. Assumes nothing.
-use Rattle.ground.proofs.Kit.{arith, needs}
+use Rattle.ground.proofs.Kit.{arith}
 use Rattle.kinds.specs.Task.{priced, Good}
 use Rattle.share.proofs.Under.{found-good, shared-unset, shared-bad, shared-good}
 use Rattle.share.proofs.share_at.Statement.{statement}

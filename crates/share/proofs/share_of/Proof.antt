@@ -1,5 +1,5 @@
 -- `share::share_of` meets its contract. Assumes nothing.
-use Rattle.ground.proofs.Kit.{◌∙◌, needs}
+use Rattle.ground.proofs.Kit.{◌∙◌}
 use Rattle.share.proofs.Tasks.{share-is}
 use Rattle.share.proofs.share_of.Statement.{statement}
 use Rattle.share.proofs.share_of.Tie as tie

@@ -1,5 +1,4 @@
 -- `sheet::no_sheet` meets its contract. Assumes nothing.
-use Rattle.ground.proofs.Kit.{needs}
 use Rattle.sheet.specs.Reading.{no_sheet}
 use Rattle.sheet.proofs.no_sheet.Statement.{statement}
 use Rattle.sheet.proofs.no_sheet.Tie as tie

@@ -1,5 +1,5 @@
 -- `sheet::place_after` meets its contract. Assumes nothing.
-use Rattle.ground.proofs.Kit.{sym, ◌∙◌, ap, subst, needs}
+use Rattle.ground.proofs.Kit.{sym, ◌∙◌, ap, subst}
 use Rattle.sheet.specs.Handover.{SettingsFew, place_after}
 use Rattle.sheet.proofs.place_after.Statement.{statement}
 use Rattle.sheet.proofs.place_after.Tie as tie

@@ -1,5 +1,5 @@
 -- `sheet::read_granted` meets its contract. Assumes nothing.
-use Rattle.ground.proofs.Kit.{sym, arith, needs}
+use Rattle.ground.proofs.Kit.{sym, arith}
 use Rattle.field.specs.Number.{u32_at}
 use Rattle.field.proofs.Fields.{Got, got16, got32, missed16, missed32}
 use Rattle.sheet.proofs.RowFields.{granted-missing, granted-read}

@@ -1,5 +1,5 @@
 -- `sheet::read_head` meets its contract. Assumes nothing.
-use Rattle.ground.proofs.Kit.{true, ◌≡◌, sym, ◌∙◌, needs, not-true, not-false}
+use Rattle.ground.proofs.Kit.{true, ◌≡◌, sym, ◌∙◌, not-true, not-false}
 use Rattle.sheet.specs.Sections.{settings_fit}
 use Rattle.sheet.proofs.HeadSteps.{SettingsCounted, no-settings, settings-counted, settings-wrong, settings-due, settings-end}
 use Rattle.sheet.proofs.HeadSteps.{SettingsRead, settings-read, count-end, HeadRead, head_read, many, begun}

@@ -1,5 +1,5 @@
 -- `sheet::read_rest` meets its contract. Assumes nothing.
-use Rattle.ground.proofs.Kit.{sym, ◌∙◌, needs}
+use Rattle.ground.proofs.Kit.{sym, ◌∙◌}
 use Rattle.sheet.specs.Handover.{Begins}
 use Rattle.sheet.proofs.HeadSteps.{due-rows, due-refused}
 use Rattle.sheet.proofs.read_rest.Statement.{statement}

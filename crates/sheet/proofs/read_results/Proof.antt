@@ -1,6 +1,6 @@
 -- `sheet::read_results` meets its contract. Assumes nothing.
 -- The loop: the first i rows are those of the definition, the rest are unused, and the place is after them; n − i falls.
-use Rattle.ground.proofs.Kit.{◌+◌, ◌-◌, ◌*◌, ◌≤◌, ◌≡◌, sym, arith, length, needs}
+use Rattle.ground.proofs.Kit.{◌+◌, ◌-◌, ◌*◌, ◌≤◌, ◌≡◌, sym, arith, length}
 use Rattle.ground.proofs.Laid.{over_none}
 use Rattle.sheet.specs.Rows.{granted_at, no_results, rows_at}
 use Rattle.sheet.specs.Sections.{granted_size}

@@ -1,5 +1,5 @@
 -- `sheet::read_rows` meets its contract. Assumes nothing.
-use Rattle.ground.proofs.Kit.{true, ◌≡◌, sym, ◌∙◌, needs, not-true, not-false}
+use Rattle.ground.proofs.Kit.{true, ◌≡◌, sym, ◌∙◌, not-true, not-false}
 use Rattle.sheet.specs.Sections.{results_fit}
 use Rattle.sheet.proofs.RowSteps.{TasksRead, tasks-end, tasks-read, CountRead, count-end, count-read, count-wrong}
 use Rattle.sheet.proofs.RowSteps.{ResultsRead, results-due, results_end, results-read, bytes_after, all_read}

@@ -1,6 +1,6 @@
 -- `sheet::read_settings` meets its contract. Assumes nothing.
 -- The loop: the first i rows are those of the definition, the rest are filled in, and the place is after them; n − i falls.
-use Rattle.ground.proofs.Kit.{◌+◌, ◌-◌, ◌*◌, ◌≤◌, ◌≡◌, sym, arith, length, needs}
+use Rattle.ground.proofs.Kit.{◌+◌, ◌-◌, ◌*◌, ◌≤◌, ◌≡◌, sym, arith, length}
 use Rattle.ground.proofs.Laid.{over_none}
 use Rattle.kinds.specs.Settings.{fill_ins}
 use Rattle.field.specs.Number.{u16_at}

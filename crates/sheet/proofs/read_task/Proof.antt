@@ -1,5 +1,5 @@
 -- `sheet::read_task` meets its contract. Assumes nothing.
-use Rattle.ground.proofs.Kit.{sym, arith, needs}
+use Rattle.ground.proofs.Kit.{sym, arith}
 use Rattle.field.specs.Number.{u32_at}
 use Rattle.field.proofs.Fields.{Got, got32, missed32}
 use Rattle.sheet.proofs.RowFields.{task-missing, task-read}

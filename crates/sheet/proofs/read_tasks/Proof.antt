@@ -1,6 +1,6 @@
 -- `sheet::read_tasks` meets its contract. Assumes nothing.
 -- The loop: the first i rows are those of the definition, the rest are unused, and the place is after them; n − i falls.
-use Rattle.ground.proofs.Kit.{◌+◌, ◌-◌, ◌*◌, ◌≤◌, ◌≡◌, sym, arith, length, needs}
+use Rattle.ground.proofs.Kit.{◌+◌, ◌-◌, ◌*◌, ◌≤◌, ◌≡◌, sym, arith, length}
 use Rattle.ground.proofs.Laid.{over_none}
 use Rattle.kinds.specs.Task.{no_tasks}
 use Rattle.sheet.specs.Rows.{task_at, rows_at}

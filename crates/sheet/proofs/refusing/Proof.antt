@@ -1,5 +1,5 @@
 -- `sheet::refusing` meets its contract. Assumes nothing.
-use Rattle.ground.proofs.Kit.{ap, needs}
+use Rattle.ground.proofs.Kit.{ap}
 use Rattle.kinds.specs.declared.Sheet.{Sheet}
 use Rattle.kinds.specs.Answer.{refused}
 use Rattle.sheet.proofs.refusing.Statement.{statement}

@@ -1,5 +1,5 @@
 -- `sheet::so_far` meets its contract. Assumes nothing.
-use Rattle.ground.proofs.Kit.{sym, ◌∙◌, ap, needs}
+use Rattle.ground.proofs.Kit.{sym, ◌∙◌, ap}
 use Rattle.kinds.specs.Answer.{accepted}
 use Rattle.sheet.specs.Handover.{head_alone}
 use Rattle.sheet.proofs.so_far.Statement.{statement}

@@ -1,6 +1,6 @@
 -- `shortfall::first_unplaced` ends and reads no entry past the last. Assumes nothing.
 -- The loop: the place is at most the end; what is left falls.
-use Rattle.ground.proofs.Kit.{◌-◌, ◌≤◌, needs}
+use Rattle.ground.proofs.Kit.{◌-◌, ◌≤◌}
 use Rattle.kinds.specs.Limits.{most_tasks}
 use Rattle.shortfall.proofs.first_unplaced.Statement.{statement}
 use Rattle.shortfall.proofs.first_unplaced.Tie as tie

@@ -1,6 +1,6 @@
 -- `shortfall::helps_of` ends and stays within its arrays. Assumes nothing.
 -- The loop: there stays a place for each help; what is left falls.
-use Rattle.ground.proofs.Kit.{◌+◌, ◌-◌, ◌≤◌, ◌≡◌, refl, length, length-set, needs}
+use Rattle.ground.proofs.Kit.{◌+◌, ◌-◌, ◌≤◌, ◌≡◌, refl, length, length-set}
 use Rattle.kinds.specs.Limits.{most_tasks}
 use Rattle.shortfall.proofs.helps_of.Statement.{statement}
 use Rattle.shortfall.proofs.helps_of.Tie as tie

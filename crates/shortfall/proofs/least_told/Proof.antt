@@ -1,6 +1,6 @@
 -- `shortfall::least_told` ends and reads no entry past the last. Assumes nothing.
 -- The loop: the place is at most the end; what is left falls.
-use Rattle.ground.proofs.Kit.{◌+◌, ◌-◌, ◌≤◌, needs}
+use Rattle.ground.proofs.Kit.{◌+◌, ◌-◌, ◌≤◌}
 use Rattle.kinds.specs.Limits.{most_tasks}
 use Rattle.shortfall.proofs.least_told.Statement.{statement}
 use Rattle.shortfall.proofs.least_told.Tie as tie

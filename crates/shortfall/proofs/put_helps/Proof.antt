@@ -1,6 +1,6 @@
 -- `shortfall::put_helps` ends and stays within what is lent. Assumes nothing.
 -- The loop: no more lines are put than are shown, and the buffer keeps its length; what is left falls.
-use Rattle.ground.proofs.Kit.{◌-◌, ◌≤◌, ◌≡◌, refl, length, needs}
+use Rattle.ground.proofs.Kit.{◌-◌, ◌≤◌, ◌≡◌, refl, length}
 use Rattle.shortfall.proofs.put_helps.Statement.{statement}
 use Rattle.shortfall.proofs.put_helps.Tie as tie
 

@@ -1,5 +1,4 @@
 -- `shortfall::sides_at` weighs the loads that the admission leaves. Assumes nothing.
-use Rattle.ground.proofs.Kit.{needs}
 use Rattle.shortfall.proofs.sides_at.Statement.{statement}
 use Rattle.shortfall.proofs.sides_at.Tie as tie
 

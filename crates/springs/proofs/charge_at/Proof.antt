@@ -1,5 +1,5 @@
 -- `springs::charge_at` meets its contract. Assumes nothing.
-use Rattle.ground.proofs.Kit.{◌≤◌, ◌≡◌, sym, ◌∙◌, ap, ap₂, arith, needs}
+use Rattle.ground.proofs.Kit.{◌≤◌, ◌≡◌, sym, ◌∙◌, ap, ap₂, arith}
 use Rattle.kinds.specs.Limits.{scale, longest_period}
 use Rattle.rule.specs.Rule.{part_of, period_of}
 use Rattle.rule.proofs.Periods.{notched-from}

@@ -1,5 +1,5 @@
 -- `springs::loads_at` meets its contract. Assumes nothing.
-use Rattle.ground.proofs.Kit.{sym, ◌∙◌, needs}
+use Rattle.ground.proofs.Kit.{sym, ◌∙◌}
 use Rattle.springs.proofs.Blocks.{charged-springy, as-shares, as-charges}
 use Rattle.springs.proofs.loads_at.Statement.{statement}
 use Rattle.springs.proofs.loads_at.Tie as tie

@@ -1,5 +1,5 @@
 -- `springs::period_at` meets its contract. Assumes nothing.
-use Rattle.ground.proofs.Kit.{◌∙◌, ap, needs}
+use Rattle.ground.proofs.Kit.{◌∙◌, ap}
 use Rattle.springs.specs.Spring.{period_for}
 use Rattle.springs.proofs.Springs.{share-some, still-allowed}
 use Rattle.springs.proofs.period_at.Statement.{statement}

@@ -1,5 +1,5 @@
 -- `springs::period_for` meets its contract. Assumes nothing.
-use Rattle.ground.proofs.Kit.{◌≡◌, ◌∙◌, ap, arith, needs}
+use Rattle.ground.proofs.Kit.{◌≡◌, ◌∙◌, ap, arith}
 use Rattle.rule.specs.Rule.{period_of, notched_up}
 use Rattle.rule.proofs.Periods.{notched-from}
 use Rattle.springs.specs.Spring.{period_for}

@@ -1,5 +1,4 @@
 -- `springs::put_spring` meets its contract. Assumes nothing.
-use Rattle.ground.proofs.Kit.{needs}
 use Rattle.springs.proofs.Blocks.{spring-put}
 use Rattle.springs.proofs.put_spring.Statement.{statement}
 use Rattle.springs.proofs.put_spring.Tie as tie

@@ -1,5 +1,5 @@
 -- `springs::spring_in` meets its contract. Assumes nothing.
-use Rattle.ground.proofs.Kit.{refl, needs}
+use Rattle.ground.proofs.Kit.{refl}
 use Rattle.springs.specs.Columns.{spring_in}
 use Rattle.springs.proofs.spring_in.Statement.{statement}
 use Rattle.springs.proofs.spring_in.Tie as tie

@@ -1,5 +1,5 @@
 -- `springs::spring_of` meets its contract. Assumes nothing.
-use Rattle.ground.proofs.Kit.{◌≡◌, arith, needs}
+use Rattle.ground.proofs.Kit.{◌≡◌, arith}
 use Rattle.share.specs.Share.{saturation_at}
 use Rattle.share.proofs.Tasks.{saturation-most}
 use Rattle.springs.proofs.spring_of.Statement.{statement}

@@ -1,5 +1,5 @@
 -- `text::apart` shows no more than was grouped. Assumes nothing.
-use Rattle.ground.proofs.Kit.{sym, arith, length-take-le, needs}
+use Rattle.ground.proofs.Kit.{sym, arith, length-take-le}
 use Rattle.text.proofs.apart.Statement.{statement}
 use Rattle.text.proofs.apart.Tie as tie
 

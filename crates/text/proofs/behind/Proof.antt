@@ -1,6 +1,6 @@
 -- `text::behind` meets its contract. Assumes nothing.
 -- The loop: the place is at most the end; n − i falls.
-use Rattle.ground.proofs.Kit.{◌-◌, ◌≤◌, ◌≡◌, length, needs}
+use Rattle.ground.proofs.Kit.{◌-◌, ◌≤◌, ◌≡◌, length}
 use Rattle.text.proofs.behind.Statement.{statement}
 use Rattle.text.proofs.behind.Tie as tie
 

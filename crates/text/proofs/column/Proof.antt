@@ -1,6 +1,6 @@
 -- `text::column` meets its contract. Assumes nothing.
 -- The loop: the place stays between the first and the end; what is left falls.
-use Rattle.ground.proofs.Kit.{◌-◌, ◌≤◌, ◌≡◌, length, arith, needs}
+use Rattle.ground.proofs.Kit.{◌-◌, ◌≤◌, ◌≡◌, length, arith}
 use Rattle.text.proofs.column.Statement.{statement}
 use Rattle.text.proofs.column.Tie as tie
 

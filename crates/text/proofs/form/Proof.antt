@@ -1,6 +1,6 @@
 -- `text::form` ends and stays within what is lent. Assumes nothing.
 -- The loop: no byte past the form is read, no more numbers are used than bytes, and the buffer keeps its length; what is left of the form falls.
-use Rattle.ground.proofs.Kit.{◌-◌, ◌≤◌, ◌≡◌, refl, length, needs}
+use Rattle.ground.proofs.Kit.{◌-◌, ◌≤◌, ◌≡◌, refl, length}
 use Rattle.text.proofs.form.Statement.{statement}
 use Rattle.text.proofs.form.Tie as tie
 

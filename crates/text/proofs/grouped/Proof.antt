@@ -1,6 +1,6 @@
 -- `text::grouped` ends and stays within what is lent. Assumes nothing.
 -- The loop: no digit past those lent is read, and the buffer keeps its length; n − i falls.
-use Rattle.ground.proofs.Kit.{◌-◌, ◌≤◌, ◌≡◌, length, refl, needs}
+use Rattle.ground.proofs.Kit.{◌-◌, ◌≤◌, ◌≡◌, length, refl}
 use Rattle.text.proofs.grouped.Statement.{statement}
 use Rattle.text.proofs.grouped.Tie as tie
 

@@ -1,6 +1,6 @@
 -- `text::words` ends and stays within what is lent. Assumes nothing.
 -- The loop: no byte past those lent is read, and the buffer keeps its length; n − i falls.
-use Rattle.ground.proofs.Kit.{◌-◌, ◌≤◌, ◌≡◌, refl, length, needs}
+use Rattle.ground.proofs.Kit.{◌-◌, ◌≤◌, ◌≡◌, refl, length}
 use Rattle.text.proofs.words.Statement.{statement}
 use Rattle.text.proofs.words.Tie as tie
 

@@ -1,5 +1,5 @@
 -- `text::write` writes no more than there is. Assumes nothing.
-use Rattle.ground.proofs.Kit.{sym, arith, length-take-le, needs}
+use Rattle.ground.proofs.Kit.{sym, arith, length-take-le}
 use Rattle.text.proofs.write.Statement.{statement}
 use Rattle.text.proofs.write.Tie as tie
 

@@ -1,5 +1,4 @@
 -- `tidy::asked` meets its contract. Assumes nothing.
-use Rattle.ground.proofs.Kit.{needs}
 use Rattle.tidy.specs.Tidied.{strict}
 use Rattle.tidy.proofs.asked.Statement.{statement}
 use Rattle.tidy.proofs.asked.Tie as tie

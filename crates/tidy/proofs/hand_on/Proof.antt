@@ -1,5 +1,4 @@
 -- `tidy::hand_on` meets its contract. Assumes nothing.
-use Rattle.ground.proofs.Kit.{needs}
 use Rattle.tidy.proofs.Tidying.{hands-refused, room_for, hands-taken}
 use Rattle.tidy.proofs.hand_on.Statement.{statement}
 use Rattle.tidy.proofs.hand_on.Tie as tie

@@ -1,5 +1,5 @@
 -- `tidy::hand_on_candidate` meets its contract. Assumes nothing.
-use Rattle.ground.proofs.Kit.{sym, arith, length-take-le, needs}
+use Rattle.ground.proofs.Kit.{sym, arith, length-take-le}
 use Rattle.tidy.proofs.Tidying.{tidies-none, tidies-candidate, tidies-refused}
 use Rattle.tidy.proofs.hand_on_candidate.Statement.{statement}
 use Rattle.tidy.proofs.hand_on_candidate.Tie as tie

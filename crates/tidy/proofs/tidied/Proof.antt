@@ -1,5 +1,4 @@
 -- `tidy::tidied` meets its contract. Assumes nothing.
-use Rattle.ground.proofs.Kit.{needs}
 use Rattle.tidy.proofs.Tidying.{was-refused, tidies-text, tidies-after}
 use Rattle.tidy.proofs.tidied.Statement.{statement}
 use Rattle.tidy.proofs.tidied.Tie as tie

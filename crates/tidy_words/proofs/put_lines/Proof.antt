@@ -1,6 +1,6 @@
 -- `tidy_words::put_lines` ends and stays within what is lent. Assumes nothing.
 -- The loop: no more lines are put than are shown, and the buffer keeps its length; how many are left falls.
-use Rattle.ground.proofs.Kit.{◌-◌, ◌≤◌, ◌≡◌, refl, length, needs}
+use Rattle.ground.proofs.Kit.{◌-◌, ◌≤◌, ◌≡◌, refl, length}
 use Rattle.tidy_words.proofs.put_lines.Statement.{statement}
 use Rattle.tidy_words.proofs.put_lines.Tie as tie
 

@@ -1,5 +1,5 @@
 -- `tidy_words::write` writes no more than there is. Assumes nothing.
-use Rattle.ground.proofs.Kit.{sym, arith, length-take-le, needs}
+use Rattle.ground.proofs.Kit.{sym, arith, length-take-le}
 use Rattle.tidy_words.proofs.write.Statement.{statement}
 use Rattle.tidy_words.proofs.write.Tie as tie
 

@@ -1,6 +1,6 @@
 -- `view_table::names_width` ends. Assumes nothing.
 -- The loop: nothing but the place, and what is left falls.
-use Rattle.ground.proofs.Kit.{◌-◌, ◌≤◌, needs}
+use Rattle.ground.proofs.Kit.{◌-◌, ◌≤◌}
 use Rattle.view_table.proofs.names_width.Statement.{statement}
 use Rattle.view_table.proofs.names_width.Tie as tie
 

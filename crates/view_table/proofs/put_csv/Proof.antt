@@ -1,6 +1,6 @@
 -- `view_table::put_csv` ends and stays within what is lent. Assumes nothing.
 -- The loop: no row past the most is read, and the buffer keeps its length; n − i falls.
-use Rattle.ground.proofs.Kit.{◌-◌, ◌≤◌, ◌≡◌, refl, length, needs}
+use Rattle.ground.proofs.Kit.{◌-◌, ◌≤◌, ◌≡◌, refl, length}
 use Rattle.kinds.specs.Limits.{most_tasks}
 use Rattle.view_table.proofs.put_csv.Statement.{statement}
 use Rattle.view_table.proofs.put_csv.Tie as tie

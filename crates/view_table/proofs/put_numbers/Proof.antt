@@ -1,6 +1,6 @@
 -- `view_table::put_numbers` ends and stays within what is lent. Assumes nothing.
 -- The loop: no number past the last is read, and the buffer keeps its length; what is left falls.
-use Rattle.ground.proofs.Kit.{◌-◌, ◌≤◌, ◌≡◌, refl, length, needs}
+use Rattle.ground.proofs.Kit.{◌-◌, ◌≤◌, ◌≡◌, refl, length}
 use Rattle.view_table.proofs.put_numbers.Statement.{statement}
 use Rattle.view_table.proofs.put_numbers.Tie as tie
 

@@ -1,6 +1,6 @@
 -- `view_table::put_record_titles` ends and stays within what is lent. Assumes nothing.
 -- The loop: no width past the last is read, and the buffer keeps its length; what is left falls.
-use Rattle.ground.proofs.Kit.{◌-◌, ◌≤◌, ◌≡◌, refl, length, needs}
+use Rattle.ground.proofs.Kit.{◌-◌, ◌≤◌, ◌≡◌, refl, length}
 use Rattle.view_table.proofs.put_record_titles.Statement.{statement}
 use Rattle.view_table.proofs.put_record_titles.Tie as tie
 

@@ -1,6 +1,6 @@
 -- `view_table::put_rows` ends and stays within what is lent. Assumes nothing.
 -- The loop: no row past the most is read, and the buffer keeps its length; n − i falls.
-use Rattle.ground.proofs.Kit.{◌-◌, ◌≤◌, ◌≡◌, refl, length, needs}
+use Rattle.ground.proofs.Kit.{◌-◌, ◌≤◌, ◌≡◌, refl, length}
 use Rattle.view_table.proofs.put_rows.Statement.{statement}
 use Rattle.view_table.proofs.put_rows.Tie as tie
 

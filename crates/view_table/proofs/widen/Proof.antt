@@ -1,6 +1,6 @@
 -- `view_table::widen` ends and reads no number past the last. Assumes nothing.
 -- The loop: there stay as many widths; what is left falls.
-use Rattle.ground.proofs.Kit.{◌-◌, ◌≤◌, ◌≡◌, refl, length, needs}
+use Rattle.ground.proofs.Kit.{◌-◌, ◌≤◌, ◌≡◌, refl, length}
 use Rattle.view_table.proofs.widen.Statement.{statement}
 use Rattle.view_table.proofs.widen.Tie as tie
 

@@ -1,6 +1,6 @@
 -- `view_table::widths_of` ends. Assumes nothing.
 -- The loop: nothing but the place, and what is left falls.
-use Rattle.ground.proofs.Kit.{◌-◌, ◌≤◌, needs}
+use Rattle.ground.proofs.Kit.{◌-◌, ◌≤◌}
 use Rattle.view_table.proofs.widths_of.Statement.{statement}
 use Rattle.view_table.proofs.widths_of.Tie as tie
 

@@ -1,5 +1,5 @@
 -- `view_text::positive` casts no negative number. Assumes nothing.
-use Rattle.ground.proofs.Kit.{Bool, true, ◌≡◌, sym, subst, needs}
+use Rattle.ground.proofs.Kit.{Bool, true, ◌≡◌, sym, subst}
 use native.Mathlib.Nat.{lt_of_le_of_lt}
 use lib.IntN.{ℤ, pos, negsuc, nat_abs}
 use lib.Dec.{T, lit<}

@@ -1,6 +1,6 @@
 -- `view_text::processors_of` ends and reads no row past the most. Assumes nothing.
 -- The loop: there stays an entry for each row; how many rows are left falls.
-use Rattle.ground.proofs.Kit.{◌-◌, ◌≤◌, ◌≡◌, refl, length, length-set, needs}
+use Rattle.ground.proofs.Kit.{◌-◌, ◌≤◌, ◌≡◌, refl, length, length-set}
 use Rattle.kinds.specs.Limits.{most_tasks}
 use Rattle.view_text.proofs.processors_of.Statement.{statement}
 use Rattle.view_text.proofs.processors_of.Tie as tie

@@ -1,6 +1,6 @@
 -- `view_text::put_loads` ends and stays within what is lent. Assumes nothing.
 -- The loop: no load past the most is read, and the buffer keeps its length; m − j falls.
-use Rattle.ground.proofs.Kit.{◌-◌, ◌≤◌, ◌≡◌, refl, length, needs}
+use Rattle.ground.proofs.Kit.{◌-◌, ◌≤◌, ◌≡◌, refl, length}
 use Rattle.kinds.specs.Limits.{most_processors}
 use Rattle.view_text.proofs.put_loads.Statement.{statement}
 use Rattle.view_text.proofs.put_loads.Tie as tie

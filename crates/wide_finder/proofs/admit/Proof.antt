@@ -1,5 +1,5 @@
 -- `wide_finder::admit` meets its contract. Assumes nothing.
-use Rattle.ground.proofs.Kit.{◌≡◌, sym, ◌∙◌, needs, lt-ltb, le-ltb}
+use Rattle.ground.proofs.Kit.{◌≡◌, sym, ◌∙◌, lt-ltb, le-ltb}
 use Rattle.admission.specs.Admission.{and_then, misset, gate, roomy}
 use Rattle.admission.proofs.Chain.{gate-passed, then-admitted}
 use Rattle.wide_finder.specs.Wide.{admission}

@@ -1,5 +1,5 @@
 -- `wide_finder::decide` meets its contract. Assumes nothing.
-use Rattle.ground.proofs.Kit.{sym, ◌∙◌, needs}
+use Rattle.ground.proofs.Kit.{sym, ◌∙◌}
 use Rattle.wide_finder.proofs.Tables.{good-table}
 use Rattle.wide_finder.proofs.Found.{admitted, refused-found, admitted-found}
 use Rattle.wide_finder.proofs.decide.Statement.{statement}

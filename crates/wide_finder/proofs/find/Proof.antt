@@ -1,5 +1,5 @@
 -- `wide_finder::find` meets its contract. Assumes nothing.
-use Rattle.ground.proofs.Kit.{min, ◌≡◌, length, needs}
+use Rattle.ground.proofs.Kit.{min, ◌≡◌, length}
 use Rattle.kinds.specs.Answer.{handed}
 use Rattle.wide_finder.specs.Wide.{found}
 use Rattle.wide_finder.proofs.Found.{may-grant, meets}

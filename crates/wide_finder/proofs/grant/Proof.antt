@@ -1,5 +1,5 @@
 -- `wide_finder::grant` meets its contract. Assumes nothing.
-use Rattle.ground.proofs.Kit.{true, ◌≡◌, sym, ◌∙◌, needs}
+use Rattle.ground.proofs.Kit.{true, ◌≡◌, sym, ◌∙◌}
 use Rattle.kinds.specs.Answer.{is_accepted}
 use Rattle.outcome.proofs.Writing.{written-refused, written-accepted}
 use Rattle.wide_finder.proofs.grant.Statement.{statement}

@@ -1,5 +1,5 @@
 -- `wide_finder::passes_at` meets its contract. Assumes nothing.
-use Rattle.ground.proofs.Kit.{ℕ, ap, leb, needs}
+use Rattle.ground.proofs.Kit.{ℕ, ap, leb}
 use Rattle.wide_finder.specs.Table.{passes_at}
 use Rattle.wide_finder.proofs.passes_at.Statement.{statement}
 use Rattle.wide_finder.proofs.passes_at.Tie as tie

@@ -1,5 +1,5 @@
 -- `wide_task::cores_at` meets its contract. Assumes nothing.
-use Rattle.ground.proofs.Kit.{◌∙◌, needs}
+use Rattle.ground.proofs.Kit.{◌∙◌}
 use Rattle.wide_task.proofs.Tasks.{cores-is}
 use Rattle.wide_task.proofs.cores_at.Statement.{statement}
 use Rattle.wide_task.proofs.cores_at.Tie as tie

@@ -1,6 +1,5 @@
 -- `wide_task::largest` meets its contract. Assumes nothing.
 use Rattle.wide_task.proofs.Tasks.{largest-is}
-use Rattle.ground.proofs.Kit.{needs}
 use Rattle.wide_task.proofs.largest.Statement.{statement}
 use Rattle.wide_task.proofs.largest.Tie as tie
 

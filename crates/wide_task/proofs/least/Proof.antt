@@ -1,6 +1,5 @@
 -- `wide_task::least` meets its contract. Assumes nothing.
 use Rattle.wide_task.proofs.Tasks.{least-is}
-use Rattle.ground.proofs.Kit.{needs}
 use Rattle.wide_task.proofs.least.Statement.{statement}
 use Rattle.wide_task.proofs.least.Tie as tie
 

@@ -1,5 +1,5 @@
 -- `wide_task::period_at` meets its contract. Assumes nothing.
-use Rattle.ground.proofs.Kit.{arith, needs}
+use Rattle.ground.proofs.Kit.{arith}
 use Rattle.wide_task.specs.Cores.{period_at}
 use Rattle.wide_task.specs.Handover.{PeriodIs}
 use Rattle.wide_task.proofs.Tasks.{period-is}

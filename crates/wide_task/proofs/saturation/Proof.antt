@@ -1,5 +1,5 @@
 -- `wide_task::saturation` meets its contract. Assumes nothing.
-use Rattle.ground.proofs.Kit.{arith, needs}
+use Rattle.ground.proofs.Kit.{arith}
 use Rattle.wide_task.specs.Cores.{saturation_at}
 use Rattle.wide_task.specs.Handover.{StepIs}
 use Rattle.wide_task.proofs.Tasks.{saturation-is}

@@ -1,7 +1,6 @@
 -- `wide_task::share_at` meets its contract. Assumes nothing.
 use Rattle.wide_task.specs.Cores.{share_at}
 use Rattle.wide_task.proofs.Tasks.{share-is}
-use Rattle.ground.proofs.Kit.{needs}
 use Rattle.wide_task.proofs.share_at.Statement.{statement}
 use Rattle.wide_task.proofs.share_at.Tie as tie
 

@@ -1,6 +1,6 @@
 -- `writer::put_numbers` meets its contract. Assumes nothing.
 -- The loop: the first i rows are stored from the place on, and nothing else; n − i falls.
-use Rattle.ground.proofs.Kit.{◌-◌, ◌*◌, ◌≤◌, ◌≡◌, refl, ◌∙◌, arith, length, needs}
+use Rattle.ground.proofs.Kit.{◌-◌, ◌*◌, ◌≤◌, ◌≡◌, refl, ◌∙◌, arith, length}
 use Rattle.field.specs.Number.{bytes_of}
 use Rattle.field.specs.Handover.{Put}
 use Rattle.field.proofs.Stores.{put-long}

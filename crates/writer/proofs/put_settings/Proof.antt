@@ -1,5 +1,4 @@
 -- `writer::put_settings` meets its contract. Assumes nothing.
-use Rattle.ground.proofs.Kit.{needs}
 use Rattle.field.proofs.Stores.{put_then}
 use Rattle.writer.specs.Encode.{settings_bytes}
 use Rattle.writer.proofs.put_settings.Statement.{statement}

@@ -1,5 +1,5 @@
 -- `writer::put_sheet` meets its contract. Assumes nothing.
-use Rattle.ground.proofs.Kit.{arith, needs}
+use Rattle.ground.proofs.Kit.{arith}
 use Rattle.field.proofs.Stores.{put_then, put-sized}
 use Rattle.writer.specs.Encode.{encode}
 use Rattle.writer.proofs.put_sheet.Statement.{statement}

@@ -1,5 +1,4 @@
 -- `writer::put_task` meets its contract. Assumes nothing.
-use Rattle.ground.proofs.Kit.{needs}
 use Rattle.field.proofs.Stores.{put_then}
 use Rattle.writer.specs.Encode.{task_bytes}
 use Rattle.writer.proofs.put_task.Statement.{statement}

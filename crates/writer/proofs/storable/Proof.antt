@@ -1,6 +1,5 @@
 -- `writer::storable` meets its contract. Assumes nothing.
 use lib.ListN.{length-map}
-use Rattle.ground.proofs.Kit.{needs}
 use Rattle.writer.proofs.Elements.{numbers-storable, tasks-storable, results-storable}
 use Rattle.writer.proofs.storable.Statement.{statement}
 use Rattle.writer.proofs.storable.Tie as tie

@@ -1,5 +1,5 @@
 -- `writer::write` meets its contract. Assumes nothing.
-use Rattle.ground.proofs.Kit.{◌≤◌, true, ◌≡◌, sym, ◌∙◌, arith, needs, not-true, not-false}
+use Rattle.ground.proofs.Kit.{◌≤◌, true, ◌≡◌, sym, ◌∙◌, arith, not-true, not-false}
 use Rattle.kinds.specs.Limits.{most_settings, most_tasks}
 use Rattle.sheet.specs.Sections.{settings_fit, results_fit}
 use Rattle.sheet.proofs.Stages.{settings-few, fits-few}

@@ -1,6 +1,6 @@
 -- `cores::jobs::table_of` ends and stays within the rows. Assumes nothing.
 -- The loop: no row past the most is written, and there stays a row for each; how many are left falls.
-use Rattle.ground.proofs.Kit.{◌-◌, ◌≤◌, ◌≡◌, refl, length, length-set, needs}
+use Rattle.ground.proofs.Kit.{◌-◌, ◌≤◌, ◌≡◌, refl, length, length-set}
 use Rattle.kinds.specs.Limits.{most_tasks}
 use Rattle.cores.proofs.jobs.table_of.Statement.{statement}
 use Rattle.cores.proofs.jobs.table_of.Tie as tie

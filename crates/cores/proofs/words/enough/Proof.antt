@@ -1,6 +1,6 @@
 -- `cores::words::enough` ends. Assumes nothing.
 -- The loop: no count of cores below the first is looked at; how many counts are left falls.
-use Rattle.ground.proofs.Kit.{◌-◌, ◌≤◌, needs}
+use Rattle.ground.proofs.Kit.{◌-◌, ◌≤◌}
 use Rattle.kinds.specs.Limits.{most_processors}
 use Rattle.cores.proofs.words.enough.Statement.{statement}
 use Rattle.cores.proofs.words.enough.Tie as tie

@@ -1,6 +1,6 @@
 -- `cores::words::put_rows` ends and stays within what is lent. Assumes nothing.
 -- The loop: no row past the most is read, and the buffer keeps its length; n − i falls.
-use Rattle.ground.proofs.Kit.{◌-◌, ◌≤◌, ◌≡◌, refl, length, needs}
+use Rattle.ground.proofs.Kit.{◌-◌, ◌≤◌, ◌≡◌, refl, length}
 use Rattle.kinds.specs.Limits.{most_tasks}
 use Rattle.cores.proofs.words.put_rows.Statement.{statement}
 use Rattle.cores.proofs.words.put_rows.Tie as tie

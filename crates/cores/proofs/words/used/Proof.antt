@@ -1,6 +1,6 @@
 -- `cores::words::used` ends. Assumes nothing.
 -- The loop: no count past the most is read; how many are left falls.
-use Rattle.ground.proofs.Kit.{◌-◌, ◌≤◌, needs}
+use Rattle.ground.proofs.Kit.{◌-◌, ◌≤◌}
 use Rattle.kinds.specs.Limits.{most_tasks}
 use Rattle.cores.proofs.words.used.Statement.{statement}
 use Rattle.cores.proofs.words.used.Tie as tie

@@ -1,5 +1,5 @@
 -- `kinds::Policy::meant` meets its contract. Assumes nothing.
-use Rattle.ground.proofs.Kit.{◌∙◌, ap, needs}
+use Rattle.ground.proofs.Kit.{◌∙◌, ap}
 use Rattle.kinds.specs.Policy.{policy_of}
 use Rattle.kinds.proofs.Policy.meant.Statement.{statement}
 use Rattle.kinds.proofs.Policy.meant.Tie as tie

@@ -1,5 +1,4 @@
 -- `kinds::Refusal::handed_back` meets its contract, variant by variant. Assumes nothing.
-use Rattle.ground.proofs.Kit.{needs}
 use Rattle.kinds.proofs.Refusal.handed_back.Statement.{statement}
 use Rattle.kinds.proofs.Refusal.handed_back.Tie as tie
 

@@ -1,5 +1,5 @@
 -- `kinds::Refusal::number` meets its contract. Assumes nothing.
-use Rattle.ground.proofs.Kit.{ap, needs}
+use Rattle.ground.proofs.Kit.{ap}
 use Rattle.kinds.proofs.Refusal.number.Statement.{statement}
 use Rattle.kinds.proofs.Refusal.number.Tie as tie
 

@@ -1,5 +1,5 @@
 -- `kinds::Refusal::place` meets its contract. Assumes nothing.
-use Rattle.ground.proofs.Kit.{ap, needs}
+use Rattle.ground.proofs.Kit.{ap}
 use Rattle.kinds.proofs.Refusal.place.Statement.{statement}
 use Rattle.kinds.proofs.Refusal.place.Tie as tie
 

@@ -1,5 +1,4 @@
 -- `kinds::Settings::of` meets its contract. Assumes nothing.
-use Rattle.ground.proofs.Kit.{needs}
 use Rattle.kinds.proofs.Settings.of.Statement.{statement}
 use Rattle.kinds.proofs.Settings.of.Tie as tie
 

@@ -1,5 +1,5 @@
 -- `kinds::Task::good` meets its contract. Assumes nothing.
-use Rattle.ground.proofs.Kit.{sym, ◌∙◌, needs}
+use Rattle.ground.proofs.Kit.{sym, ◌∙◌}
 use Rattle.ground.proofs.Cases.{both-taken, both_left}
 use Rattle.kinds.specs.Task.{is_good}
 use Rattle.kinds.proofs.Task.good.Statement.{statement}

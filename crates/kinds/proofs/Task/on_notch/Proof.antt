@@ -1,5 +1,5 @@
 -- `kinds::Task::on_notch` meets its contract. Assumes nothing.
-use Rattle.ground.proofs.Kit.{refl, needs, eq-eqb, ne_eqb}
+use Rattle.ground.proofs.Kit.{refl, eq-eqb, ne_eqb}
 use Rattle.ground.proofs.Cases.{both-taken, both_left}
 use Rattle.kinds.proofs.Task.on_notch.Statement.{statement}
 use Rattle.kinds.proofs.Task.on_notch.Tie as tie

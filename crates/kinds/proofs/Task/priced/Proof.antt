@@ -1,5 +1,4 @@
 -- `kinds::Task::priced` meets its contract. Assumes nothing.
-use Rattle.ground.proofs.Kit.{needs}
 use Rattle.kinds.proofs.Task.priced.Statement.{statement}
 use Rattle.kinds.proofs.Task.priced.Tie as tie
 

@@ -1,5 +1,5 @@
 -- `kinds::Task::within` meets its contract: each `&&` joins the tests so far with the next. Assumes nothing.
-use Rattle.ground.proofs.Kit.{◌≡◌, refl, sym, ◌∙◌, ⊎_elim, leb, needs, le-leb, lt-leb}
+use Rattle.ground.proofs.Kit.{◌≡◌, refl, sym, ◌∙◌, ⊎_elim, leb, le-leb, lt-leb}
 use Rattle.ground.specs.Choice.{both}
 use Rattle.ground.proofs.Cases.{both-taken, both_left}
 use Rattle.kinds.specs.Limits.{longest_period}

@@ -1,6 +1,6 @@
 -- `loosen::fields::fault_of_numbers` ends. Assumes nothing.
 -- The loop: no more numbers are looked at than there are; how many are left falls.
-use Rattle.ground.proofs.Kit.{◌-◌, ◌≤◌, needs}
+use Rattle.ground.proofs.Kit.{◌-◌, ◌≤◌}
 use Rattle.loosen.proofs.fields.fault_of_numbers.Statement.{statement}
 use Rattle.loosen.proofs.fields.fault_of_numbers.Tie as tie
 

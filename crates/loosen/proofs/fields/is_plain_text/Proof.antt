@@ -1,6 +1,6 @@
 -- `loosen::fields::is_plain_text` ends. Assumes nothing.
 -- The loop: no place before the first is looked at; what is left of the part falls.
-use Rattle.ground.proofs.Kit.{◌-◌, ◌≤◌, needs}
+use Rattle.ground.proofs.Kit.{◌-◌, ◌≤◌}
 use Rattle.loosen.proofs.fields.is_plain_text.Statement.{statement}
 use Rattle.loosen.proofs.fields.is_plain_text.Tie as tie
 

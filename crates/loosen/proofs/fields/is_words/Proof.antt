@@ -1,6 +1,6 @@
 -- `loosen::fields::is_words` ends. Assumes nothing.
 -- The loop: no more fields are looked at than there are numbers; how many are left falls.
-use Rattle.ground.proofs.Kit.{◌-◌, ◌≤◌, needs}
+use Rattle.ground.proofs.Kit.{◌-◌, ◌≤◌}
 use Rattle.loosen.proofs.fields.is_words.Statement.{statement}
 use Rattle.loosen.proofs.fields.is_words.Tie as tie
 

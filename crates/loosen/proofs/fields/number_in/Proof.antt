@@ -1,6 +1,6 @@
 -- `loosen::fields::number_in` ends. Assumes nothing.
 -- The loop: no place before the first is looked at; what is left of the part falls.
-use Rattle.ground.proofs.Kit.{◌-◌, ◌≤◌, needs}
+use Rattle.ground.proofs.Kit.{◌-◌, ◌≤◌}
 use Rattle.loosen.proofs.fields.number_in.Statement.{statement}
 use Rattle.loosen.proofs.fields.number_in.Tie as tie
 

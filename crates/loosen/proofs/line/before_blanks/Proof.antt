@@ -1,6 +1,6 @@
 -- `loosen::line::before_blanks` ends. Assumes nothing.
 -- The loop: no place past the last is looked at; the place falls.
-use Rattle.ground.proofs.Kit.{◌≤◌, needs}
+use Rattle.ground.proofs.Kit.{◌≤◌}
 use Rattle.loosen.proofs.line.before_blanks.Statement.{statement}
 use Rattle.loosen.proofs.line.before_blanks.Tie as tie
 

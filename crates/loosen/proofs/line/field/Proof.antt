@@ -1,6 +1,6 @@
 -- `loosen::line::field` ends. Assumes nothing.
 -- The loop: no more fields are passed than come before; how many are left falls.
-use Rattle.ground.proofs.Kit.{◌-◌, ◌≤◌, needs}
+use Rattle.ground.proofs.Kit.{◌-◌, ◌≤◌}
 use Rattle.loosen.proofs.line.field.Statement.{statement}
 use Rattle.loosen.proofs.line.field.Tie as tie
 

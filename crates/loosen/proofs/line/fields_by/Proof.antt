@@ -1,6 +1,6 @@
 -- `loosen::line::fields_by` ends. Assumes nothing.
 -- The loop: no place before the first is looked at; what is left of the part falls.
-use Rattle.ground.proofs.Kit.{◌-◌, ◌≤◌, needs}
+use Rattle.ground.proofs.Kit.{◌-◌, ◌≤◌}
 use Rattle.loosen.proofs.line.fields_by.Statement.{statement}
 use Rattle.loosen.proofs.line.fields_by.Tie as tie
 

@@ -1,6 +1,6 @@
 -- `loosen::line::past_blanks` ends. Assumes nothing.
 -- The loop: no place before the first is looked at; what is left to be looked at falls.
-use Rattle.ground.proofs.Kit.{◌-◌, ◌≤◌, needs}
+use Rattle.ground.proofs.Kit.{◌-◌, ◌≤◌}
 use Rattle.loosen.proofs.line.past_blanks.Statement.{statement}
 use Rattle.loosen.proofs.line.past_blanks.Tie as tie
 

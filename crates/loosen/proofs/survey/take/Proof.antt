@@ -1,6 +1,6 @@
 -- `loosen::survey::take` ends and stays within what is lent. Assumes nothing.
 -- The loop: no place before the first is looked at; what is left of the text falls.
-use Rattle.ground.proofs.Kit.{◌-◌, ◌≤◌, needs}
+use Rattle.ground.proofs.Kit.{◌-◌, ◌≤◌}
 use Rattle.loosen.proofs.survey.take.Statement.{statement}
 use Rattle.loosen.proofs.survey.take.Tie as tie
 

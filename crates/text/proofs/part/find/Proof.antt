@@ -1,6 +1,6 @@
 -- `text::part::find` ends. Assumes nothing.
 -- The loop: no place before the first is looked at; what is left to be looked at falls.
-use Rattle.ground.proofs.Kit.{◌-◌, ◌≤◌, needs}
+use Rattle.ground.proofs.Kit.{◌-◌, ◌≤◌}
 use Rattle.text.proofs.part.find.Statement.{statement}
 use Rattle.text.proofs.part.find.Tie as tie
 

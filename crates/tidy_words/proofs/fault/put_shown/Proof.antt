@@ -1,6 +1,6 @@
 -- `tidy_words::fault::put_shown` ends and stays within what is lent. Assumes nothing.
 -- The loop: the buffer keeps its length; what is left of the part falls.
-use Rattle.ground.proofs.Kit.{◌-◌, ◌≤◌, ◌≡◌, refl, length, needs}
+use Rattle.ground.proofs.Kit.{◌-◌, ◌≤◌, ◌≡◌, refl, length}
 use Rattle.tidy_words.proofs.fault.put_shown.Statement.{statement}
 use Rattle.tidy_words.proofs.fault.put_shown.Tie as tie
 
