@@ -1,0 +1,33 @@
+// What a program is given, read to the front of a lent buffer: the bytes of a stream, and a word of the command line.
+#![tactic(auto)]
+
+ghost use Rattle.std.specs.Prelude.{◌≡◌, ◌≤◌, length, take};
+ghost use Rattle.std.specs.Io.KnownBytes.{Consumes};
+
+use std::env::Env;
+use std::io::Read;
+
+// Reads until the buffer is full, the stream ends or a read fails, and answers how many bytes it put there.
+pub fn read_full<R: Read>(from: &mut R, into: &mut [u8]) -> usize
+    ensures within { (result ≤ length into.new) × (result ≡ length (take result into.new)) }
+    ensures bytes { Consumes (R.remaining from.old) (R.remaining from.new) (take result into.new) }
+{
+    let mut done = 0;
+    while done < into.len() {
+        match from.read(&mut into[done..]) {
+            Ok(n) if 0 < n => done += n,
+            _ => return done,
+        }
+    }
+    done
+}
+
+// Puts the word of a number on the command line, and answers its length; 0 where there is none, or no room for it.
+pub fn word<E: Env>(given: &E, i: usize, into: &mut [u8]) -> usize
+    ensures within { (result ≤ length into.new) × (result ≡ length (take result into.new)) }
+{
+    match given.arg(i, into) {
+        Ok(n) => n,
+        Err(_) => 0,
+    }
+}
