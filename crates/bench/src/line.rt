@@ -63,10 +63,10 @@ pub(crate) fn place_of(text: &[u8], letter: u8) -> usize {
 }
 
 // Prints the words from a place to the next quote; returns the place after it.
-pub(crate) fn print_words(text: &[u8], start: usize) -> usize {
+pub(crate) fn print_words(rt: HostRuntime, text: &[u8], start: usize) -> usize {
     for end in start..text.len() {
         if text[end] == b'"' {
-            show::words(&text[start..end]);
+            show::words(rt, &text[start..end]);
             return end + 1;
         }
     }

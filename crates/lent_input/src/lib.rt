@@ -1,10 +1,10 @@
-// What a program is given, read to the front of a lent buffer: the bytes of a stream, and a word of the command line.
+// What a program is given, read to the front of a lent buffer: the bytes of a stream, and the words of the command line.
 #![tactic(auto)]
 
 ghost use Rattle.std.specs.Prelude.{◌≡◌, ◌≤◌, length, take};
 ghost use Rattle.std.specs.Io.KnownBytes.{Consumes};
 
-use std::env::Env;
+use std::env::{Env, FillError};
 use std::io::Read;
 
 // Reads until the buffer is full, the stream ends or a read fails, and answers how many bytes it put there.
@@ -30,4 +30,15 @@ pub fn word<E: Env>(given: &E, i: usize, into: &mut [u8]) -> usize
         Ok(n) => n,
         Err(_) => 0,
     }
+}
+
+// How many words the command line has, the program's own name among them.
+pub fn word_count<E: Env>(given: &E) -> usize {
+    let mut least = [0u8; 1];
+    for i in 0..usize::MAX {
+        if let Err(FillError::NotPresent) = given.arg(i, &mut least) {
+            return i;
+        }
+    }
+    usize::MAX
 }
