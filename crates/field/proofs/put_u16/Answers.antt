@@ -1,4 +1,3 @@
--- by hand: 8 answers for 7 goals
 -- `field::put_u16` meets its contract. Assumes nothing.
 use Rattle.ground.proofs.Kit.{refl, add-one}
 use Rattle.field.specs.Number.{bytes_of}
