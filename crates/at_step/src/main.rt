@@ -83,7 +83,7 @@ fn put_asked(rt: HostRuntime, input: &[u8], out: &mut [u8]) -> usize {
 
 fn main(rt: HostRuntime) -> io::Result<()> {
     let mut input = [0u8; sheet::LONGEST + 1];
-    let n = lent_input::read_full(&mut rt.stdin(), &mut input);
+    let n = lent_input::read_full(&mut rt.stdin(), &mut input)?;
     let mut out = [0u8; view_text::LONGEST];
     let k = put_asked(rt, &input[..n], &mut out);
     text::write(&mut rt.stdout(), &out, k)

@@ -52,7 +52,10 @@ fn read_named(rt: HostRuntime, i: usize, out: &mut [u8]) -> usize
     let mut name = [0u8; 4096];
     let n = lent_input::word(&rt, i, &mut name);
     match opened(rt, &name[..n]) {
-        Ok(mut file) => lent_input::read_full(&mut file, out),
+        Ok(mut file) => match lent_input::read_full(&mut file, out) {
+            Ok(k) => k,
+            Err(_) => 0,
+        },
         Err(error) => {
             let _ = tell_unopened(&mut rt.stderr(), &name[..n], error);
             0

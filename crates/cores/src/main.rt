@@ -64,7 +64,7 @@ fn put_answer(s: &[u8], m: u16, out: &mut [u8]) -> usize {
 
 fn main(rt: HostRuntime) -> io::Result<()> {
     let mut given = [0u8; loosen::LONGEST + 1];
-    let n = lent_input::read_full(&mut rt.stdin(), &mut given);
+    let n = lent_input::read_full(&mut rt.stdin(), &mut given)?;
     tidy_words::tell(&mut rt.stderr(), &given[..n], fields::OF_JOB);
     let mut out = [0u8; words::LONGEST];
     let k = put_answer(&given[..n], cores_asked(rt), &mut out);

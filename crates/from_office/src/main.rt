@@ -26,7 +26,7 @@ fn main(rt: HostRuntime) -> io::Result<()> {
     let mut processors = [0u8; 16];
     let m = lent_input::word(&rt, 2, &mut processors);
     let mut given = [0u8; tidy::LONGEST + 1];
-    let n = lent_input::read_full(&mut rt.stdin(), &mut given);
+    let n = lent_input::read_full(&mut rt.stdin(), &mut given)?;
     tidy_words::tell(&mut rt.stderr(), &given[..n], fields::OF_TASK);
     let mut out = [0u8; sheet::LONGEST];
     let k = enter(&policy[..p], &processors[..m], &given[..n], &mut out);

@@ -148,7 +148,7 @@ fn put_tidy_plan(rt: HostRuntime, given: &[u8], names: &[u8; ROOM], out: &mut [u
 
 fn main(rt: HostRuntime) -> io::Result<()> {
     let mut given = [0u8; tidy::LONGEST + 1];
-    let n = lent_input::read_full(&mut rt.stdin(), &mut given);
+    let n = lent_input::read_full(&mut rt.stdin(), &mut given)?;
     tidy_words::tell(&mut rt.stderr(), &given[..n], fields::OF_TASK);
     let mut names = [0u8; ROOM];
     loosen::keep_names(&given[..n], &mut names);

@@ -6,7 +6,7 @@ use std::io;
 
 fn main(rt: HostRuntime) -> io::Result<()> {
     let mut input = [0u8; sheet::LONGEST + 1];
-    let n = lent_input::read_full(&mut rt.stdin(), &mut input);
+    let n = lent_input::read_full(&mut rt.stdin(), &mut input)?;
     let mut out = [0u8; view_text::LONGEST];
     let k = view_text::view(&input[..n], &mut out);
     text::write(&mut rt.stdout(), &out, k)
