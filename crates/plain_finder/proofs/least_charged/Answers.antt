@@ -16,7 +16,7 @@ abbrev test : Start → ℕ → Bool
 test c = passes_at c.args.policy c.args.m (charges_on c.args.notch (spring_in c.args.block.now)) c.args.n
 
 -- what was asked of the block is asked of the block as it came
-tested : (c : After-passes_charged) → c.passes_charged.result ≡ test c.before.before.before.before.before c.loop-policy.step
+tested : (c : After-passes_charged) → c.passes_charged.result ≡ test c.before.before.before.before c.loop-policy.step
 tested c = rw (springs-beside _ _ c.loop-policy.invariant.1) at c.passes_charged.ensures.0
 
 moved : (c : After-passes_charged) → Beside c.args.block.now c.passes_charged.new.block

@@ -10,17 +10,17 @@ use Rattle.plain_finder.proofs.least_shared.Goals as goal
 use Rattle.plain_finder.proofs.least_shared.Goals.{After-shares_at-sum}
 
 -- the shares of step 0 are written, beside the springs
-begun : (c : After-shares_at-sum) → Beside c.args.block.now c.Shares-at.new.0
-begun c = loaded-beside _ _ _ _ c.requires.0.few c.Shares-at.ensures.loaded
+begun : (c : After-shares_at-sum) → Beside c.args.block.now c.shares_at-sum.new.block
+begun c = loaded-beside _ _ _ _ c.requires.0.few c.shares_at-sum.ensures.loaded
 
-springy : (c : After-shares_at-sum) → Springy c.Shares-at.new.0 c.args.n
+springy : (c : After-shares_at-sum) → Springy c.shares_at-sum.new.block c.args.n
 springy c = springy-beside _ _ (begun c) _ c.requires.0
 
-full : (c : After-shares_at-sum) → c.full_compression-full.result ≡ full_in c.Shares-at.new.0 c.args.n
+full : (c : After-shares_at-sum) → c.full_compression-full.result ≡ full_in c.shares_at-sum.new.block c.args.n
 full c = full-beside _ _ (begun c) _ c.full_compression-full.ensures
 
 pub loop-policy-init : goal.loop-policy-init
-loop-policy-init c = (omega arith, stepped-none _ _ _ _ _ _ c.requires.0.few c.Shares-at.ensures)
+loop-policy-init c = (omega arith, stepped-none _ _ _ _ _ _ c.requires.0.few c.shares_at-sum.ensures)
 
 pub passes_summed-requires : goal.passes_summed-requires
 passes_summed-requires c =
