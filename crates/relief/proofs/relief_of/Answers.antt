@@ -1,0 +1,36 @@
+-- `relief::relief_of` meets its contract. Assumes nothing.
+use Rattle.ground.proofs.Kit.{◌∙◌, ap}
+use Rattle.kinds.specs.declared.Settings.{Settings}
+use Rattle.relief.specs.Relief.{least_told}
+use Rattle.relief.proofs.Telling.{step-low}
+use Rattle.relief.proofs.Reliefs.{untold, all_told, may-tell}
+use Rattle.relief.proofs.relief_of.Goals as goal
+
+pub returns-in_default : goal.returns-in_default
+returns-in_default c =
+    untold _ _ _ _ c.decide-answer.result c.decide-answer.ensures c.admitted-verdict.result c.admitted-verdict.ensures _ c.in_default.is
+
+pub tell-least-requires : goal.tell-least-requires
+tell-least-requires c = step-low _ _ _ _ c.decide-answer.result c.decide-answer.ensures
+
+-- an admitted call has passed every check
+pub one_more-requires : goal.one_more-requires
+one_more-requires c =
+    let args = c.args in
+    (may-tell args.settings args.table.rows args.table.n args.without.now c.decide-answer.result c.decide-answer.ensures
+    c.admitted-verdict.result c.admitted-verdict.ensures c.in-Accepted.is).0
+
+pub write_without-requires : goal.write_without-requires
+write_without-requires c =
+    let args = c.args in
+    let fits =
+    may-tell args.settings args.table.rows args.table.n args.without.now c.decide-answer.result c.decide-answer.ensures
+    c.admitted-verdict.result c.admitted-verdict.ensures c.in-Accepted.is in
+    (fits.1, fits.2)
+
+pub returns : goal.returns
+returns c =
+    let args = c.args in
+    let one = ap (λ (s : Settings). least_told s args.table.rows args.table.n) c.one_more.ensures in
+    all_told _ _ _ _ c.decide-answer.result c.decide-answer.ensures c.admitted-verdict.result c.admitted-verdict.ensures c.in-Accepted.is
+    _ c.tell-least.ensures _ (c.least_told-more.ensures ∙ one) _ c.write_without.ensures

@@ -1,0 +1,7 @@
+-- `relief::write_without` meets its contract. The loop: the first i entries are written, and nothing past them has moved. Assumes nothing.
+use Rattle.ground.proofs.Buffer.{Front}
+use Rattle.relief.specs.Relief.{least_without}
+use Rattle.relief.proofs.write_without.Given as goal
+
+abbrev pub invariant-loop-i : goal.invariant-loop-i
+invariant-loop-i l = Front (least_without l.settings l.table.rows l.table.n) l.fn.out l.out l.i
