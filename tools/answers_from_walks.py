@@ -216,7 +216,7 @@ def chained(fn, place, target):
     plain = lambda n: re.sub(r"[-_]", "", n)
     n = 0
     while place is not None:
-        if plain(place) in (plain(target), re.sub(r"2$", "", plain(target))):
+        if plain(place) == (plain(target) if plain(target) in map(plain, fn.parent) else re.sub(r"2$", "", plain(target))):
             return n
         place = fn.parent.get(place)
         n += 1
@@ -244,7 +244,8 @@ def place_in(sig, fn):
         new = fn.new_place.get(old)
         if new is None:
             plain = re.sub(r"[-_]", "", old)
-            new = next((n for o, n in fn.new_place.items() if re.sub(r"[-_]", "", o) in (plain, re.sub(r"2$", "", plain))), old)
+            found = {re.sub(r"[-_]", "", o): n for o, n in fn.new_place.items()}
+            new = found.get(plain) or found.get(re.sub(r"2$", "", plain)) or old
         places.add(new)
         return new
     loops = "|".join(x for l, _ in fn.data["loops"] for x in ("invariant-" + re.escape(l[0]), "decreases-" + re.escape(l[0]), "invariant-" + re.escape(l[1])))
@@ -316,7 +317,7 @@ def keep_uses(uses, body):
 
 def with_lets(body, root, helpers, order, projections, fn):
     """Puts each helper at a place into the goal itself, as a let: facts are flat there, so that its words hold as they stand."""
-    need, queue = [], [body]
+    need, queue, opened = [], [body], []
     while queue:
         text = queue.pop()
         for h in order:
@@ -327,8 +328,9 @@ def with_lets(body, root, helpers, order, projections, fn):
     for h in [x for x in order if x in need]:
         comment, sig, unfolding, params, text = helpers[h]
         m = re.match(r"[^:]* : (?:\((%s) : )?tie\.[A-Z][\w'-]*\)?[^→]*→ (.*)$" % WORD, sig, re.S)
-        if not m or len(params) != 1 or unfolding:
+        if not m or len(params) != 1:
             return None
+        opened.extend(x for u in unfolding for x in u.split()[1:])
         ty = inline(m.group(2).strip(), projections)
         text = inline(text, projections)
         ty = word_sub(ty, m.group(1) or params[0], root)
@@ -343,7 +345,7 @@ def with_lets(body, root, helpers, order, projections, fn):
         return x
     head = "".join("\n    let %s : (%s) =\n    %s in" % (h, re.sub(r"\s*\n\s*", " ", called(t)), called(b)) for h, t, b in lets)
     body = called(body)
-    return head + ("\n    " if lets and not body.startswith("\n") else "") + body
+    return head + ("\n    " if lets and not body.startswith("\n") else "") + body, opened
 
 
 def answers(fn, defs, uses, head, crate, path, wanted):
@@ -406,18 +408,26 @@ def answers(fn, defs, uses, head, crate, path, wanted):
             n = norm.get(re.sub(r"[-_]", "", old))
             if n:
                 by_new[n] = (comment, unfolding, params, body, old)
+    all_wanted = wanted is None
     wanted = [n for _, n in fn.data["needs"]] if wanted is None else wanted
     wanted = [n for _, n in fn.data["needs"] if n in wanted] + [n for n in wanted if n not in [m for _, m in fn.data["needs"]]]
     texts, places, placed, standing = [], set(), set(), []
     for new in wanted:
         if new not in by_new:
+            if all_wanted:
+                continue
             texts.append("pub %s : goal.%s\n%s c = ?" % (new, new, new))
             continue
         comment, unfolding, params, body, old = by_new[new]
         root = params[0] if params else "c"
         body = paths(inline(body, projections), fn, {root: fn.asked.get(new)})
-        if any(fn.data["arms"]):
+        if any(fn.data["arms"]) or "--inline" in sys.argv:
             put_in = with_lets(body, root, helpers, order, projections, fn)
+            if put_in is not None:
+                put_in, opened = put_in
+                have = [x for u in unfolding for x in u.split()[1:]]
+                both = have + [x for x in dict.fromkeys(opened) if x not in have]
+                unfolding = ["unfolding " + " ".join(both)] if both else []
             if put_in is not None and put_in != body:
                 texts_in = set(re.findall(r"let (%s) : \(" % WORD, put_in)) & set(order)
                 placed |= texts_in
