@@ -12,5 +12,4 @@ pub mod Truncated
 pub mod After
 pub mod OneReading
 pub mod Examples
-pub mod Values
 pub mod Exactly

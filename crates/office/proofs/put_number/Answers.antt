@@ -1,0 +1,16 @@
+-- `office::put_number` meets its contract. Assumes nothing.
+use Rattle.ground.proofs.Kit.{arith}
+use Rattle.office.proofs.Widths.{number-long, puts-number}
+use Rattle.office.proofs.put_number.Goals as goal
+
+pub put_decimal-next-requires : goal.put_decimal-next-requires
+put_decimal-next-requires c = let args = c.args in omega (arith, number-long args.v args.end)
+
+pub bounds-out-next : goal.bounds-out-next
+bounds-out-next c = omega (arith, number-long c.args.v c.args.end, c.put_decimal-next.ensures.next-is, c.requires)
+
+pub overflow_add-result : goal.overflow_add-result
+overflow_add-result c = omega (arith, number-long c.args.v c.args.end, c.put_decimal-next.ensures.next-is, c.requires)
+
+pub returns : goal.returns
+returns c = puts-number _ _ _ _ _ _ c.put_decimal-next.ensures
