@@ -12,7 +12,7 @@ use Rattle.clock.specs.declared.Clock.{Clock}
 use Rattle.clock.specs.declared.Release.{Release}
 use Rattle.clock.specs.declared.Release.TheVariants as release
 use Rattle.clock.specs.declared.Called.{Called}
-use Rattle.clock.specs.Ticks.{turn, half_turn, behind, late, latest}
+use Rattle.clock.specs.Ticks.{turn, half_turn, behind, latest}
 use Rattle.clock.specs.Call.{next_of, period_of, late_at, Due, HandsBack, released, moved_on, afterwards, after_call, handed_release, CallIs}
 use Rattle.clock.specs.Handover.{LatestIs}
 use Rattle.clock.proofs.Wrap.{late_due, due-late}

@@ -1,4 +1,2 @@
-pub mod Values
 pub mod Bridge
-pub mod Facts
 pub mod Imports

@@ -1,5 +1,5 @@
 // Between lent task records and a table by value: `gather` and `gather_wide` copy lent rows into a table, `table_of` of `kinds` and of
-// `wide_task`, and `scatter` copies a table's rows back. `eelbasket`'s calls stand on them; `proofs/Lent` says how to add a thin call.
+// `wide_task`, and `scatter` copies a table's rows back. `eelbasket`'s calls stand on them.
 #![tactic(auto)]
 
 ghost use Rattle.std.specs.Prelude.{[], ◌≡◌, ◌≤◌, min, length};

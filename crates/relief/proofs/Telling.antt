@@ -1,7 +1,7 @@
 -- A least step told as a number: `told_at` and `told_none` say what it tells, `told-least` that of an admitted table it is demand 2's search; and
 -- what a finder's answer says of the admission, `admitted-is`.
 -- Assumes nothing.
-use Rattle.ground.proofs.Kit.{ℕ, ◌+◌, ◌-◌, ◌≤◌, ◌<◌, true, false, List, ◌≡◌, refl, ap, arith, eq-eqb, ne_eqb}
+use Rattle.ground.proofs.Kit.{ℕ, ◌+◌, ◌≤◌, ◌<◌, true, false, List, ◌≡◌, refl, ap, arith, eq-eqb, ne_eqb}
 use lib.Dec.{lit<}
 use Rattle.ground.specs.declared.Step.{Step}
 use Rattle.ground.specs.declared.Step.TheVariants.{At, Nothing}
