@@ -3,17 +3,17 @@
 #![tactic(auto)]
 
 use kinds::{Margin, Settings, Sheet, Table, Verdict};
-use libc::STDIN_FILENO;
 use numeral::Numeral;
 use office_sheet::Setting;
+use std::io;
 
 // The words before the first processor: the program's own name, and the step.
 const BEFORE: u64 = 2;
 
 // The step that the first word names.
-fn step_asked() -> u32 {
+fn step_asked(rt: HostRuntime) -> u32 {
     let mut word = [0u8; 16];
-    let n = os::arg(1, &mut word);
+    let n = lent_input::word(&rt, 1, &mut word);
     let Numeral::Is(step, _) = numeral::numeral_in(&word[..n]) else {
         return 0;
     };
@@ -21,9 +21,9 @@ fn step_asked() -> u32 {
 }
 
 // The processor that a word names, and 0, which is none, where it names no number.
-fn processor_asked(i: usize) -> u16 {
+fn processor_asked(rt: HostRuntime, i: usize) -> u16 {
     let mut word = [0u8; 16];
-    let n = os::arg(i, &mut word);
+    let n = lent_input::word(&rt, i, &mut word);
     let Setting::Is(processor) = office_sheet::setting_of(&word[..n]) else {
         return 0;
     };
@@ -31,10 +31,10 @@ fn processor_asked(i: usize) -> u16 {
 }
 
 // The processors that the words name, and zeros where there are no more.
-fn proposed() -> [u16; Table::MOST_TASKS] {
+fn proposed(rt: HostRuntime) -> [u16; Table::MOST_TASKS] {
     let mut processors = [0u16; Table::MOST_TASKS];
     for i in 0..Table::MOST_TASKS {
-        processors[i] = processor_asked(i + 2);
+        processors[i] = processor_asked(rt, i + 2);
     }
     processors
 }
@@ -55,9 +55,9 @@ fn put_fits(m: u16, step: u32, loads: &[u32; view_text::MOST_LOADS], out: &mut [
 }
 
 // The loads of the processors under a proposal of so many, or why it is none.
-fn put_proposal(x: Sheet, step: u32, count: usize, out: &mut [u8]) -> usize {
+fn put_proposal(rt: HostRuntime, x: Sheet, step: u32, count: usize, out: &mut [u8]) -> usize {
     let settings = x.settings;
-    let processors = proposed();
+    let processors = proposed(rt);
     let n = ground::shorter(count, Table::MOST_TASKS);
     let mut loads = [0u32; view_text::MOST_LOADS];
     let verdict = proposal::check(x.table, settings, step, &processors[..n], &mut loads);
@@ -68,23 +68,23 @@ fn put_proposal(x: Sheet, step: u32, count: usize, out: &mut [u8]) -> usize {
 }
 
 // What a sheet comes to at a step, or why it cannot be read.
-fn put_asked(input: &[u8], out: &mut [u8]) -> usize {
+fn put_asked(rt: HostRuntime, input: &[u8], out: &mut [u8]) -> usize {
     let reading = sheet::read(input);
     let verdict = reading.verdict;
     if let Verdict::Refused(refusal) = verdict {
         return view_text::put_line(refusal, out);
     }
-    let count = ground::less_or_zero(os::arg_count() as u64, BEFORE);
+    let count = ground::less_or_zero(lent_input::word_count(&rt) as u64, BEFORE);
     if count == 0 {
-        return put_margin(reading.sheet, step_asked(), out);
+        return put_margin(reading.sheet, step_asked(rt), out);
     }
-    put_proposal(reading.sheet, step_asked(), count as usize, out)
+    put_proposal(rt, reading.sheet, step_asked(rt), count as usize, out)
 }
 
-fn main() {
+fn main(rt: HostRuntime) -> io::Result<()> {
     let mut input = [0u8; sheet::LONGEST + 1];
-    let n = io::read_full(STDIN_FILENO, &mut input);
+    let n = lent_input::read_full(&mut rt.stdin(), &mut input)?;
     let mut out = [0u8; view_text::LONGEST];
-    let k = put_asked(&input[..n], &mut out);
-    text::write(&out, k);
+    let k = put_asked(rt, &input[..n], &mut out);
+    text::write(&mut rt.stdout(), &out, k)
 }

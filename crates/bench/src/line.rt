@@ -2,6 +2,7 @@
 ghost use Rattle.std.specs.Prelude.{◌<◌};
 
 use crate::show;
+use std::io;
 
 // How many fields a line may have.
 pub(crate) const FIELDS: usize = 32;
@@ -63,12 +64,12 @@ pub(crate) fn place_of(text: &[u8], letter: u8) -> usize {
 }
 
 // Prints the words from a place to the next quote; returns the place after it.
-pub(crate) fn print_words(text: &[u8], start: usize) -> usize {
+pub(crate) fn print_words(rt: HostRuntime, text: &[u8], start: usize) -> io::Result<usize> {
     for end in start..text.len() {
         if text[end] == b'"' {
-            show::words(&text[start..end]);
-            return end + 1;
+            show::words(rt, &text[start..end])?;
+            return Ok(end + 1);
         }
     }
-    start
+    Ok(start)
 }

@@ -10,53 +10,54 @@ mod show;
 mod tables;
 
 use kinds::Table;
-use libc::STDIN_FILENO;
 use line::FIELDS;
+use std::io;
 
 // A case on a table of tasks; field 8 has its step.
-fn run_on(table: Table, fields: [u32; FIELDS], what: u8) {
+fn run_on(rt: HostRuntime, table: Table, fields: [u32; FIELDS], what: u8) -> io::Result<()> {
     let settings = tables::settings_of(fields);
     let step = fields[8];
     match what {
         b'B' => {
-            finders::plain(table, settings);
-            finders::quick(table, settings);
+            finders::plain(rt, table, settings)?;
+            finders::quick(rt, table, settings)
         }
-        b'M' => show::margin(margin::margin_at(table, settings, step)),
-        b'F' => proposals::first_fit(table, settings),
-        b'P' => proposals::planner(table, settings, step),
-        b'C' => proposals::check(table, settings, step, fields),
-        _ => {}
+        b'M' => show::margin(rt, margin::margin_at(table, settings, step)),
+        b'F' => proposals::first_fit(rt, table, settings),
+        b'P' => proposals::planner(rt, table, settings, step),
+        b'C' => proposals::check(rt, table, settings, step, fields),
+        _ => Ok(()),
     }
 }
 
 // The case whose quoted words start at a place; field 1 has what is run.
-fn run(text: &[u8], start: usize) {
-    let fields = line::read(text, line::print_words(text, start));
+fn run(rt: HostRuntime, text: &[u8], start: usize) -> io::Result<()> {
+    let fields = line::read(text, line::print_words(rt, text, start)?);
     let what = (fields[1] % 256) as u8;
     match what {
-        b'W' => finders::wide(fields),
-        _ => run_on(tables::table_of(text, fields), fields, what),
+        b'W' => finders::wide(rt, fields)?,
+        _ => run_on(rt, tables::table_of(text, fields), fields, what)?,
     }
-    show::words(b"\n");
+    show::words(rt, b"\n")
 }
 
 // Each line that begins with a quote is a case.
-fn run_all(text: &[u8]) {
+fn run_all(rt: HostRuntime, text: &[u8]) -> io::Result<()> {
     let mut before = b'\n';
     for at in 0..text.len() {
         let byte = text[at];
         if before == b'\n' {
             if byte == b'"' {
-                run(text, at + 1);
+                run(rt, text, at + 1)?;
             }
         }
         before = byte;
     }
+    Ok(())
 }
 
-fn main() {
+fn main(rt: HostRuntime) -> io::Result<()> {
     let mut text = [0u8; 8192];
-    let n = io::read_full(STDIN_FILENO, &mut text);
-    run_all(&text[..n]);
+    let n = lent_input::read_full(&mut rt.stdin(), &mut text)?;
+    run_all(rt, &text[..n])
 }

@@ -1,98 +1,107 @@
 // Printing: words, numbers, what a call answers, and lent outputs up to the entry after the last one, which shows whether it was written.
+use itoa::Buffer;
 use kinds::{Answer, Margin, Refusal, Table, Verdict};
-use libc::STDOUT_FILENO;
+use std::io;
 
 // How many entries are lent: one more than a table may have tasks.
 pub(crate) const LENT: usize = Table::MOST_TASKS + 1;
 
-pub(crate) fn words(text: &[u8]) {
-    io::write_all(STDOUT_FILENO, text);
+pub(crate) fn words(rt: HostRuntime, text: &[u8]) -> io::Result<()> {
+    rt.write_all(text)
 }
 
-pub(crate) fn number(x: u64) {
-    words(b" ");
-    io::print_decimal(STDOUT_FILENO, x);
+pub(crate) fn number(rt: HostRuntime, x: u64) -> io::Result<()> {
+    let mut digits = Buffer::new();
+    words(rt, b" ")?;
+    words(rt, digits.format(x).as_bytes())
 }
 
-fn count(x: u16) {
-    number(x as u64);
+fn count(rt: HostRuntime, x: u16) -> io::Result<()> {
+    number(rt, x as u64)
 }
 
 // A number after its name.
-pub(crate) fn named(name: &[u8], x: u64) {
-    words(name);
-    number(x);
+pub(crate) fn named(rt: HostRuntime, name: &[u8], x: u64) -> io::Result<()> {
+    words(rt, name)?;
+    number(rt, x)
 }
 
-fn refused(refusal: Refusal) {
-    named(b" refused", refusal.number() as u64);
-    named(b" at", refusal.place() as u64);
+fn refused(rt: HostRuntime, refusal: Refusal) -> io::Result<()> {
+    named(rt, b" refused", refusal.number() as u64)?;
+    named(rt, b" at", refusal.place() as u64)
 }
 
 // A step, or the number and the place of a refusal.
-pub(crate) fn answer(answer: Answer) {
+pub(crate) fn answer(rt: HostRuntime, answer: Answer) -> io::Result<()> {
     match answer {
-        Answer::Accepted(step) => named(b" step", step as u64),
-        Answer::Refused(refusal) => refused(refusal),
+        Answer::Accepted(step) => named(rt, b" step", step as u64),
+        Answer::Refused(refusal) => refused(rt, refusal),
     }
 }
 
-pub(crate) fn verdict(verdict: Verdict) {
+pub(crate) fn verdict(rt: HostRuntime, verdict: Verdict) -> io::Result<()> {
     match verdict {
-        Verdict::Accepted => words(b" accepted"),
-        Verdict::Refused(refusal) => refused(refusal),
+        Verdict::Accepted => words(rt, b" accepted"),
+        Verdict::Refused(refusal) => refused(rt, refusal),
     }
 }
 
 // Whether a margin is negative, zero or positive.
-fn sign(x: i64) {
+fn sign(rt: HostRuntime, x: i64) -> io::Result<()> {
     if x < 0 {
-        words(b" below 0");
+        words(rt, b" below 0")
     } else if x == 0 {
-        words(b" 0");
+        words(rt, b" 0")
     } else {
-        words(b" above 0");
+        words(rt, b" above 0")
     }
 }
 
-pub(crate) fn margin(margin: Margin) {
+pub(crate) fn margin(rt: HostRuntime, margin: Margin) -> io::Result<()> {
     match margin {
-        Margin::Is(x) => sign(x),
-        Margin::Refused(refusal) => refused(refusal),
+        Margin::Is(x) => sign(rt, x),
+        Margin::Refused(refusal) => refused(rt, refusal),
     }
 }
 
 // Periods, or loads, after their name, up to entry n.
-fn amounts(name: &[u8], n: usize, amounts: [u32; LENT]) {
-    words(name);
+fn amounts(rt: HostRuntime, name: &[u8], n: usize, amounts: [u32; LENT]) -> io::Result<()> {
+    words(rt, name)?;
     for i in 0..LENT {
         if n < i {
-            return;
+            return Ok(());
         }
-        number(ground::widened(amounts[i]));
+        number(rt, ground::widened(amounts[i]))?;
     }
+    Ok(())
 }
 
 // Processors, or core counts, after their name, up to entry n.
-pub(crate) fn counts(name: &[u8], n: usize, counts: [u16; LENT]) {
-    words(name);
+pub(crate) fn counts(
+    rt: HostRuntime,
+    name: &[u8],
+    n: usize,
+    counts: [u16; LENT],
+) -> io::Result<()> {
+    words(rt, name)?;
     for i in 0..LENT {
         if n < i {
-            return;
+            return Ok(());
         }
-        count(counts[i]);
+        count(rt, counts[i])?;
     }
+    Ok(())
 }
 
-pub(crate) fn periods(n: usize, periods: [u32; LENT]) {
-    amounts(b" periods", n, periods);
+pub(crate) fn periods(rt: HostRuntime, n: usize, periods: [u32; LENT]) -> io::Result<()> {
+    amounts(rt, b" periods", n, periods)
 }
 
-pub(crate) fn processors(n: usize, processors: [u16; LENT]) {
-    counts(b" processors", n, processors);
+pub(crate) fn processors(rt: HostRuntime, n: usize, processors: [u16; LENT]) -> io::Result<()> {
+    counts(rt, b" processors", n, processors)
 }
 
 // The loads of m processors.
-pub(crate) fn loads(m: u16, loads: [u32; LENT]) {
-    amounts(b" loads", m as usize, loads);
+pub(crate) fn loads(rt: HostRuntime, m: u16, loads: [u32; LENT]) -> io::Result<()> {
+    amounts(rt, b" loads", m as usize, loads)
 }

@@ -7,15 +7,15 @@ mod jobs;
 mod words;
 
 use kinds::{Answer, Table};
-use libc::STDIN_FILENO;
 use loosen::fields::{Fault, Number};
 use loosen::{fields, survey};
+use std::io;
 use text::part::Part;
 
 // How many cores the first word names; 0, which is refused, where it is no number of 16 bits.
-fn cores_asked() -> u16 {
+fn cores_asked(rt: HostRuntime) -> u16 {
     let mut word = [0u8; 16];
-    let n = os::arg(1, &mut word);
+    let n = lent_input::word(&rt, 1, &mut word);
     let number = fields::number_in(&word, Part { start: 0, end: n }, 65_535);
     match number {
         Number::Is(m) => (m % 65_536) as u16,
@@ -62,11 +62,11 @@ fn put_answer(s: &[u8], m: u16, out: &mut [u8]) -> usize {
     put_planned(s, &survey, m, out)
 }
 
-fn main() {
+fn main(rt: HostRuntime) -> io::Result<()> {
     let mut given = [0u8; loosen::LONGEST + 1];
-    let n = io::read_full(STDIN_FILENO, &mut given);
-    tidy_words::tell(&given[..n], fields::OF_JOB);
+    let n = lent_input::read_full(&mut rt.stdin(), &mut given)?;
+    tidy_words::tell(&mut rt.stderr(), &given[..n], fields::OF_JOB);
     let mut out = [0u8; words::LONGEST];
-    let k = put_answer(&given[..n], cores_asked(), &mut out);
-    text::write(&out, k);
+    let k = put_answer(&given[..n], cores_asked(rt), &mut out);
+    text::write(&mut rt.stdout(), &out, k)
 }

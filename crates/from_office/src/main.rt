@@ -6,8 +6,8 @@
 ghost use Rattle.std.specs.Prelude.{◌≡◌, ◌≤◌, length, take};
 
 use kinds::Counted;
-use libc::{STDIN_FILENO, STDOUT_FILENO};
 use loosen::fields;
+use std::io;
 
 // The sheet of a text, or the line of its refusal.
 fn enter(policy: &[u8], processors: &[u8], given: &[u8], out: &mut [u8; sheet::LONGEST]) -> usize
@@ -20,15 +20,15 @@ fn enter(policy: &[u8], processors: &[u8], given: &[u8], out: &mut [u8; sheet::L
     office_sheet::enter(policy, processors, &exact[..k], out)
 }
 
-fn main() {
+fn main(rt: HostRuntime) -> io::Result<()> {
     let mut policy = [0u8; 16];
-    let p = os::arg(1, &mut policy);
+    let p = lent_input::word(&rt, 1, &mut policy);
     let mut processors = [0u8; 16];
-    let m = os::arg(2, &mut processors);
+    let m = lent_input::word(&rt, 2, &mut processors);
     let mut given = [0u8; tidy::LONGEST + 1];
-    let n = io::read_full(STDIN_FILENO, &mut given);
-    tidy_words::tell(&given[..n], fields::OF_TASK);
+    let n = lent_input::read_full(&mut rt.stdin(), &mut given)?;
+    tidy_words::tell(&mut rt.stderr(), &given[..n], fields::OF_TASK);
     let mut out = [0u8; sheet::LONGEST];
     let k = enter(&policy[..p], &processors[..m], &given[..n], &mut out);
-    io::write_all(STDOUT_FILENO, &out[..k]);
+    rt.write_all(&out[..k])
 }

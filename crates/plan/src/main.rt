@@ -5,9 +5,9 @@
 
 use fill::SheetPlan;
 use kinds::{Answer, Counted, Granted, Refusal, Results, Settings, Sheet, Table};
-use libc::STDIN_FILENO;
 use loosen::fields;
 use office_sheet::Setting;
+use std::io;
 use task_names::ROOM;
 
 // The settings that the words name, or the refusal of one that is no number.
@@ -26,9 +26,9 @@ enum Form {
 }
 
 // The form that the first word names: by its second letter, as the command lets no other word through.
-fn form_asked() -> Form {
+fn form_asked(rt: HostRuntime) -> Form {
     let mut word = [0u8; 16];
-    let n = os::arg(1, &mut word);
+    let n = lent_input::word(&rt, 1, &mut word);
     if n < 2 {
         return Form::Text;
     }
@@ -40,12 +40,12 @@ fn form_asked() -> Form {
 }
 
 // The setting that a word names, or what is filled in where there is none.
-fn setting(i: usize, fill_in: u16) -> Setting {
-    if os::arg_count() <= i {
+fn setting(rt: HostRuntime, i: usize, fill_in: u16) -> Setting {
+    if lent_input::word_count(&rt) <= i {
         return Setting::Is(fill_in);
     }
     let mut word = [0u8; 16];
-    let n = os::arg(i, &mut word);
+    let n = lent_input::word(&rt, i, &mut word);
     office_sheet::setting_of(&word[..n])
 }
 
@@ -58,10 +58,10 @@ fn unset(i: usize) -> Refusal {
 }
 
 // The settings by the words behind the form.
-fn settings_asked() -> Asked {
+fn settings_asked(rt: HostRuntime) -> Asked {
     let mut numbers = Settings::FILL_INS;
     for i in 0..Settings::MOST {
-        let Setting::Is(number) = setting(i + 2, numbers[i]) else {
+        let Setting::Is(number) = setting(rt, i + 2, numbers[i]) else {
             return Asked::Refused(unset(i));
         };
         numbers[i] = number;
@@ -84,8 +84,8 @@ fn unfilled(settings: Settings, table: Table, count: usize) -> Sheet {
 }
 
 // How many settings are given by the words behind the form.
-fn given() -> usize {
-    let words = ground::less_or_zero(os::arg_count() as u64, 2);
+fn given(rt: HostRuntime) -> usize {
+    let words = ground::less_or_zero(lent_input::word_count(&rt) as u64, 2);
     ground::shorter(words as usize, Settings::MOST)
 }
 
@@ -112,41 +112,47 @@ fn put_planned(plan: SheetPlan, form: Form, names: &[u8; ROOM], out: &mut [u8]) 
 }
 
 // Puts what an exact text comes to under these settings.
-fn put_table(exact: &[u8], settings: Settings, names: &[u8; ROOM], out: &mut [u8]) -> usize {
+fn put_table(
+    rt: HostRuntime,
+    exact: &[u8],
+    settings: Settings,
+    names: &[u8; ROOM],
+    out: &mut [u8],
+) -> usize {
     let imported = office::import(exact, Table::MOST_TASKS);
     let answer = imported.answer;
     if let Counted::Refused(refusal) = answer {
         return view_text::put_line(refusal, out);
     }
-    let plan = fill::fill_sheet(unfilled(settings, imported.table, given()));
-    put_planned(plan, form_asked(), names, out)
+    let plan = fill::fill_sheet(unfilled(settings, imported.table, given(rt)));
+    put_planned(plan, form_asked(rt), names, out)
 }
 
 // Puts what an exact text and the words come to.
-fn put_asked(exact: &[u8], names: &[u8; ROOM], out: &mut [u8]) -> usize {
-    let asked = settings_asked();
+fn put_asked(rt: HostRuntime, exact: &[u8], names: &[u8; ROOM], out: &mut [u8]) -> usize {
+    let asked = settings_asked(rt);
     match asked {
         Asked::Refused(refusal) => view_text::put_line(refusal, out),
-        Asked::Is(settings) => put_table(exact, settings, names, out),
+        Asked::Is(settings) => put_table(rt, exact, settings, names, out),
     }
 }
 
 // Puts what a text comes to as it was given: through its exact text, or by itself where it has none.
-fn put_tidy_plan(given: &[u8], names: &[u8; ROOM], out: &mut [u8]) -> usize {
+fn put_tidy_plan(rt: HostRuntime, given: &[u8], names: &[u8; ROOM], out: &mut [u8]) -> usize {
     let mut exact = [0u8; office::LONGEST];
     let Counted::Count(k) = tidy::tidied(given, &mut exact) else {
-        return put_asked(given, names, out);
+        return put_asked(rt, given, names, out);
     };
-    put_asked(&exact[..k], names, out)
+    put_asked(rt, &exact[..k], names, out)
 }
 
-fn main() {
+fn main(rt: HostRuntime) -> io::Result<()> {
     let mut given = [0u8; tidy::LONGEST + 1];
-    let n = io::read_full(STDIN_FILENO, &mut given);
-    tidy_words::tell(&given[..n], fields::OF_TASK);
+    let n = lent_input::read_full(&mut rt.stdin(), &mut given)?;
+    tidy_words::tell(&mut rt.stderr(), &given[..n], fields::OF_TASK);
     let mut names = [0u8; ROOM];
     loosen::keep_names(&given[..n], &mut names);
     let mut out = [0u8; view_text::LONGEST];
-    let k = put_tidy_plan(&given[..n], &names, &mut out);
-    text::write(&out, k);
+    let k = put_tidy_plan(rt, &given[..n], &names, &mut out);
+    text::write(&mut rt.stdout(), &out, k)
 }

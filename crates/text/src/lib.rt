@@ -4,9 +4,12 @@
 
 pub mod part;
 
-ghost use Rattle.std.specs.Prelude.{◌+◌, ◌≤◌, ◌<◌, length};
+ghost use Rattle.std.specs.Prelude.{◌+◌, ◌≤◌, ◌<◌, length, take, OnOk};
+ghost use Rattle.std.specs.Io.KnownBytes.{Appends};
 
-use libc::STDOUT_FILENO;
+use itoa::Buffer;
+use std::io;
+use std::io::Write;
 
 // Puts one byte; returns the place after it.
 pub fn byte(out: &mut [u8], at: usize, one: u8) -> usize {
@@ -43,9 +46,8 @@ fn right(out: &mut [u8], at: usize, bytes: &[u8], width: usize, filled: u8) -> u
 
 // A number in decimal digits, at the right of a column that is filled with one byte.
 fn number(out: &mut [u8], at: usize, n: u64, width: usize, filled: u8) -> usize {
-    let mut digits = [0u8; 20];
-    let k = io::decimal(n, &mut digits);
-    right(out, at, &digits[..k], width, filled)
+    let mut digits = Buffer::new();
+    right(out, at, digits.format(n).as_bytes(), width, filled)
 }
 
 // A comma between digits of which so many are put and so many are left, where these are threes.
@@ -69,10 +71,9 @@ fn grouped(out: &mut [u8], digits: &[u8]) -> usize {
 
 // A number with its thousands set apart, at the right of a column.
 fn apart(out: &mut [u8], at: usize, n: u64, width: usize) -> usize {
-    let mut digits = [0u8; 20];
-    let k = io::decimal(n, &mut digits);
+    let mut digits = Buffer::new();
     let mut commas = [0u8; 26];
-    let end = grouped(&mut commas, &digits[..k]);
+    let end = grouped(&mut commas, digits.format(n).as_bytes());
     if end <= commas.len() {
         return right(out, at, &commas[..end], width, b' ');
     }
@@ -198,9 +199,12 @@ pub fn gauge(out: &mut [u8], at: usize, value: u32, most: u32, cells: u32) -> us
     byte(out, whole, b']')
 }
 
-// Writes so many bytes of a buffer to standard output, where it has them.
-pub fn write(out: &[u8], count: usize) {
+// Writes so many bytes of a buffer, where it has them, to what is lent, as standard output.
+pub fn write<W: Write>(to: &mut W, out: &[u8], count: usize) -> io::Result<()>
+    ensures { count ≤ length out.now → OnOk result (Appends (W.contents to.old) (W.contents to.new) (take count out.now)) }
+{
     if count <= out.len() {
-        io::write_all(STDOUT_FILENO, &out[..count]);
+        return to.write_all(&out[..count]);
     }
+    Ok(())
 }

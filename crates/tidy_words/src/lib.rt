@@ -4,8 +4,8 @@
 
 mod fault;
 
-use libc::STDERR_FILENO;
 use loosen::survey;
+use std::io::Write;
 
 // Room for all that is told: three lines for each line shown, and two more.
 const LONGEST: usize = 3_200;
@@ -98,16 +98,16 @@ fn put_told(s: &[u8], numbers: u8, out: &mut [u8]) -> usize {
     put_passed_over(out, more, &survey)
 }
 
-// Writes so many bytes of a buffer to standard error, where it has them.
-fn write(out: &[u8], count: usize) {
+// Writes so many bytes of a buffer, where it has them, to what is lent; what cannot be written is let go.
+fn write<W: Write>(to: &mut W, out: &[u8], count: usize) {
     if count <= out.len() {
-        io::write_all(STDERR_FILENO, &out[..count]);
+        let _ = to.write_all(&out[..count]);
     }
 }
 
-// Tells people on standard error what they should know of a text, which is nothing of one that is exact.
-pub fn tell(s: &[u8], numbers: u8) {
+// Tells people, on what is lent as standard error, what they should know of a text, which is nothing of one that is exact.
+pub fn tell<W: Write>(to: &mut W, s: &[u8], numbers: u8) {
     let mut told = [0u8; LONGEST];
     let k = put_told(s, numbers, &mut told);
-    write(&told, k);
+    write(to, &told, k);
 }

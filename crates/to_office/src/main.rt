@@ -2,12 +2,12 @@
 // `office_sheet::take_out`; no more than one byte past the longest sheet is read, since nothing further on changes what is written.
 #![tactic(auto)]
 
-use libc::{STDIN_FILENO, STDOUT_FILENO};
+use std::io;
 
-fn main() {
+fn main(rt: HostRuntime) -> io::Result<()> {
     let mut input = [0u8; sheet::LONGEST + 1];
-    let n = io::read_full(STDIN_FILENO, &mut input);
+    let n = lent_input::read_full(&mut rt.stdin(), &mut input)?;
     let mut out = [0u8; office::LONGEST];
     let k = office_sheet::take_out(&input[..n], &mut out);
-    io::write_all(STDOUT_FILENO, &out[..k]);
+    rt.write_all(&out[..k])
 }

@@ -1,0 +1,54 @@
+// What a program is given, read to the front of a lent buffer: the bytes of a stream, and the words of the command line.
+#![tactic(auto)]
+
+ghost use Rattle.std.specs.Prelude.{◌≡◌, ◌<◌, ◌≤◌, length, take, IfOk};
+ghost use Rattle.std.specs.Io.KnownBytes.{Consumes, IsAtEnd};
+
+use std::env::{Env, FillError};
+use std::io;
+use std::io::{ErrorKind, Read};
+
+// Reads until the buffer is full or the stream ends, and answers how many bytes it put there.
+pub fn read_full<R: Read>(from: &mut R, into: &mut [u8]) -> io::Result<usize>
+    ensures within { IfOk result (λ n. (n ≤ length into.new) × (n ≡ length (take n into.new))) }
+    ensures bytes { IfOk result (λ n. Consumes (R.remaining from.old) (R.remaining from.new) (take n into.new)) }
+    ensures end { IfOk result (λ n. n < length into.new → IsAtEnd (R.remaining from.new)) }
+{
+    let mut done = 0;
+    for _ in 0..u64::MAX {
+        if into.len() <= done {
+            return Ok(done);
+        }
+        match from.read(&mut into[done..]) {
+            Ok(0) => return Ok(done),
+            Ok(n) => done += n,
+            Err(error) => {
+                if error.kind() != ErrorKind::Interrupted {
+                    return Err(error);
+                }
+            }
+        }
+    }
+    Err(io::Error::from(ErrorKind::Interrupted))
+}
+
+// Puts the word of a number on the command line, and answers its length; 0 where there is none, or no room for it.
+pub fn word<E: Env>(given: &E, i: usize, into: &mut [u8]) -> usize
+    ensures within { (result ≤ length into.new) × (result ≡ length (take result into.new)) }
+{
+    match given.arg(i, into) {
+        Ok(n) => n,
+        Err(_) => 0,
+    }
+}
+
+// How many words the command line has, the program's own name among them.
+pub fn word_count<E: Env>(given: &E) -> usize {
+    let mut least = [0u8; 1];
+    for i in 0..usize::MAX {
+        if let Err(FillError::NotPresent) = given.arg(i, &mut least) {
+            return i;
+        }
+    }
+    usize::MAX
+}

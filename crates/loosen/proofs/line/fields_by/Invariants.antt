@@ -1,0 +1,10 @@
+-- `loosen::line::fields_by` ends. Assumes nothing.
+-- The loop: no place before the first is looked at; what is left of the part falls.
+use Rattle.ground.proofs.Kit.{◌-◌, ◌≤◌}
+use Rattle.loosen.proofs.line.fields_by.Given as goal
+
+abbrev pub invariant-loop-i : goal.invariant-loop-i
+invariant-loop-i l = l.initial.i ≤ l.i
+
+abbrev pub decreases-loop-i : goal.decreases-loop-i
+decreases-loop-i l = l.end - l.i
