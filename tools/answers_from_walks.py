@@ -56,6 +56,8 @@ class Function:
                         self.arm_fields[(step, tuple(path))] = (arm[0], field)
         for loop, _ in data["loops"]:
             self.steps.setdefault(loop[0], set()).add(loop[1])
+        self.own = []
+        self.helpers = {}
         norm = {}
         for old in self.steps:
             norm.setdefault(re.sub(r"[-_]", "", old), old)
@@ -73,6 +75,10 @@ class Function:
             fields.pop(0)
         if not fields:
             return root + ".before" * befores
+        if fields[0] == "args" and len(fields) > 1 and re.fullmatch(r"t\d+", fields[1]):
+            k = int(fields[1][1:]) - 1
+            if k < len(self.own):
+                fields[1] = self.own[k]
         if fields[0] in ("args", "requires", "ranges", "well_formed"):
             return root + "." + ".".join(fields)
         for k in range(len(fields), 0, -1):
@@ -170,6 +176,10 @@ def inline(body, projections):
                 new = word_sub(path, param, m.group(1))
                 body = body[: m.start()] + new + body[m.end():]
                 changed = True
+            m = re.search(r"= %s (%s(?:\.[\w'₀-₉-]+)*) in" % (re.escape(name), WORD), body)
+            if m:
+                body = body[: m.start()] + "= " + word_sub(path, param, m.group(1)) + " in" + body[m.end():]
+                changed = True
         m = re.search(r"let (%s) = (%s(?:\.before)+|%s) in\s*" % (WORD, WORD, WORD), body)
         if m:
             rest = body[m.end():]
@@ -185,7 +195,43 @@ def paths(body, fn, roots):
         if root not in roots:
             return m.group(0)
         return fn.translate(root, fields, roots[root])
-    return PATH.sub(one, body)
+    body = re.sub(r"\.inv(?![\w'-])", ".invariant", re.sub(r"\.pre(?![\w'-])", ".requires", body))
+    body = re.sub(r"(?<=args)\.t(\d+)(?![\w'-])", lambda m: "." + fn.own[int(m.group(1)) - 1] if int(m.group(1)) <= len(fn.own) else m.group(0), body)
+    return calls(PATH.sub(one, body), fn, roots)
+
+
+def own_params(crate, path):
+    name = path.split("/")[-1]
+    for p in glob.glob("crates/%s/src/**/*.rt" % crate, recursive=True):
+        m = re.search(r"fn %s(?:<[^>]*>)?\(([^)]*)\)" % re.escape(name), open(p, encoding="utf-8").read())
+        if m:
+            return [re.match(r"\s*(?:mut )?&?(?:mut )?(\w+)", x).group(1) for x in m.group(1).split(",") if re.match(r"\s*(?:mut )?&?(?:mut )?\w", x)]
+    return []
+
+
+def chained(fn, place, target):
+    """How many places back from one to another, by names of today or of then."""
+    plain = lambda n: re.sub(r"[-_]", "", n)
+    n = 0
+    while place is not None:
+        if plain(place) in (plain(target), re.sub(r"2$", "", plain(target))):
+            return n
+        place = fn.parent.get(place)
+        n += 1
+    return None
+
+
+def calls(body, fn, roots):
+    """Gives each helper that stands at a place its own place."""
+    for h, target in fn.helpers.items():
+        def one(m):
+            root = m.group(2)
+            if root not in roots or roots[root] is None:
+                return m.group(0)
+            n = chained(fn, roots[root], target)
+            return m.group(0) if n is None else m.group(1) + root + ".before" * n
+        body = re.sub(r"(?<![\w'.₀-₉-])(%s )(%s)((?:\.before)*)(?![\w'.₀-₉-])" % (re.escape(h), WORD), one, body)
+    return body
 
 
 def place_in(sig, fn):
@@ -193,7 +239,10 @@ def place_in(sig, fn):
 
     def one(m):
         old = m.group(1)
-        new = fn.new_place.get(old, old)
+        new = fn.new_place.get(old)
+        if new is None:
+            plain = re.sub(r"[-_]", "", old)
+            new = next((n for o, n in fn.new_place.items() if re.sub(r"[-_]", "", o) in (plain, re.sub(r"2$", "", plain))), old)
         places.add(new)
         return new
     loops = "|".join(x for l, _ in fn.data["loops"] for x in ("invariant-" + re.escape(l[0]), "decreases-" + re.escape(l[0]), "invariant-" + re.escape(l[1])))
@@ -290,6 +339,10 @@ def answers(fn, defs, uses, head, crate, path, wanted):
     for n in list(projections):
         p, b = projections[n]
         projections[n] = (p, inline(b, {k: v for k, v in projections.items() if k != n}))
+    for h in order:
+        m = re.match(r"[^:]* : (?:\(%s : )?tie\.([A-Z][\w'-]*)" % WORD, helpers[h][1])
+        if m:
+            fn.helpers[h] = m.group(1)
     by_new = {}
     mark = "" if len(args) == len(fn.data["needs"]) else "-- by hand: %d answers for %d goals\n" % (len(args), len(fn.data["needs"]))
     for a, (old, new) in zip(args, fn.data["needs"]):
@@ -305,6 +358,7 @@ def answers(fn, defs, uses, head, crate, path, wanted):
             if n:
                 by_new[n] = (comment, unfolding, params, body, old)
     wanted = [n for _, n in fn.data["needs"]] if wanted is None else wanted
+    wanted = [n for _, n in fn.data["needs"] if n in wanted] + [n for n in wanted if n not in [m for _, m in fn.data["needs"]]]
     texts, places, used = [], set(), set()
     for new in wanted:
         if new not in by_new:
@@ -374,6 +428,7 @@ def main(argv):
             print("left: no names for " + key)
             continue
         fn = Function(key, data[key])
+        fn.own = own_params(crate, path)
         head, uses, defs = parse(text)
         to = os.path.join("crates", crate, "proofs", path)
         inv = invariants(fn, defs, uses, head, crate, path)
@@ -387,7 +442,15 @@ def main(argv):
                 open(to + "/Answers.antt", "w", encoding="utf-8").write(answers(fn, defs, uses, head, crate, path, wanted[path] if wanted else None))
                 print("wrote", to + "/Answers.antt", len(wanted[path]) if wanted else "")
             else:
-                print("left: there is", to + "/Answers.antt", wanted[path] if wanted else "")
+                there = open(to + "/Answers.antt", encoding="utf-8").read()
+                had = re.findall(r"(?m)^pub (\S+) : goal\.", there)
+                order = [n for _, n in fn.data["needs"]]
+                if there == answers(fn, defs, uses, head, crate, path, [n for n in order if n in had]):
+                    both = [n for n in order if n in had or n in (wanted[path] if wanted else order)]
+                    open(to + "/Answers.antt", "w", encoding="utf-8").write(answers(fn, defs, uses, head, crate, path, both))
+                    print("wrote again", to + "/Answers.antt", len(both))
+                else:
+                    print("left: there is", to + "/Answers.antt", wanted[path] if wanted else "")
 
 
 if __name__ == "__main__":
