@@ -107,6 +107,8 @@ class Function:
                 for old, to in self.inner.get(new, []):
                     if rest[0] == old:
                         rest = [to] + rest[1:]
+            if rest and rest[0] in ("taken", "left"):
+                rest = [{"taken": "true", "left": "false"}[rest[0]]] + rest[1:]
             return ".".join([root, new if len(news) == 1 else "|".join(sorted(news))] + rest)
         return ".".join([root] + fields)
 
@@ -368,6 +370,9 @@ def answers(fn, defs, uses, head, crate, path, wanted):
         root = params[0] if params else "c"
         body = paths(inline(body, projections), fn, {root: fn.asked.get(new)})
         body = body.replace("search needs", "search rules")
+        if "tie." in body:
+            body, pl = place_in(body, fn)
+            places |= pl
         texts.append("\n".join(comment + ["pub %s : goal.%s" % (new, new)] + unfolding + ["%s %s =%s" % (new, root, body if body.startswith("\n") else " " + body)]))
     done = set()
     helper_texts = {}
