@@ -53,7 +53,7 @@ class Function:
             if arm:
                 for field, step, path in arm[2]:
                     if not field.endswith("-own"):
-                        self.arm_fields[(step, tuple(path))] = (arm[0], field)
+                        self.arm_fields[(re.sub(r"[-_]", "", step), tuple(path))] = (arm[0], field)
         for loop, _ in data["loops"]:
             self.steps.setdefault(loop[0], set()).add(loop[1])
         self.own = []
@@ -82,7 +82,7 @@ class Function:
         if fields[0] in ("args", "requires", "ranges", "well_formed"):
             return root + "." + ".".join(fields)
         for k in range(len(fields), 0, -1):
-            hit = self.arm_fields.get((fields[0], tuple(fields[1:k])))
+            hit = self.arm_fields.get((re.sub(r"[-_]", "", fields[0]), tuple(fields[1:k])))
             if hit:
                 return ".".join([root, hit[0], hit[1]] + fields[k:])
         if fields[0] not in self.steps:
@@ -107,6 +107,8 @@ class Function:
                 for old, to in self.inner.get(new, []):
                     if rest[0] == old:
                         rest = [to] + rest[1:]
+            if rest and rest[0] in ("taken", "left"):
+                rest = [{"taken": "true", "left": "false"}[rest[0]]] + rest[1:]
             return ".".join([root, new if len(news) == 1 else "|".join(sorted(news))] + rest)
         return ".".join([root] + fields)
 
@@ -368,6 +370,9 @@ def answers(fn, defs, uses, head, crate, path, wanted):
         root = params[0] if params else "c"
         body = paths(inline(body, projections), fn, {root: fn.asked.get(new)})
         body = body.replace("search needs", "search rules")
+        if "tie." in body:
+            body, pl = place_in(body, fn)
+            places |= pl
         texts.append("\n".join(comment + ["pub %s : goal.%s" % (new, new)] + unfolding + ["%s %s =%s" % (new, root, body if body.startswith("\n") else " " + body)]))
     done = set()
     helper_texts = {}
@@ -391,6 +396,12 @@ def answers(fn, defs, uses, head, crate, path, wanted):
             done.add(h)
     body = "\n\n".join([helper_texts[h] for h in order if h in helper_texts] + texts)
     kept = keep_uses(uses, body)
+    if "search rules" in body:
+        kit = [u for u in kept if "ground.proofs.Kit.{" in u]
+        if kit:
+            kept[kept.index(kit[0])] = kit[0][:-1] + ", rules}"
+        else:
+            kept.insert(0, "use Rattle.std.proofs.Common.{rules}")
     goal = "Rattle.%s.proofs.%s.Goals" % (crate, path.replace("/", "."))
     kept.append("use %s as goal" % goal)
     arms = sorted(set(re.findall(r"\b((?:then|else|left|in|not|after|came)-[\w-]+) w ↦", body)))

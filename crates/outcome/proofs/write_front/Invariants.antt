@@ -1,0 +1,11 @@
+-- `outcome::write_front` meets its contract. The loop: the first j processors are written, and nothing past them has moved; n − j falls.
+-- Assumes nothing.
+use Rattle.ground.proofs.Kit.{ℕ, ◌-◌, ◌≤◌, get_or}
+use Rattle.ground.proofs.Buffer.{Front}
+use Rattle.outcome.proofs.write_front.Given as goal
+
+abbrev pub invariant-loop-j : goal.invariant-loop-j
+invariant-loop-j l = (l.j ≤ l.n) × Front (λ (i : ℕ). get_or l.from i 0) l.initial.out l.out l.j
+
+abbrev pub decreases-loop-j : goal.decreases-loop-j
+decreases-loop-j l = l.n - l.j
