@@ -60,7 +60,7 @@ class Function:
         self.helpers = {}
         norm = {}
         for old in self.steps:
-            norm.setdefault(re.sub(r"[-_]", "", old), old)
+            norm.setdefault(re.sub(r"[-_]", "", old).lower(), old)
         self.norm = norm
         self.needs = dict(data["needs"])
         self.asked = {}
@@ -86,7 +86,7 @@ class Function:
             if hit:
                 return ".".join([root, hit[0], hit[1]] + fields[k:])
         if fields[0] not in self.steps:
-            plain = re.sub(r"[-_]", "", fields[0])
+            plain = re.sub(r"[-_]", "", fields[0]).lower()
             for tried in (plain, re.sub(r"2$", "", plain)):
                 if tried in self.norm:
                     fields[0] = self.norm[tried]
@@ -314,6 +314,39 @@ def keep_uses(uses, body):
     return kept
 
 
+def with_lets(body, root, helpers, order, projections, fn):
+    """Puts each helper at a place into the goal itself, as a let: facts are flat there, so that its words hold as they stand."""
+    need, queue, opened = [], [body], []
+    while queue:
+        text = queue.pop()
+        for h in order:
+            if h not in need and re.search(r"(?<![\w'.₀-₉-])%s(?![\w'₀-₉-])" % re.escape(h), text):
+                need.append(h)
+                queue.append(helpers[h][1] + helpers[h][4])
+    lets = []
+    for h in [x for x in order if x in need]:
+        comment, sig, unfolding, params, text = helpers[h]
+        m = re.match(r"[^:]* : (?:\((%s) : )?tie\.[A-Z][\w'-]*\)?[^→]*→ (.*)$" % WORD, sig, re.S)
+        if not m or len(params) != 1:
+            return None
+        opened.extend(x for u in unfolding for x in u.split()[1:])
+        ty = inline(m.group(2).strip(), projections)
+        text = inline(text, projections)
+        ty = word_sub(ty, m.group(1) or params[0], root)
+        text = word_sub(text, params[0], root)
+        ty, text = (paths(x, fn, {root: None}) for x in (ty, text))
+        lets.append((h, ty, text.strip()))
+
+    def called(x):
+        for h in need:
+            x = re.sub(r"\(%s %s(?:\.before)*\)" % (re.escape(h), re.escape(root)), h, x)
+            x = re.sub(r"(?<![\w'.₀-₉-])%s %s(?:\.before)*(?![\w'.₀-₉-])" % (re.escape(h), re.escape(root)), h, x)
+        return x
+    head = "".join("\n    let %s : (%s) =\n    %s in" % (h, re.sub(r"\s*\n\s*", " ", called(t)), called(b)) for h, t, b in lets)
+    body = called(body)
+    return head + ("\n    " if lets and not body.startswith("\n") else "") + body, opened
+
+
 def answers(fn, defs, uses, head, crate, path, wanted):
     spec = "\n".join(defs[-1][1])
     m = re.search(r"tie\.close \(tie\.spec (.*)\)\s*$", spec, re.S)
@@ -346,29 +379,61 @@ def answers(fn, defs, uses, head, crate, path, wanted):
         if m:
             fn.helpers[h] = m.group(1)
     by_new = {}
-    mark = "" if len(args) == len(fn.data["needs"]) else "-- by hand: %d answers for %d goals\n" % (len(args), len(fn.data["needs"]))
-    for a, (old, new) in zip(args, fn.data["needs"]):
+    plain = lambda n: re.sub(r"[-_]", "", n).lower()
+    by_plain = {plain(o): n for o, n in fn.data["needs"]}
+    taken = set()
+    for name, g in goals.items():
+        if plain(g[4]) in by_plain:
+            taken.add(by_plain[plain(g[4])])
+            by_new[by_plain[plain(g[4])]] = g
+    rest = [a for a in args if a not in goals or plain(goals[a][4]) not in by_plain]
+    free = [n for n in fn.data["needs"] if n[1] not in taken]
+    if len(rest) == len(free):
+        args, pairs, mark_needed = rest, free, False
+    else:
+        pairs = fn.data["needs"]
+    for a, (old, new) in zip(args, pairs):
+        if new in taken:
+            continue
         if a in goals:
             by_new[new] = goals[a]
         elif not TRIVIAL.match(a):
             l = re.match(r"^\(λ (\w+)( κs)?\. (.*)\)$", a, re.S)
             by_new[new] = ([], [], [l.group(1)], l.group(3), old) if l else ([], [], ["c"], a, old)
+    mark = "" if len(args) in (len(fn.data["needs"]), len(pairs)) else "-- by hand: %d answers for %d goals\n" % (len(args), len(fn.data["needs"]))
     if mark:
         for name, (comment, unfolding, params, body, old) in goals.items():
             norm = {re.sub(r"[-_]", "", o): n for o, n in fn.data["needs"]}
             n = norm.get(re.sub(r"[-_]", "", old))
             if n:
                 by_new[n] = (comment, unfolding, params, body, old)
+    all_wanted = wanted is None
     wanted = [n for _, n in fn.data["needs"]] if wanted is None else wanted
     wanted = [n for _, n in fn.data["needs"] if n in wanted] + [n for n in wanted if n not in [m for _, m in fn.data["needs"]]]
-    texts, places, used = [], set(), set()
+    texts, places, placed, standing = [], set(), set(), []
     for new in wanted:
         if new not in by_new:
+            if all_wanted:
+                continue
             texts.append("pub %s : goal.%s\n%s c = ?" % (new, new, new))
             continue
         comment, unfolding, params, body, old = by_new[new]
         root = params[0] if params else "c"
         body = paths(inline(body, projections), fn, {root: fn.asked.get(new)})
+        if any(fn.data["arms"]) or "--inline" in sys.argv:
+            put_in = with_lets(body, root, helpers, order, projections, fn)
+            if put_in is not None:
+                put_in, opened = put_in
+                have = [x for u in unfolding for x in u.split()[1:]]
+                both = have + [x for x in dict.fromkeys(opened) if x not in have]
+                unfolding = ["unfolding " + " ".join(both)] if both else []
+            if put_in is not None and put_in != body:
+                texts_in = set(re.findall(r"let (%s) : \(" % WORD, put_in)) & set(order)
+                placed |= texts_in
+            body = body if put_in is None else put_in
+            standing.append(body if put_in is None else "")
+        else:
+            standing.append(body)
         body = body.replace("search needs", "search rules")
         if "tie." in body:
             body, pl = place_in(body, fn)
@@ -377,7 +442,7 @@ def answers(fn, defs, uses, head, crate, path, wanted):
     done = set()
     helper_texts = {}
     while True:
-        whole = "\n".join(texts + list(helper_texts.values()))
+        whole = "\n".join(standing + list(helper_texts.values()))
         more = [h for h in order if h not in done and re.search(r"(?<![\w'.-])%s(?![\w'-])" % re.escape(h), whole)]
         if not more:
             break

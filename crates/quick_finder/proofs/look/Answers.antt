@@ -1,0 +1,17 @@
+-- `quick_finder::look` meets its contract. Assumes nothing.
+use Rattle.ground.proofs.Kit.{refl, ◌∙◌}
+use Rattle.policy.proofs.Weighing.{weighed-worked-out}
+use Rattle.quick_finder.proofs.look.Goals as goal
+
+pub returns : goal.returns
+returns c =
+    let total = c.total_at-total.ensures in (
+      record {
+        step = c.requires.3;
+        due = c.requires.4;
+        from = refl;
+        passed = c.weighs-passed.ensures ∙ weighed-worked-out _ _ _ _ _ total;
+        count = refl;
+      },
+      total.added,
+    )
