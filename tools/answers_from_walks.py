@@ -216,7 +216,7 @@ def chained(fn, place, target):
     plain = lambda n: re.sub(r"[-_]", "", n)
     n = 0
     while place is not None:
-        if plain(place) in (plain(target), re.sub(r"2$", "", plain(target))):
+        if plain(place) == (plain(target) if plain(target) in map(plain, fn.parent) else re.sub(r"2$", "", plain(target))):
             return n
         place = fn.parent.get(place)
         n += 1
@@ -244,7 +244,8 @@ def place_in(sig, fn):
         new = fn.new_place.get(old)
         if new is None:
             plain = re.sub(r"[-_]", "", old)
-            new = next((n for o, n in fn.new_place.items() if re.sub(r"[-_]", "", o) in (plain, re.sub(r"2$", "", plain))), old)
+            found = {re.sub(r"[-_]", "", o): n for o, n in fn.new_place.items()}
+            new = found.get(plain) or found.get(re.sub(r"2$", "", plain)) or old
         places.add(new)
         return new
     loops = "|".join(x for l, _ in fn.data["loops"] for x in ("invariant-" + re.escape(l[0]), "decreases-" + re.escape(l[0]), "invariant-" + re.escape(l[1])))

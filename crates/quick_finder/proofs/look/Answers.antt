@@ -10,7 +10,7 @@ returns c =
         step = c.requires.3;
         due = c.requires.4;
         from = refl;
-        passed = c.weighs-passed.ensures ∙ weighed-worked-out _ _ _ _ _ total;
+        tested = c.weighs-passed.ensures ∙ weighed-worked-out _ _ _ _ _ total;
         count = refl;
       },
       total.added,

@@ -4,10 +4,10 @@ use Rattle.ground.proofs.Kit.{◌+◌, ◌-◌, ◌<◌, refl, sym, arith}
 use Rattle.springs.specs.Columns.{spring_in}
 use Rattle.quick_finder.proofs.Loop.{Standing, due-first, first_passes, first-fails, none-due, look-due, stretch, next-passes, next-fails}
 use Rattle.quick_finder.proofs.search_columns.Goals as goal
-use Rattle.quick_finder.proofs.search_columns.Goals.{After-next_due-due}
+use Rattle.quick_finder.proofs.search_columns.Goals.{After-next_due-due-in-loop-due}
 
 -- after a look that failed the search stands again, with fewer looks left
-stands : (c : After-next_due-due)
+stands : (c : After-next_due-due-in-loop-due)
     → let args = c.args in
     Standing args.w (spring_in args.block.now) args.n c.look-search-in-loop-due.result c.next_due-due-in-loop-due.result
     × (args.n + 1 - c.look-search-in-loop-due.result.looks < args.n + 1 - c.loop-due.search.looks)
