@@ -1,5 +1,5 @@
 //! Fills in bench case K from Rust, checks its processors at other steps as a planner's proposal, keeps its tasks in the order in which they
-//! saturate, and runs a release clock with its periods. On x86-64, after `rt staticlib eelbasket`:
+//! saturate, and runs a release clock with its periods. On x86-64, after `scripts/library`:
 //!     cargo run --offline --manifest-path bindings/rust/Cargo.toml --example embed
 use eelbasket::{
     check_proposal, find, margin, quick, Clock, Edition, Kept, Policy, Refusal, Station, Task,

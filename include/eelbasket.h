@@ -1,4 +1,4 @@
-/* The pace setter for C: link with libeelbasket.a (`rt staticlib eelbasket` writes target/staticlib/libeelbasket.a for x86-64, and
+/* The pace setter for C: link with libeelbasket.a (`scripts/library` writes target/staticlib/libeelbasket.a for x86-64, and
  * `scripts/library --target` makes it for others).
  *
  * A caller owes what the types say: each pointer has as many entries behind it as the length after it says (a pointer that is not null, also

@@ -1,48 +1,56 @@
 # What the scripts share; each sets `called`, by which it tells of itself, and sources this file:
-#   here                  the repository's top
-#   kit, own, tools       the kit, what it has for this machine, and its compiler, linker and C library
-#   emulator              what runs programs for x86-64 where this machine does not; empty where it does
+#   here        the repository's top
+#   kit, tools  the kit, and its compiler, linker and C library
 # shellcheck shell=sh
 here=$(cd "$(dirname "$0")/.." && pwd -P)
 
 # a wrapper of rt stands beside no kit, and is asked; rt itself is not, as that would cost each command more than its program does
 find_kit() {
     kit=$(command -v rt) || { echo "$called: there is no rt on the path" >&2; exit 2; }
-    kit=${RATTLE_HOME:-$(dirname "$(dirname "$(readlink -f "$kit")")")}
-    [ -d "$kit/on" ] || kit=$(dirname "$(dirname "$(rt doc)")")
-    own=$kit/on/$(uname -m) tools=$kit/on/$(uname -m)/toolchain
-    emulator=$tools/bin/qemu-x86_64
-    [ -x "$emulator" ] || emulator=
+    kit=$(dirname "$(dirname "$(readlink -f "$kit")")")
+    [ -d "$kit/toolchain" ] || kit=$(dirname "$(rt doc)")
+    tools=$kit/toolchain
 }
 
-# runs a program for x86-64 under the kit's own C library, or prints the words that do
+# runs a program under the kit's own C library, or prints the words that do
 native() { # exec|echo PROGRAM [WORD ..]
     how=$1
     shift
-    "$how" ${emulator:+"$emulator"} "$tools/lib/ld-linux-x86-64.so.2" --library-path "$tools/lib" "$@"
+    "$how" "$tools/lib/ld-linux-x86-64.so.2" --library-path "$tools/lib" "$@"
 }
 
-# whether there is room in memory for the files of checks, and programs may run there
-in_memory() {
-    [ -w /dev/shm ] && [ "$(df -k /dev/shm | awk 'END { print $4 }')" -ge 1000000 ] && trial=$(mktemp /dev/shm/trial.XXXXXX) || return
-    chmod +x "$trial" && "$trial"
-    set -- $?
-    rm -f "$trial"
-    return "$1"
+# the crates that a crate is made of, each behind those that it lists, itself last: the order in which rt builds them
+parts() { # CRATE
+    awk -v name="$1" '
+        function visit(crate,    names, n, i) {
+            if (crate in seen || !(crate in rests)) return
+            seen[crate] = 1
+            n = split(rests[crate], names, " ")
+            for (i = 1; i <= n; i++) visit(names[i])
+            print crate
+        }
+        { sub(/#.*/, "") }
+        /:/ { split($0, side, ":"); sub(/ .*/, "", side[1]); rests[side[1]] = side[2] }
+        END { visit(name) }' "$here/crates.txt"
 }
 
-# runs a command of rt with its temporary files in memory, where that can be: a check lays thousands of them down and takes them away again
-swiftly() { # COMMAND..
-    if in_memory; then TMPDIR=/dev/shm "$@"; else "$@"; fi
-}
+# what those crates are built from, named from the top
+sources() ( # CRATE
+    cd "$here" || exit
+    echo crates.txt
+    for part in $(parts "$1"); do
+        for folder in src specs proofs; do [ ! -d "crates/$part/$folder" ] || echo "crates/$part/$folder"; done
+    done
+)
 
-# whether a file is missing or older than one of its sources
-stale() { # FILE SOURCE ..
-    [ -e "$1" ] || return 0
+# whether a file is missing or older than one of its sources, which are named from the top
+stale() ( # FILE SOURCE ..
+    cd "$here" || exit
+    [ -e "$1" ] || exit 0
     made=$1
     shift
     [ -n "$(find "$@" -newer "$made" -type f | head -n 1)" ]
-}
+)
 
 # holds the one lock of all builds, where the machine has locks
 alone() {

@@ -8,7 +8,8 @@ ends it with a sentence.
 """
 import re, sys
 
-OF_X86 = re.compile(r'^target datalayout = .*\n|^target triple = "x86_64.*\n| "probe-stack"="inline-asm"| "target-cpu"="x86-64"', re.M)
+OF_X86 = re.compile(r'^target datalayout = .*\n|^target triple = "x86_64.*\n| "probe-stack"="inline-asm"| "stack-probe-size"="\d+"'
+                    r'| "target-cpu"="x86-64(?:-v\d)?"', re.M)
 EXPORTED = re.compile(r'^define (?!internal )(.*?) @(\w+)\((.*)\) #0 \{$', re.M)
 PARAMETER = re.compile(r'(i\d+|ptr)(?: noundef)?( byval\(\[\d+ x i8\]\) align \d+)? %a\d+')
 # what is left of x86-64 or exported, and what means something else where a pointer has 32 bits: a struct's layout, and a pointer as a number

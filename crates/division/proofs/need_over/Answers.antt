@@ -1,4 +1,3 @@
--- by hand: 10 answers for 9 goals
 -- `division::need_over` meets its contract. The loop: the greatest need of no task and of the first i is at hand; n − i falls.
 -- Assumes nothing.
 use Rattle.ground.proofs.Kit.{◌-◌, max, sym, ◌∙◌, ap₂, arith}

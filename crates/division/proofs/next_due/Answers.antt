@@ -1,4 +1,3 @@
--- by hand: 9 answers for 8 goals
 -- `division::next_due` meets its contract. The loop: the nearest of the first i saturation steps above p is at hand; n − i falls.
 -- Assumes nothing.
 use Rattle.ground.proofs.Kit.{◌-◌, ◌≡◌, sym, ◌∙◌, ap₂, arith}

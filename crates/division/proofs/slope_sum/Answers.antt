@@ -1,4 +1,3 @@
--- by hand: 9 answers for 8 goals
 -- `division::slope_sum` meets its contract. The loop: the sum of the first i slopes is at hand; n − i falls. Assumes nothing.
 use Rattle.ground.proofs.Kit.{◌-◌, ◌≤◌, ◌≡◌, ◌∙◌, ap, arith}
 use Rattle.ground.proofs.Folds.{added_none, added_more}

@@ -19,7 +19,7 @@ pub returns : goal.returns
 returns c =
     let load = load_in c.args.loads.now in
     elim c.tasks-test.branch [
-      else-tasks-test w ↦ placed-all _ load _ _ _ _ c.tasks.invariant w.tasks-test.false
-    | then-tasks-test+then-m-j w ↦
-        placed-stuck _ load _ _ _ _ c.tasks.invariant w.tasks-test.true _ refl _ w.loop-j.invariant w.if-m-j.true
+      | else-tasks-test w ↦ placed-all _ load _ _ _ _ c.tasks.invariant w.tasks-test.false
+      | then-tasks-test+then-m-j w ↦
+          placed-stuck _ load _ _ _ _ c.tasks.invariant w.tasks-test.true _ refl _ w.loop-j.invariant w.if-m-j.true
     ]

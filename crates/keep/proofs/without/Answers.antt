@@ -1,4 +1,3 @@
--- by hand: 10 answers for 9 goals
 -- `keep::without` meets its contract. The loop: the first i records are copied, without the one at the place, and zeros stand past them; n − i
 -- falls. Assumes nothing.
 use Rattle.ground.proofs.Kit.{◌-◌, ◌≡◌, ap, arith}

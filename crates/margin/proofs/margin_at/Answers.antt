@@ -1,4 +1,3 @@
--- by hand: 13 answers for 9 goals
 -- `margin::margin_at` meets its contract. Assumes nothing.
 use Rattle.ground.proofs.Kit.{ℕ, ◌<◌, false, ◌≡◌, refl, sym, ◌∙◌, ap, rules}
 use Rattle.kinds.specs.Answer.{accepted}

@@ -1,4 +1,3 @@
--- by hand: 10 answers for 8 goals
 -- `outcome::write_front` meets its contract. The loop: the first j processors are written, and nothing past them has moved; n − j falls.
 -- Assumes nothing.
 use Rattle.ground.proofs.Kit.{ℕ, ◌-◌, ◌≡◌, refl, arith, get_or}

@@ -1,4 +1,3 @@
--- by hand: 10 answers for 8 goals
 -- `outcome::write_periods` meets its contract. The loop: the first i periods are written, and nothing past them has moved; n − i falls.
 -- Assumes nothing.
 use Rattle.ground.proofs.Kit.{◌-◌, ◌≡◌, ◌∙◌, ap, arith}

@@ -1,4 +1,3 @@
--- by hand: 14 answers for 10 goals
 -- `plain_finder::decide` meets its contract. Assumes nothing.
 use Rattle.ground.proofs.Kit.{true, refl}
 use Rattle.admission.specs.Handover.{AdmittedSprung}

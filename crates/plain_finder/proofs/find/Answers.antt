@@ -1,4 +1,3 @@
--- by hand: 18 answers for 12 goals
 -- `plain_finder::find` meets its contract. Assumes nothing.
 use Rattle.ground.proofs.Kit.{min, true, ◌≡◌, refl, length}
 use Rattle.kinds.specs.declared.Verdict.TheVariants.{Accepted}

@@ -8,7 +8,7 @@ use Rattle.policy.specs.Passing.{passes_at}
 use Rattle.plain_finder.proofs.least_charged.Given as goal
 
 abbrev pub invariant-loop-policy : goal.invariant-loop-policy
-invariant-loop-policy l = 
+invariant-loop-policy l =
     (l.step ≤ l.last) × Beside l.initial.block l.block × ((j : ℕ) → j < l.step → passes_at l.policy l.m (charges_on l.notch (spring_in l.initial.block)) l.n j ≡ false)
 
 abbrev pub decreases-loop-policy : goal.decreases-loop-policy

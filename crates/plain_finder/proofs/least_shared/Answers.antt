@@ -47,9 +47,8 @@ next_shares-sum-requires c =
     (stepped-springy _ _ _ _ first _ _ _ stepped, stepped-most _ _ _ _ first _ _ _ stepped)
 
 pub loop-policy-preserved : goal.loop-policy-preserved
-loop-policy-preserved c =
-    (
-      omega arith,
-      stepped-more _ _ _ _ (springy c.before.before.before.before.before.before) _ _ _ c.loop-policy.invariant.1 _ c.passes_summed.ensures c.if-passes_summed.false
-          _ _ c.next_shares-sum.ensures,
-    )
+loop-policy-preserved c = (
+  omega arith,
+  stepped-more _ _ _ _ (springy c.before.before.before.before.before.before) _ _ _ c.loop-policy.invariant.1 _ c.passes_summed.ensures c.if-passes_summed.false
+      _ _ c.next_shares-sum.ensures,
+)

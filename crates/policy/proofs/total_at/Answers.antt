@@ -1,4 +1,3 @@
--- by hand: 11 answers for 10 goals
 -- `policy::total_at` meets its contract. The loop: the total of the first i shares of step k is at hand; n − i falls. Assumes nothing.
 use Rattle.ground.proofs.Kit.{◌-◌, ◌∙◌, ap, arith}
 use Rattle.springs.specs.declared.Spring.{Spring}

@@ -1,4 +1,3 @@
--- by hand: 11 answers for 10 goals
 -- `policy::total_of` meets its contract. The loop: the total of the first i loads is at hand; n − i falls. Assumes nothing.
 use Rattle.ground.proofs.Kit.{◌-◌, refl, arith}
 use Rattle.fit.specs.Fit.{load_in}

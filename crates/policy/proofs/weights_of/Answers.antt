@@ -1,4 +1,3 @@
--- by hand: 15 answers for 9 goals
 -- `policy::weights_of` meets its contract. Assumes nothing.
 use Rattle.ground.proofs.Kit.{refl, arith}
 use Rattle.bound.proofs.Bounds.{bound-high}

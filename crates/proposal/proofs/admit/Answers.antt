@@ -1,4 +1,3 @@
--- by hand: 11 answers for 7 goals
 -- `proposal::admit` meets its contract. Assumes nothing.
 use Rattle.ground.proofs.Kit.{◌≡◌, sym, ◌∙◌, arith}
 use Rattle.kinds.specs.declared.Verdict.TheVariants.{Accepted}

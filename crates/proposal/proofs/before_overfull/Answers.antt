@@ -1,4 +1,3 @@
--- by hand: 9 answers for 8 goals
 -- `proposal::before_overfull` meets its contract. The loop: none of the first j processors is overfull; m − j falls. Assumes nothing.
 use Rattle.ground.proofs.Kit.{ℕ, ◌-◌, ◌≡◌, sym, ◌∙◌, arith, get_or, lt-ltb}
 use Rattle.ground.proofs.First.{first-here, first-none}

@@ -1,4 +1,3 @@
--- by hand: 14 answers for 11 goals
 -- `proposal::check` meets its contract. Assumes nothing.
 use Rattle.ground.proofs.Kit.{ℕ, ◌≤◌, List, ◌++◌, ◌≡◌, sym, ◌∙◌, ap, arith, length, drop}
 use Rattle.kinds.specs.declared.Verdict.TheVariants.{Accepted}

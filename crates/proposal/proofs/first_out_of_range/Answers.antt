@@ -1,4 +1,3 @@
--- by hand: 9 answers for 8 goals
 -- `proposal::first_out_of_range` meets its contract. The loop: none of the first i processors is out of range; n − i falls. Assumes nothing.
 use Rattle.ground.proofs.Kit.{◌-◌, ◌≡◌, sym, ◌∙◌, arith}
 use Rattle.ground.proofs.First.{first-here, first-none}

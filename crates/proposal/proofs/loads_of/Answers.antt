@@ -1,4 +1,3 @@
--- by hand: 16 answers for 14 goals
 -- `proposal::loads_of` meets its contract. The loop: each processor has the loads of those of the first i tasks that are proposed for it;
 -- n − i falls.
 -- Assumes nothing.

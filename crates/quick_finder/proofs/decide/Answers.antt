@@ -1,4 +1,3 @@
--- by hand: 14 answers for 10 goals
 -- `quick_finder::decide` meets its contract. Assumes nothing.
 use Rattle.ground.proofs.Kit.{false, refl}
 use Rattle.admission.specs.Handover.{AdmittedSprung}

@@ -1,4 +1,3 @@
--- by hand: 18 answers for 12 goals
 -- `quick_finder::find` meets its contract. Assumes nothing.
 use Rattle.ground.proofs.Kit.{min, false, refl, length}
 use Rattle.admission.specs.Handover.{AdmittedSprung}

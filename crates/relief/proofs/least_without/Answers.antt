@@ -7,4 +7,5 @@ use Rattle.relief.proofs.least_without.Goals as goal
 
 pub returns : goal.returns
 unfolding left_rows
-returns c = c.least_told.ensures ∙ ap (λ (t : Table). least_told c.args.settings t.rows t.n) c.without-rest.ensures
+returns c =
+    c.least_told.ensures ∙ ap (λ (t : Table). least_told c.args.settings t.rows t.n) c.without-rest.ensures

@@ -1,6 +1,7 @@
 -- `relief::relief_of` meets its contract. Assumes nothing.
-use Rattle.ground.proofs.Kit.{◌∙◌, ap}
+use Rattle.ground.proofs.Kit.{◌≤◌, ◌∙◌, ap, length}
 use Rattle.kinds.specs.declared.Settings.{Settings}
+use Rattle.kinds.specs.Limits.{most_tasks, most_processors}
 use Rattle.relief.specs.Relief.{least_told}
 use Rattle.relief.proofs.Telling.{step-low}
 use Rattle.relief.proofs.Reliefs.{untold, all_told, may-tell}
@@ -11,22 +12,24 @@ returns-in_default c =
     untold _ _ _ _ c.decide-answer.result c.decide-answer.ensures c.admitted-verdict.result c.admitted-verdict.ensures _ c.in_default.is
 
 pub tell-least-requires : goal.tell-least-requires
-tell-least-requires c = step-low _ _ _ _ c.decide-answer.result c.decide-answer.ensures
+tell-least-requires c =
+    step-low _ _ _ _ c.decide-answer.result c.decide-answer.ensures
 
--- an admitted call has passed every check
 pub one_more-requires : goal.one_more-requires
 one_more-requires c =
+    let passed : (let args = c.args in (args.settings.m ≤ most_processors) × (args.table.n ≤ most_tasks) × (args.table.n ≤ length args.without.now)) =
     let args = c.args in
-    (may-tell args.settings args.table.rows args.table.n args.without.now c.decide-answer.result c.decide-answer.ensures
-    c.admitted-verdict.result c.admitted-verdict.ensures c.in-Accepted.is).0
+    may-tell args.settings args.table.rows args.table.n args.without.now c.decide-answer.result c.decide-answer.ensures
+    c.admitted-verdict.result c.admitted-verdict.ensures c.in-Accepted.is in
+    passed.0
 
 pub write_without-requires : goal.write_without-requires
 write_without-requires c =
+    let passed : (let args = c.args in (args.settings.m ≤ most_processors) × (args.table.n ≤ most_tasks) × (args.table.n ≤ length args.without.now)) =
     let args = c.args in
-    let fits =
     may-tell args.settings args.table.rows args.table.n args.without.now c.decide-answer.result c.decide-answer.ensures
     c.admitted-verdict.result c.admitted-verdict.ensures c.in-Accepted.is in
-    (fits.1, fits.2)
+    let fits = passed in (fits.1, fits.2)
 
 pub returns : goal.returns
 returns c =

@@ -1,4 +1,3 @@
--- by hand: 11 answers for 10 goals
 -- `springs::charges_at` meets its contract. The loop: the first i loads are the charges of step k, whose sum is at hand, and nothing else has
 -- moved; n − i falls. Assumes nothing.
 use Rattle.ground.proofs.Kit.{◌-◌, ◌≡◌, ◌∙◌, ap, arith}

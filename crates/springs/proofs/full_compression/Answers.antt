@@ -1,4 +1,3 @@
--- by hand: 9 answers for 8 goals
 -- `springs::full_compression` meets its contract. The loop: the greatest of the first i saturation steps is at hand; n − i falls.
 -- Assumes nothing.
 use Rattle.ground.proofs.Kit.{ℕ, ◌-◌, sym, arith}

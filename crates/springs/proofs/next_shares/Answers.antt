@@ -1,4 +1,3 @@
--- by hand: 18 answers for 17 goals
 -- `springs::next_shares` meets its contract. The loop: the first i shares are let down, their sum is at hand, and nothing else has moved;
 -- n − i falls. Assumes nothing.
 use Rattle.ground.proofs.Kit.{ℕ, ◌-◌, ◌≤◌, ◌≡◌, sym, arith, get_or}

@@ -1,4 +1,3 @@
--- by hand: 12 answers for 11 goals
 -- `springs::springs_of` meets its contract. The loop: the first i records are good, and the block holds their springs; n − i falls.
 -- Assumes nothing.
 use Rattle.ground.proofs.Kit.{ℕ, ◌-◌, Bool, not, ◌≡◌, sym, ◌∙◌, ap, arith}

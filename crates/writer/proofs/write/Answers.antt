@@ -34,7 +34,8 @@ pub put_sheet-written-requires : goal.put_sheet-written-requires
 put_sheet-written-requires c =
     let taken = sym c.settings_fit-taken.ensures ∙ c.if-not-taken.false in
     let fit = sym c.results_fit-fit.ensures ∙ c.if-not-fit.false in
-    (settings-few _ taken, (c.if-n-gt-MOST_TASKS.false, (omega (arith, fits-few _ _ fit, c.if-n-gt-MOST_TASKS.false), rw c.end_place-needed.ensures at c.if-out-needed.false)))
+    let room = rw c.end_place-needed.ensures at c.if-out-needed.false in
+    (settings-few _ taken, (c.if-n-gt-MOST_TASKS.false, (omega (arith, fits-few _ _ fit, c.if-n-gt-MOST_TASKS.false), room)))
 
 pub returns : goal.returns
 returns c =
