@@ -1,6 +1,6 @@
 -- What is handed on: `taken-through`, `handed-taken` and `refused-keeps` say what `Tidies` means, the others that it holds of what the call leaves.
 -- Assumes nothing.
-use Rattle.ground.proofs.Kit.{ℕ, ◌+◌, ◌≤◌, ◌<◌, Bool, true, false, List, [], ◌++◌, ◌≡◌, refl, sym, ◌∙◌, ap, subst, arith, length, take, drop, length-append}
+use Rattle.ground.proofs.Kit.{ℕ, ◌+◌, ◌≤◌, ◌<◌, true, false, List, [], ◌++◌, ◌≡◌, refl, sym, ◌∙◌, ap, subst, arith, length, take, drop, length-append}
 use Rattle.ground.proofs.Kit.{eq-eqb, ne_eqb, eqb-true}
 use lib.Seq.{take_at}
 use Rattle.ground.proofs.Cases.{by_bool, true-false}
