@@ -1,5 +1,5 @@
 -- `lent_rows::gather_wide` meets its contract. Assumes nothing.
--- The loop is that of `gather`, over tasks that need several cores.
+-- The loop is that of `gather`, over tasks that need several cores; what is left of the rows falls.
 use Rattle.ground.proofs.Kit.{◌-◌, ◌≤◌, ◌≡◌, length, take}
 use Rattle.ground.specs.Laid.{padded}
 use Rattle.kinds.specs.Limits.{most_tasks}

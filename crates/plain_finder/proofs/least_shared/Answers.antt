@@ -1,6 +1,6 @@
 -- `plain_finder::least_shared` meets its contract. The loop: no step before k passes, and the block holds the shares of step k, with their sum beside
 -- it; what is left to full compression falls. Assumes nothing.
-use Rattle.ground.proofs.Kit.{◌-◌, ◌≡◌, arith}
+use Rattle.ground.proofs.Kit.{◌≡◌, arith}
 use Rattle.springs.specs.Columns.{full_in}
 use Rattle.springs.specs.Handover.{Springy, Beside}
 use Rattle.springs.proofs.Blocks.{loaded-beside, springy-beside}
@@ -43,12 +43,12 @@ returns-then-full-k c =
 pub next_shares-sum-requires : goal.next_shares-sum-requires
 next_shares-sum-requires c =
     let stepped = c.loop-policy.invariant.1 in
-    let first = springy c.before.before.before.before.before in
+    let first = springy-beside _ _ (loaded-beside _ _ _ _ c.requires.0.few c.shares_at-sum.ensures.loaded) _ c.requires.0 in
     (stepped-springy _ _ _ _ first _ _ _ stepped, stepped-most _ _ _ _ first _ _ _ stepped)
 
 pub loop-policy-preserved : goal.loop-policy-preserved
 loop-policy-preserved c = (
   omega arith,
-  stepped-more _ _ _ _ (springy c.before.before.before.before.before.before) _ _ _ c.loop-policy.invariant.1 _ c.passes_summed.ensures c.if-passes_summed.false
+  stepped-more _ _ _ _ (springy-beside _ _ (loaded-beside _ _ _ _ c.requires.0.few c.shares_at-sum.ensures.loaded) _ c.requires.0) _ _ _ c.loop-policy.invariant.1 _ c.passes_summed.ensures c.if-passes_summed.false
       _ _ c.next_shares-sum.ensures,
 )
