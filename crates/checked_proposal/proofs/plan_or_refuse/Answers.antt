@@ -1,9 +1,6 @@
 -- `checked_proposal::plan_or_refuse` meets its contract. Assumes nothing.
-use Rattle.ground.proofs.Kit.{rules, ℕ, min, List, ◌≡◌, sym, subst, arith, length, take, length-take-le}
+use Rattle.ground.proofs.Kit.{rules, ◌≡◌, sym, arith, length, length-take-le}
 use Rattle.kinds.specs.Limits.{most_tasks}
-use Rattle.kinds.specs.declared.Verdict.{Verdict}
-use Rattle.kinds.specs.declared.Verdict.TheVariants.{Accepted}
-use Rattle.proposal.specs.Proposal.{outcome, Meets}
 use Rattle.checked_proposal.proofs.Handing.{hands-refused, accepted-fits, hands-accepted}
 use Rattle.checked_proposal.proofs.plan_or_refuse.Goals as goal
 

@@ -1,6 +1,6 @@
 -- `division::need_over` meets its contract. The loop: the greatest need of no task and of the first i is at hand; n − i falls.
 -- Assumes nothing.
-use Rattle.ground.proofs.Kit.{◌-◌, max, sym, ◌∙◌, ap₂, arith}
+use Rattle.ground.proofs.Kit.{max, sym, ◌∙◌, ap₂, arith}
 use Rattle.springs.specs.Spring.{share_on}
 use Rattle.springs.specs.Columns.{spring_in}
 use Rattle.division.specs.Division.{slope}

@@ -1,6 +1,6 @@
 -- `division::next_due` meets its contract. The loop: the nearest of the first i saturation steps above p is at hand; n − i falls.
 -- Assumes nothing.
-use Rattle.ground.proofs.Kit.{◌-◌, ◌≡◌, sym, ◌∙◌, ap₂, arith}
+use Rattle.ground.proofs.Kit.{◌≡◌, sym, ◌∙◌, ap₂, arith}
 use Rattle.springs.specs.Spring.{saturations}
 use Rattle.springs.specs.Columns.{spring_in}
 use Rattle.springs.proofs.Blocks.{saturation-at}

@@ -1,5 +1,5 @@
 -- `division::slope_sum` meets its contract. The loop: the sum of the first i slopes is at hand; n − i falls. Assumes nothing.
-use Rattle.ground.proofs.Kit.{◌-◌, ◌≤◌, ◌≡◌, ◌∙◌, ap, arith}
+use Rattle.ground.proofs.Kit.{◌≤◌, ◌≡◌, ◌∙◌, ap, arith}
 use Rattle.ground.proofs.Folds.{added_none, added_more}
 use Rattle.kinds.specs.Limits.{greatest_elasticity}
 use Rattle.springs.specs.declared.Spring.{Spring}

@@ -1,6 +1,6 @@
 -- `halve::least_step` meets its contract. The loop: the least step that passes is one of those left, nothing but loads has moved, and what is
 -- left falls. Assumes nothing.
-use Rattle.ground.proofs.Kit.{ℕ, ◌-◌, ◌≤◌, Bool, List, ◌≡◌, arith}
+use Rattle.ground.proofs.Kit.{ℕ, ◌≤◌, Bool, List, ◌≡◌, arith}
 use Rattle.ground.proofs.Halving.{counted-all}
 use Rattle.springs.specs.Columns.{spring_in}
 use Rattle.springs.proofs.Blocks.{beside_same, beside-more, springs-beside, chargeable-beside, full-low}

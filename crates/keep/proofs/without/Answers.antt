@@ -1,6 +1,6 @@
 -- `keep::without` meets its contract. The loop: the first i records are copied, without the one at the place, and zeros stand past them; n − i
 -- falls. Assumes nothing.
-use Rattle.ground.proofs.Kit.{◌-◌, ◌≡◌, ap, arith}
+use Rattle.ground.proofs.Kit.{◌≡◌, ap, arith}
 use Rattle.kinds.specs.Task.{at}
 use Rattle.keep.specs.Keep.{left_row}
 use Rattle.keep.proofs.Rows.{copied_none, copied_more}

@@ -1,6 +1,6 @@
 -- `outcome::write_front` meets its contract. The loop: the first j processors are written, and nothing past them has moved; n − j falls.
 -- Assumes nothing.
-use Rattle.ground.proofs.Kit.{ℕ, ◌-◌, ◌≡◌, refl, arith, get_or}
+use Rattle.ground.proofs.Kit.{ℕ, ◌≡◌, refl, arith, get_or}
 use Rattle.ground.proofs.Buffer.{front-none, front-more}
 use Rattle.outcome.proofs.write_front.Goals as goal
 

@@ -1,6 +1,6 @@
 -- `outcome::write_periods` meets its contract. The loop: the first i periods are written, and nothing past them has moved; n − i falls.
 -- Assumes nothing.
-use Rattle.ground.proofs.Kit.{◌-◌, ◌≡◌, ◌∙◌, ap, arith}
+use Rattle.ground.proofs.Kit.{◌≡◌, ◌∙◌, ap, arith}
 use Rattle.ground.proofs.Buffer.{front-none, front-more}
 use Rattle.springs.specs.declared.Spring.{Spring}
 use Rattle.springs.specs.Spring.{share_on, period_for}

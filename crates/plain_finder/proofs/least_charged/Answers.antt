@@ -1,6 +1,6 @@
 -- `plain_finder::least_charged` meets its contract. The loop: no step before this one passes, and nothing but loads has moved; what is left to the last
 -- step falls. Assumes nothing.
-use Rattle.ground.proofs.Kit.{ℕ, ◌+◌, ◌-◌, ◌<◌, Bool, List, false, ◌≡◌, sym, ◌∙◌, arith}
+use Rattle.ground.proofs.Kit.{ℕ, ◌+◌, ◌<◌, Bool, List, false, ◌≡◌, sym, ◌∙◌, arith}
 use Rattle.ground.proofs.First.{first_more}
 use Rattle.ground.proofs.Least.{least-here, least-none}
 use Rattle.kinds.specs.declared.Policy.{Policy}

@@ -1,6 +1,6 @@
 -- `plain_finder::least_shared` meets its contract. The loop: no step before k passes, and the block holds the shares of step k, with their sum beside
 -- it; what is left to full compression falls. Assumes nothing.
-use Rattle.ground.proofs.Kit.{◌-◌, ◌≡◌, arith}
+use Rattle.ground.proofs.Kit.{◌≡◌, arith}
 use Rattle.springs.specs.Columns.{full_in}
 use Rattle.springs.specs.Handover.{Springy, Beside}
 use Rattle.springs.proofs.Blocks.{loaded-beside, springy-beside}

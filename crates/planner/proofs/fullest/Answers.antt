@@ -1,5 +1,4 @@
 -- `planner::fullest` meets its contract. The loop: the processor found so far, if there is one, has room; m − j falls. Assumes nothing.
-use Rattle.ground.proofs.Kit.{◌-◌}
 use Rattle.planner.proofs.fullest.Goals as goal
 
 pub fuller-found-requires : goal.fuller-found-requires

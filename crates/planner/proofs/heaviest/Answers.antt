@@ -1,5 +1,4 @@
 -- `planner::heaviest` meets its contract. The loop: the task found so far is one of the n; n − i falls. Assumes nothing.
-use Rattle.ground.proofs.Kit.{◌-◌}
 use Rattle.planner.proofs.heaviest.Goals as goal
 
 pub heavier-found-requires : goal.heavier-found-requires

@@ -1,5 +1,5 @@
 -- `policy::total_at` meets its contract. The loop: the total of the first i shares of step k is at hand; n − i falls. Assumes nothing.
-use Rattle.ground.proofs.Kit.{◌-◌, ◌∙◌, ap, arith}
+use Rattle.ground.proofs.Kit.{◌∙◌, ap, arith}
 use Rattle.springs.specs.declared.Spring.{Spring}
 use Rattle.springs.specs.Spring.{share_on}
 use Rattle.springs.specs.Columns.{spring_in}

@@ -1,5 +1,5 @@
 -- `policy::total_of` meets its contract. The loop: the total of the first i loads is at hand; n − i falls. Assumes nothing.
-use Rattle.ground.proofs.Kit.{◌-◌, refl, arith}
+use Rattle.ground.proofs.Kit.{refl, arith}
 use Rattle.fit.specs.Fit.{load_in}
 use Rattle.policy.proofs.Totals.{total-none, total-more}
 use Rattle.policy.proofs.total_of.Goals as goal

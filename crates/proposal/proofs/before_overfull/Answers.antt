@@ -1,5 +1,5 @@
 -- `proposal::before_overfull` meets its contract. The loop: none of the first j processors is overfull; m − j falls. Assumes nothing.
-use Rattle.ground.proofs.Kit.{ℕ, ◌-◌, ◌≡◌, sym, ◌∙◌, arith, get_or, lt-ltb}
+use Rattle.ground.proofs.Kit.{ℕ, ◌≡◌, sym, ◌∙◌, arith, get_or, lt-ltb}
 use Rattle.ground.proofs.First.{first-here, first-none}
 use Rattle.kinds.specs.Limits.{scale}
 use Rattle.proposal.specs.Loads.{is_overfull}

@@ -1,5 +1,5 @@
 -- `proposal::first_out_of_range` meets its contract. The loop: none of the first i processors is out of range; n − i falls. Assumes nothing.
-use Rattle.ground.proofs.Kit.{◌-◌, ◌≡◌, sym, ◌∙◌, arith}
+use Rattle.ground.proofs.Kit.{◌≡◌, sym, ◌∙◌, arith}
 use Rattle.ground.proofs.First.{first-here, first-none}
 use Rattle.proposal.specs.Loads.{is_out_of_range, first_out_of_range}
 use Rattle.proposal.specs.Proposal.{place_in}

@@ -1,7 +1,7 @@
 -- `proposal::loads_of` meets its contract. The loop: each processor has the loads of those of the first i tasks that are proposed for it;
 -- n − i falls.
 -- Assumes nothing.
-use Rattle.ground.proofs.Kit.{◌-◌, refl, arith}
+use Rattle.ground.proofs.Kit.{refl, arith}
 use Rattle.kinds.specs.Limits.{most_processors}
 use Rattle.fit.specs.Fit.{load_in}
 use Rattle.proposal.specs.Loads.{InRange}

@@ -1,5 +1,5 @@
 -- `proposal::write_front` meets its contract. The loop: the first j loads are written, and nothing past them; m − j falls. Assumes nothing.
-use Rattle.ground.proofs.Kit.{ℕ, ◌-◌, ◌≡◌, refl, arith, get_or}
+use Rattle.ground.proofs.Kit.{ℕ, ◌≡◌, refl, arith, get_or}
 use Rattle.ground.proofs.Buffer.{front-none, front-more}
 use Rattle.proposal.proofs.write_front.Goals as goal
 

@@ -1,6 +1,6 @@
 -- `relief::write_without` meets its contract. The loop: the first i entries are written, and nothing past them has moved; n − i falls.
 -- Assumes nothing.
-use Rattle.ground.proofs.Kit.{◌-◌, ◌≡◌, refl, arith}
+use Rattle.ground.proofs.Kit.{◌≡◌, refl, arith}
 use Rattle.ground.proofs.Buffer.{front-none, front-more}
 use Rattle.relief.specs.Relief.{least_without}
 use Rattle.relief.proofs.write_without.Goals as goal

@@ -1,6 +1,6 @@
 -- `springs::charges_at` meets its contract. The loop: the first i loads are the charges of step k, whose sum is at hand, and nothing else has
 -- moved; n − i falls. Assumes nothing.
-use Rattle.ground.proofs.Kit.{◌-◌, ◌≡◌, ◌∙◌, ap, arith}
+use Rattle.ground.proofs.Kit.{◌≡◌, ◌∙◌, ap, arith}
 use Rattle.ground.proofs.Folds.{added_none, added_more}
 use Rattle.springs.specs.declared.Spring.{Spring}
 use Rattle.springs.specs.Spring.{share_on, charge_for, charges_on}

@@ -1,6 +1,6 @@
 -- `springs::full_compression` meets its contract. The loop: the greatest of the first i saturation steps is at hand; n − i falls.
 -- Assumes nothing.
-use Rattle.ground.proofs.Kit.{ℕ, ◌-◌, sym, arith}
+use Rattle.ground.proofs.Kit.{ℕ, sym, arith}
 use Rattle.ground.proofs.Folds.{max_none, max-step}
 use Rattle.springs.specs.Columns.{spring_in}
 use Rattle.springs.proofs.Blocks.{saturation-at}

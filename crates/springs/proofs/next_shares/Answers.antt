@@ -1,6 +1,6 @@
 -- `springs::next_shares` meets its contract. The loop: the first i shares are let down, their sum is at hand, and nothing else has moved;
 -- n − i falls. Assumes nothing.
-use Rattle.ground.proofs.Kit.{ℕ, ◌-◌, ◌≤◌, ◌≡◌, sym, arith, get_or}
+use Rattle.ground.proofs.Kit.{ℕ, ◌≤◌, ◌≡◌, sym, arith, get_or}
 use Rattle.ground.proofs.Folds.{sum-none, sum_more}
 use Rattle.kinds.specs.Limits.{scale}
 use Rattle.springs.specs.Spring.{let_down}

@@ -1,6 +1,6 @@
 -- `springs::springs_of` meets its contract. The loop: the first i records are good, and the block holds their springs; n − i falls.
 -- Assumes nothing.
-use Rattle.ground.proofs.Kit.{ℕ, ◌-◌, Bool, not, ◌≡◌, sym, ◌∙◌, ap, arith}
+use Rattle.ground.proofs.Kit.{ℕ, Bool, ◌≡◌, sym, ◌∙◌, ap, arith}
 use Rattle.ground.proofs.First.{bad-here, bad_more, bad-none}
 use Rattle.kinds.specs.Task.{at, priced, Good, is_good}
 use Rattle.share.specs.Table.{first_bad}
