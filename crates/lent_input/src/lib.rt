@@ -6,7 +6,7 @@ ghost use Rattle.std.specs.Io.KnownBytes.{Consumes, IsAtEnd};
 
 use std::env::{Env, FillError};
 use std::io;
-use std::io::{ErrorKind, Read};
+use std::io::Read;
 
 // Reads until the buffer is full or the stream ends, and answers how many bytes it put there.
 pub fn read_full<R: Read>(from: &mut R, into: &mut [u8]) -> io::Result<usize>
@@ -15,21 +15,14 @@ pub fn read_full<R: Read>(from: &mut R, into: &mut [u8]) -> io::Result<usize>
     ensures end { IfOk result (λ n. n < length into.new → IsAtEnd (R.remaining from.new)) }
 {
     let mut done = 0;
-    for _ in 0..u64::MAX {
-        if into.len() <= done {
+    while done < into.len() {
+        let n = from.read(&mut into[done..])?;
+        if n == 0 {
             return Ok(done);
         }
-        match from.read(&mut into[done..]) {
-            Ok(0) => return Ok(done),
-            Ok(n) => done += n,
-            Err(error) => {
-                if error.kind() != ErrorKind::Interrupted {
-                    return Err(error);
-                }
-            }
-        }
+        done += n;
     }
-    Err(io::Error::from(ErrorKind::Interrupted))
+    Ok(done)
 }
 
 // Puts the word of a number on the command line, and answers its length; 0 where there is none, or no room for it.
