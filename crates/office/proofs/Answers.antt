@@ -1,6 +1,6 @@
 -- What import and export answer in each case, with the output after it, and that no second answer meets either promise.
 -- Assumes nothing.
-use Rattle.ground.proofs.Kit.{ℕ, ◌≤◌, ◌<◌, List, ◌++◌, append-nil, ◌≡◌, refl, sym, ◌∙◌, ap, ap₂, arith, length, drop, ne_eqb, lt-ltb, le-ltb}
+use Rattle.ground.proofs.Kit.{ℕ, ◌≤◌, ◌<◌, List, [], ◌++◌, append-nil, ◌≡◌, refl, sym, ◌∙◌, ap, ap₂, arith, length, drop, ne_eqb, lt-ltb, le-ltb}
 use lib.ListN.{drop_of_length-le}
 use Rattle.ground.proofs.Cases.{by_le}
 use Rattle.ground.proofs.Joins.{join-cong}
