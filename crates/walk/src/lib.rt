@@ -1,3 +1,3 @@
-// No code: the walks by hand that functions over lent rows need, each a law over types and contracts (`proofs/`). A thin call cites the law
-// of its shape, `ThinM`, `ThinVv`, `ThinVmm` or `ThinVvsm`, and `gather` cites `GatherRows`.
+// No code and no laws: here stood the walks by hand that functions over lent rows needed, each a law over types and contracts. Today's check
+// proves such functions by itself.
 #![tactic(auto)]
