@@ -21,19 +21,28 @@ springs_of-bad-requires c =
 
 pub returns-then-bad-n : goal.returns-then-bad-n
 returns-then-bad-n c =
-    let found : (let args = c.args in let table = args.kept.table in let block = c.springs_of-bad.new.block in SprungUntil args.swap args.notch (joined_rows table.rows table.n args.task) (table.n + 1) c.springs_of-bad.result block) =
+    let found : (
+    let args = c.args in let table = args.kept.table in let block = c.springs_of-bad.new.block in
+    SprungUntil args.swap args.notch (joined_rows table.rows table.n args.task) (table.n + 1) c.springs_of-bad.result block
+    ) =
     rw c.with-after.ensures at c.springs_of-bad.ensures in
     c.refuse-then-bad-n.ensures ∙ join-bad _ _ _ _ c.if-notch-eq0.false c.if-n-ge-MOST_TASKS.false _ found.first c.if-bad-n.true
 
 pub index_of-index-requires : goal.index_of-index-requires
 index_of-index-requires c =
-    let found : (let args = c.args in let table = args.kept.table in let block = c.springs_of-bad.new.block in SprungUntil args.swap args.notch (joined_rows table.rows table.n args.task) (table.n + 1) c.springs_of-bad.result block) =
+    let found : (
+    let args = c.args in let table = args.kept.table in let block = c.springs_of-bad.new.block in
+    SprungUntil args.swap args.notch (joined_rows table.rows table.n args.task) (table.n + 1) c.springs_of-bad.result block
+    ) =
     rw c.with-after.ensures at c.springs_of-bad.ensures in
     joined-indexable _ _ _ _ _ _ found (omega (arith, c.if-bad-n.false)) (omega (arith, c.if-n-ge-MOST_TASKS.false))
 
 pub returns : goal.returns
 returns c =
-    let found : (let args = c.args in let table = args.kept.table in let block = c.springs_of-bad.new.block in SprungUntil args.swap args.notch (joined_rows table.rows table.n args.task) (table.n + 1) c.springs_of-bad.result block) =
+    let found : (
+    let args = c.args in let table = args.kept.table in let block = c.springs_of-bad.new.block in
+    SprungUntil args.swap args.notch (joined_rows table.rows table.n args.task) (table.n + 1) c.springs_of-bad.result block
+    ) =
     rw c.with-after.ensures at c.springs_of-bad.ensures in
     let index = joined-index _ _ _ _ _ _ found (omega (arith, c.if-bad-n.false)) (omega (arith, c.if-n-ge-MOST_TASKS.false)) _ c.index_of-index.ensures in
     c.accept.ensures

@@ -27,7 +27,10 @@ springs_of-bad-requires c =
 
 pub loads_at-requires : goal.loads_at-requires
 loads_at-requires c =
-    let admitted : (let args = c.args in AdmittedSprung false args.settings args.table.rows args.table.n args.table.n c.judge-admission.result c.springs_of-bad.new.block) =
+    let admitted : (
+    let args = c.args in
+    AdmittedSprung false args.settings args.table.rows args.table.n args.table.n c.judge-admission.result c.springs_of-bad.new.block
+    ) =
     admitted-sprung false c.args.settings _ _ _ _ _ _ c.gate_of-gate.ensures c.in_default.is c.judge-admission.ensures
     c.springs_of-bad.ensures in
     let begun : (let args = c.args in Opened false args.settings args.table.rows args.table.n args.table.n c.springs_of-bad.new.block) =
@@ -36,7 +39,10 @@ loads_at-requires c =
 
 pub margin_of-requires : goal.margin_of-requires
 margin_of-requires c =
-    let admitted : (let args = c.args in AdmittedSprung false args.settings args.table.rows args.table.n args.table.n c.judge-admission.result c.springs_of-bad.new.block) =
+    let admitted : (
+    let args = c.args in
+    AdmittedSprung false args.settings args.table.rows args.table.n args.table.n c.judge-admission.result c.springs_of-bad.new.block
+    ) =
     admitted-sprung false c.args.settings _ _ _ _ _ _ c.gate_of-gate.ensures c.in_default.is c.judge-admission.ensures
     c.springs_of-bad.ensures in
     let begun : (let args = c.args in Opened false args.settings args.table.rows args.table.n args.table.n c.springs_of-bad.new.block) =
@@ -53,7 +59,10 @@ margin_of-requires c =
 pub returns-in_default-admission : goal.returns-in_default-admission
 unfolding margin_handed
 returns-in_default-admission c =
-    let admitted : (let args = c.args in AdmittedSprung false args.settings args.table.rows args.table.n args.table.n c.judge-admission.result c.springs_of-bad.new.block) =
+    let admitted : (
+    let args = c.args in
+    AdmittedSprung false args.settings args.table.rows args.table.n args.table.n c.judge-admission.result c.springs_of-bad.new.block
+    ) =
     admitted-sprung false c.args.settings _ _ _ _ _ _ c.gate_of-gate.ensures c.in_default.is c.judge-admission.ensures
     c.springs_of-bad.ensures in
     let begun : (let args = c.args in Opened false args.settings args.table.rows args.table.n args.table.n c.springs_of-bad.new.block) =
@@ -69,7 +78,10 @@ returns-in_default-admission c =
 pub returns : goal.returns
 unfolding margin_handed
 returns c =
-    let admitted : (let args = c.args in AdmittedSprung false args.settings args.table.rows args.table.n args.table.n c.judge-admission.result c.springs_of-bad.new.block) =
+    let admitted : (
+    let args = c.args in
+    AdmittedSprung false args.settings args.table.rows args.table.n args.table.n c.judge-admission.result c.springs_of-bad.new.block
+    ) =
     admitted-sprung false c.args.settings _ _ _ _ _ _ c.gate_of-gate.ensures c.in_default.is c.judge-admission.ensures
     c.springs_of-bad.ensures in
     rw (← admitted.is, c.in-Refused-admission.is)

@@ -28,21 +28,30 @@ springs_of-bad-requires c =
 
 pub returns-in_default-admission : goal.returns-in_default-admission
 returns-in_default-admission c =
-    let admitted : (let args = c.args in AdmittedSprung true args.settings args.table.rows args.table.n args.room c.judge-admission.result c.springs_of-bad.new.block) =
+    let admitted : (
+    let args = c.args in
+    AdmittedSprung true args.settings args.table.rows args.table.n args.room c.judge-admission.result c.springs_of-bad.new.block
+    ) =
     admitted-sprung true c.args.settings _ _ _ _ _ _ c.gate_of-gate.ensures c.in-Accepted.is c.judge-admission.ensures
     c.springs_of-bad.ensures in
     found-refused true _ _ _ _ _ _ admitted.is c.in_default-admission.is c.decide-in_default-admission.result c.decide-in_default-admission.ensures
 
 pub least_step-requires : goal.least_step-requires
 least_step-requires c =
-    let admitted : (let args = c.args in AdmittedSprung true args.settings args.table.rows args.table.n args.room c.judge-admission.result c.springs_of-bad.new.block) =
+    let admitted : (
+    let args = c.args in
+    AdmittedSprung true args.settings args.table.rows args.table.n args.room c.judge-admission.result c.springs_of-bad.new.block
+    ) =
     admitted-sprung true c.args.settings _ _ _ _ _ _ c.gate_of-gate.ensures c.in-Accepted.is c.judge-admission.ensures
     c.springs_of-bad.ensures in
     may-search true _ _ _ _ _ _ admitted c.in-Accepted-admission.is
 
 pub returns : goal.returns
 returns c =
-    let admitted : (let args = c.args in AdmittedSprung true args.settings args.table.rows args.table.n args.room c.judge-admission.result c.springs_of-bad.new.block) =
+    let admitted : (
+    let args = c.args in
+    AdmittedSprung true args.settings args.table.rows args.table.n args.room c.judge-admission.result c.springs_of-bad.new.block
+    ) =
     admitted-sprung true c.args.settings _ _ _ _ _ _ c.gate_of-gate.ensures c.in-Accepted.is c.judge-admission.ensures
     c.springs_of-bad.ensures in
     let walked = admitted in

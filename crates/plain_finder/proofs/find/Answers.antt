@@ -24,7 +24,11 @@ springs_of-bad-requires c =
 
 pub returns-in_default-admission : goal.returns-in_default-admission
 returns-in_default-admission c =
-    let admitted : (let args = c.args in AdmittedSprung true args.settings args.table.rows args.table.n c.shorter-room.result c.judge-admission.result c.springs_of-bad.new.block) =
+    let admitted : (
+    let args = c.args in
+    AdmittedSprung true args.settings args.table.rows args.table.n c.shorter-room.result c.judge-admission.result
+    c.springs_of-bad.new.block
+    ) =
     admitted-sprung true c.args.settings _ _ _ _ _ _ c.gate_of-gate.ensures c.in-Accepted.is
     c.judge-admission.ensures c.springs_of-bad.ensures in
     refused-meets true _ _ _ _ _ _ admitted.is c.in_default-admission.is c.decide-in_default-admission.result c.decide-in_default-admission.ensures _ _
@@ -32,17 +36,29 @@ returns-in_default-admission c =
 
 pub least_step-step-requires : goal.least_step-step-requires
 least_step-step-requires c =
-    let admitted : (let args = c.args in AdmittedSprung true args.settings args.table.rows args.table.n c.shorter-room.result c.judge-admission.result c.springs_of-bad.new.block) =
+    let admitted : (
+    let args = c.args in
+    AdmittedSprung true args.settings args.table.rows args.table.n c.shorter-room.result c.judge-admission.result
+    c.springs_of-bad.new.block
+    ) =
     admitted-sprung true c.args.settings _ _ _ _ _ _ c.gate_of-gate.ensures c.in-Accepted.is
     c.judge-admission.ensures c.springs_of-bad.ensures in
     may-search true _ _ _ _ _ _ admitted c.in-Accepted-admission.is
 
 pub grant-requires : goal.grant-requires
 grant-requires c =
-    let admitted : (let args = c.args in AdmittedSprung true args.settings args.table.rows args.table.n c.shorter-room.result c.judge-admission.result c.springs_of-bad.new.block) =
+    let admitted : (
+    let args = c.args in
+    AdmittedSprung true args.settings args.table.rows args.table.n c.shorter-room.result c.judge-admission.result
+    c.springs_of-bad.new.block
+    ) =
     admitted-sprung true c.args.settings _ _ _ _ _ _ c.gate_of-gate.ensures c.in-Accepted.is
     c.judge-admission.ensures c.springs_of-bad.ensures in
-    let answered : (let args = c.args in FoundSprung true args.settings args.table.rows args.table.n (min (length args.periods.now) (length args.processors.now)) c.decide-answer.result c.least_step-step.new.block) =
+    let answered : (
+    let args = c.args in
+    FoundSprung true args.settings args.table.rows args.table.n (min (length args.periods.now) (length args.processors.now))
+    c.decide-answer.result c.least_step-step.new.block
+    ) =
     let walked = admitted in
     let args = c.args in
     let admits : c.judge-admission.result ≡ Accepted = c.in-Accepted-admission.is in
@@ -53,10 +69,18 @@ grant-requires c =
 
 pub returns : goal.returns
 returns c =
-    let admitted : (let args = c.args in AdmittedSprung true args.settings args.table.rows args.table.n c.shorter-room.result c.judge-admission.result c.springs_of-bad.new.block) =
+    let admitted : (
+    let args = c.args in
+    AdmittedSprung true args.settings args.table.rows args.table.n c.shorter-room.result c.judge-admission.result
+    c.springs_of-bad.new.block
+    ) =
     admitted-sprung true c.args.settings _ _ _ _ _ _ c.gate_of-gate.ensures c.in-Accepted.is
     c.judge-admission.ensures c.springs_of-bad.ensures in
-    let answered : (let args = c.args in FoundSprung true args.settings args.table.rows args.table.n (min (length args.periods.now) (length args.processors.now)) c.decide-answer.result c.least_step-step.new.block) =
+    let answered : (
+    let args = c.args in
+    FoundSprung true args.settings args.table.rows args.table.n (min (length args.periods.now) (length args.processors.now))
+    c.decide-answer.result c.least_step-step.new.block
+    ) =
     let walked = admitted in
     let args = c.args in
     let admits : c.judge-admission.result ≡ Accepted = c.in-Accepted-admission.is in

@@ -25,7 +25,9 @@ moved c = beside-more _ _ _ c.loop-policy.invariant.1 c.passes_charged.ensures.1
 
 -- no step up to this one passes
 failed : (c : Else-passes_charged) → (j : ℕ) → j < c.loop-policy.step + 1 → test c.args.policy c.args.m c.args.notch c.args.block.now c.args.n j ≡ false
-failed c = first_more (test c.args.policy c.args.m c.args.notch c.args.block.now c.args.n) 0 _ c.loop-policy.invariant.2 (sym (tested c.before) ∙ c.if-passes_charged.false)
+failed c =
+    first_more (test c.args.policy c.args.m c.args.notch c.args.block.now c.args.n) 0 _ c.loop-policy.invariant.2
+    (sym (tested c.before) ∙ c.if-passes_charged.false)
 
 pub passes_charged-requires : goal.passes_charged-requires
 passes_charged-requires c =
@@ -38,7 +40,8 @@ returns-then-passes_charged c =
     let last = c.full_compression-last.ensures in
     let passed = sym (tested c.before) ∙ c.if-passes_charged.true in
     record {
-      least = least-here (test c.args.policy c.args.m c.args.notch c.args.block.now c.args.n) _ _ c.loop-policy.invariant.2 (omega (arith, last, c.loop-policy.invariant.0)) passed;
+      least = least-here (test c.args.policy c.args.m c.args.notch c.args.block.now c.args.n) _ _ c.loop-policy.invariant.2
+          (omega (arith, last, c.loop-policy.invariant.0)) passed;
       beside = moved c.before;
     }
 
@@ -46,7 +49,11 @@ pub returns-then-last-step : goal.returns-then-last-step
 unfolding least_step
 returns-then-last-step c =
     let last = c.full_compression-last.ensures in
-    record { least = least-none (test c.args.policy c.args.m c.args.notch c.args.block.now c.args.n) _ _ (failed c.before) (omega (arith, last, c.if-last-step.true)); beside = moved c.before.before }
+    record {
+      least = least-none (test c.args.policy c.args.m c.args.notch c.args.block.now c.args.n) _ _ (failed c.before)
+          (omega (arith, last, c.if-last-step.true));
+      beside = moved c.before.before;
+    }
 
 pub loop-policy-preserved : goal.loop-policy-preserved
 loop-policy-preserved c = (omega arith, moved c.before.before, failed c.before)

@@ -49,6 +49,7 @@ next_shares-sum-requires c =
 pub loop-policy-preserved : goal.loop-policy-preserved
 loop-policy-preserved c = (
   omega arith,
-  stepped-more _ _ _ _ (springy-beside _ _ (loaded-beside _ _ _ _ c.requires.0.few c.shares_at-sum.ensures.loaded) _ c.requires.0) _ _ _ c.loop-policy.invariant.1 _ c.passes_summed.ensures c.if-passes_summed.false
+  stepped-more _ _ _ _ (springy-beside _ _ (loaded-beside _ _ _ _ c.requires.0.few c.shares_at-sum.ensures.loaded) _ c.requires.0) _ _ _
+      c.loop-policy.invariant.1 _ c.passes_summed.ensures c.if-passes_summed.false
       _ _ c.next_shares-sum.ensures,
 )

@@ -15,7 +15,10 @@ returns-in_default c = refused-meets _ _ _ _ _ _ _ c.admit-admission.ensures.is 
 
 pub first_out_of_range-first-requires : goal.first_out_of_range-first-requires
 first_out_of_range-first-requires c =
-    let admits : (let args = c.args in admission args.settings args.table.rows args.table.n (length args.proposal.now) (length args.loads.now) ≡ Accepted) =
+    let admits : (
+    let args = c.args in
+    admission args.settings args.table.rows args.table.n (length args.proposal.now) (length args.loads.now) ≡ Accepted
+    ) =
     sym c.admit-admission.ensures.is ∙ c.in-Accepted.is in
     let passed : (let args = c.args in Passed args.settings args.table.n (length args.proposal.now) (length args.loads.now)) =
     (admitted _ _ _ _ _ admits).passed in
@@ -23,13 +26,19 @@ first_out_of_range-first-requires c =
 
 pub returns-then-first-n : goal.returns-then-first-n
 returns-then-first-n c =
-    let admits : (let args = c.args in admission args.settings args.table.rows args.table.n (length args.proposal.now) (length args.loads.now) ≡ Accepted) =
+    let admits : (
+    let args = c.args in
+    admission args.settings args.table.rows args.table.n (length args.proposal.now) (length args.loads.now) ≡ Accepted
+    ) =
     sym c.admit-admission.ensures.is ∙ c.in-Accepted.is in
     out-of-range-meets _ _ _ _ _ _ admits _ c.first_out_of_range-first.ensures c.if-first-n.true
 
 pub loads_of-held-requires : goal.loads_of-held-requires
 loads_of-held-requires c =
-    let admits : (let args = c.args in admission args.settings args.table.rows args.table.n (length args.proposal.now) (length args.loads.now) ≡ Accepted) =
+    let admits : (
+    let args = c.args in
+    admission args.settings args.table.rows args.table.n (length args.proposal.now) (length args.loads.now) ≡ Accepted
+    ) =
     sym c.admit-admission.ensures.is ∙ c.in-Accepted.is in
     let passed : (let args = c.args in Passed args.settings args.table.n (length args.proposal.now) (length args.loads.now)) =
     (admitted _ _ _ _ _ admits).passed in
@@ -41,20 +50,30 @@ loads_of-held-requires c =
 
 pub returns-then-below-processors : goal.returns-then-below-processors
 returns-then-below-processors c =
-    let admits : (let args = c.args in admission args.settings args.table.rows args.table.n (length args.proposal.now) (length args.loads.now) ≡ Accepted) =
+    let admits : (
+    let args = c.args in
+    admission args.settings args.table.rows args.table.n (length args.proposal.now) (length args.loads.now) ≡ Accepted
+    ) =
     sym c.admit-admission.ensures.is ∙ c.in-Accepted.is in
     let held : (let args = c.args in LoadsOf args.settings args.table.rows args.table.n args.step c.admit-admission.new.block) =
     c.admit-admission.ensures.loads c.in-Accepted.is in
     let each : (let args = c.args in args.table.n ≤ first_out_of_range args.settings.m (place_in args.proposal.now) args.table.n) =
     omega (arith, c.if-first-n.false, c.first_out_of_range-first.ensures) in
-    let lowest : (let args = c.args in c.before_overfull-below.result ≡ before_overfull (loads_under args.settings args.table.rows args.table.n args.step) (place_in args.proposal.now) args.table.n args.settings.m) =
+    let lowest : (
+    let args = c.args in
+    c.before_overfull-below.result ≡ before_overfull (loads_under args.settings args.table.rows args.table.n args.step)
+    (place_in args.proposal.now) args.table.n args.settings.m
+    ) =
     let loads = held in
     c.before_overfull-below.ensures ∙ overfull-is _ _ _ _ _ _ c.loads_of-held.ensures loads.are loads.m-most in
     overfull-meets _ _ _ _ _ _ admits each _ lowest c.if-below-processors.true
 
 pub write_front-requires : goal.write_front-requires
 write_front-requires c =
-    let admits : (let args = c.args in admission args.settings args.table.rows args.table.n (length args.proposal.now) (length args.loads.now) ≡ Accepted) =
+    let admits : (
+    let args = c.args in
+    admission args.settings args.table.rows args.table.n (length args.proposal.now) (length args.loads.now) ≡ Accepted
+    ) =
     sym c.admit-admission.ensures.is ∙ c.in-Accepted.is in
     let passed : (let args = c.args in Passed args.settings args.table.n (length args.proposal.now) (length args.loads.now)) =
     (admitted _ _ _ _ _ admits).passed in
@@ -64,13 +83,20 @@ write_front-requires c =
 
 pub returns : goal.returns
 returns c =
-    let admits : (let args = c.args in admission args.settings args.table.rows args.table.n (length args.proposal.now) (length args.loads.now) ≡ Accepted) =
+    let admits : (
+    let args = c.args in
+    admission args.settings args.table.rows args.table.n (length args.proposal.now) (length args.loads.now) ≡ Accepted
+    ) =
     sym c.admit-admission.ensures.is ∙ c.in-Accepted.is in
     let held : (let args = c.args in LoadsOf args.settings args.table.rows args.table.n args.step c.admit-admission.new.block) =
     c.admit-admission.ensures.loads c.in-Accepted.is in
     let each : (let args = c.args in args.table.n ≤ first_out_of_range args.settings.m (place_in args.proposal.now) args.table.n) =
     omega (arith, c.if-first-n.false, c.first_out_of_range-first.ensures) in
-    let lowest : (let args = c.args in c.before_overfull-below.result ≡ before_overfull (loads_under args.settings args.table.rows args.table.n args.step) (place_in args.proposal.now) args.table.n args.settings.m) =
+    let lowest : (
+    let args = c.args in
+    c.before_overfull-below.result ≡ before_overfull (loads_under args.settings args.table.rows args.table.n args.step)
+    (place_in args.proposal.now) args.table.n args.settings.m
+    ) =
     let loads = held in
     c.before_overfull-below.ensures ∙ overfull-is _ _ _ _ _ _ c.loads_of-held.ensures loads.are loads.m-most in
     let args = c.args in

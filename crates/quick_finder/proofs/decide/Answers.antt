@@ -21,21 +21,30 @@ springs_of-bad-requires c =
 
 pub returns-in_default-admission : goal.returns-in_default-admission
 returns-in_default-admission c =
-    let admitted : (let args = c.args in AdmittedSprung false args.settings args.table.rows args.table.n args.room c.judge-admission.result c.springs_of-bad.new.block) =
+    let admitted : (
+    let args = c.args in
+    AdmittedSprung false args.settings args.table.rows args.table.n args.room c.judge-admission.result c.springs_of-bad.new.block
+    ) =
     admitted-sprung false c.args.settings _ _ _ _ _ _ c.gate_of-gate.ensures c.in-Accepted.is c.judge-admission.ensures
     c.springs_of-bad.ensures in
     found-refused false _ _ _ _ _ _ admitted.is c.in_default-admission.is c.decide-in_default-admission.result c.decide-in_default-admission.ensures
 
 pub search_under-ended-requires : goal.search_under-ended-requires
 search_under-ended-requires c =
-    let admitted : (let args = c.args in AdmittedSprung false args.settings args.table.rows args.table.n args.room c.judge-admission.result c.springs_of-bad.new.block) =
+    let admitted : (
+    let args = c.args in
+    AdmittedSprung false args.settings args.table.rows args.table.n args.room c.judge-admission.result c.springs_of-bad.new.block
+    ) =
     admitted-sprung false c.args.settings _ _ _ _ _ _ c.gate_of-gate.ensures c.in-Accepted.is c.judge-admission.ensures
     c.springs_of-bad.ensures in
     may-search false _ _ _ _ _ _ admitted c.in-Accepted-admission.is
 
 pub returns : goal.returns
 returns c =
-    let admitted : (let args = c.args in AdmittedSprung false args.settings args.table.rows args.table.n args.room c.judge-admission.result c.springs_of-bad.new.block) =
+    let admitted : (
+    let args = c.args in
+    AdmittedSprung false args.settings args.table.rows args.table.n args.room c.judge-admission.result c.springs_of-bad.new.block
+    ) =
     admitted-sprung false c.args.settings _ _ _ _ _ _ c.gate_of-gate.ensures c.in-Accepted.is c.judge-admission.ensures
     c.springs_of-bad.ensures in
     let admits = c.in-Accepted-admission.is in

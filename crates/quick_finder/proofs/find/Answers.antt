@@ -23,7 +23,11 @@ springs_of-bad-requires c =
 
 pub returns-in_default-admission : goal.returns-in_default-admission
 returns-in_default-admission c =
-    let admitted : (let args = c.args in AdmittedSprung false args.settings args.table.rows args.table.n c.shorter-room.result c.judge-admission.result c.springs_of-bad.new.block) =
+    let admitted : (
+    let args = c.args in
+    AdmittedSprung false args.settings args.table.rows args.table.n c.shorter-room.result c.judge-admission.result
+    c.springs_of-bad.new.block
+    ) =
     admitted-sprung false c.args.settings _ _ _ _ _ _ c.gate_of-gate.ensures c.in-Accepted.is
     c.judge-admission.ensures c.springs_of-bad.ensures in
     refused-looked _ _ _ _ _ admitted.is c.in_default-admission.is c.refused-in_default-admission.result c.refused-in_default-admission.ensures _ _
@@ -31,17 +35,29 @@ returns-in_default-admission c =
 
 pub search_under-ended-requires : goal.search_under-ended-requires
 search_under-ended-requires c =
-    let admitted : (let args = c.args in AdmittedSprung false args.settings args.table.rows args.table.n c.shorter-room.result c.judge-admission.result c.springs_of-bad.new.block) =
+    let admitted : (
+    let args = c.args in
+    AdmittedSprung false args.settings args.table.rows args.table.n c.shorter-room.result c.judge-admission.result
+    c.springs_of-bad.new.block
+    ) =
     admitted-sprung false c.args.settings _ _ _ _ _ _ c.gate_of-gate.ensures c.in-Accepted.is
     c.judge-admission.ensures c.springs_of-bad.ensures in
     may-search false _ _ _ _ _ _ admitted c.in-Accepted-admission.is
 
 pub grant-requires : goal.grant-requires
 grant-requires c =
-    let admitted : (let args = c.args in AdmittedSprung false args.settings args.table.rows args.table.n c.shorter-room.result c.judge-admission.result c.springs_of-bad.new.block) =
+    let admitted : (
+    let args = c.args in
+    AdmittedSprung false args.settings args.table.rows args.table.n c.shorter-room.result c.judge-admission.result
+    c.springs_of-bad.new.block
+    ) =
     admitted-sprung false c.args.settings _ _ _ _ _ _ c.gate_of-gate.ensures c.in-Accepted.is
     c.judge-admission.ensures c.springs_of-bad.ensures in
-    let answered : (let args = c.args in LookedSprung args.settings args.table.rows args.table.n (min (length args.periods.now) (length args.processors.now)) c.decide-answer.result c.search_under-ended.result.looks c.search_under-ended.new.block) =
+    let answered : (
+    let args = c.args in
+    LookedSprung args.settings args.table.rows args.table.n (min (length args.periods.now) (length args.processors.now))
+    c.decide-answer.result c.search_under-ended.result.looks c.search_under-ended.new.block
+    ) =
     let admits = c.in-Accepted-admission.is in
     let looked = found-looked _ _ _ _ _ _ _ admitted admits c.search_under-ended.result c.search_under-ended.ensures c.decide-answer.result c.decide-answer.ensures in
     rw c.shorter-room.ensures at looked in
@@ -49,10 +65,18 @@ grant-requires c =
 
 pub returns : goal.returns
 returns c =
-    let admitted : (let args = c.args in AdmittedSprung false args.settings args.table.rows args.table.n c.shorter-room.result c.judge-admission.result c.springs_of-bad.new.block) =
+    let admitted : (
+    let args = c.args in
+    AdmittedSprung false args.settings args.table.rows args.table.n c.shorter-room.result c.judge-admission.result
+    c.springs_of-bad.new.block
+    ) =
     admitted-sprung false c.args.settings _ _ _ _ _ _ c.gate_of-gate.ensures c.in-Accepted.is
     c.judge-admission.ensures c.springs_of-bad.ensures in
-    let answered : (let args = c.args in LookedSprung args.settings args.table.rows args.table.n (min (length args.periods.now) (length args.processors.now)) c.decide-answer.result c.search_under-ended.result.looks c.search_under-ended.new.block) =
+    let answered : (
+    let args = c.args in
+    LookedSprung args.settings args.table.rows args.table.n (min (length args.periods.now) (length args.processors.now))
+    c.decide-answer.result c.search_under-ended.result.looks c.search_under-ended.new.block
+    ) =
     let admits = c.in-Accepted-admission.is in
     let looked = found-looked _ _ _ _ _ _ _ admitted admits c.search_under-ended.result c.search_under-ended.ensures c.decide-answer.result c.decide-answer.ensures in
     rw c.shorter-room.ensures at looked in

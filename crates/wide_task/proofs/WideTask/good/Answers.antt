@@ -7,7 +7,9 @@ use Rattle.wide_task.specs.declared.WideTask.{WideTask}
 use Rattle.wide_task.specs.Limits.{most_tmins}
 use Rattle.wide_task.specs.WideTask.{is_good}
 use Rattle.wide_task.proofs.WideTask.good.Goals as goal
-use Rattle.wide_task.proofs.WideTask.good.Goals.{then-self-ge1, else-self-ge1, then-self, else-self, then-self-2, else-self-2, then-self-3, else-self-3, then-self-costliest, else-self-costliest, then-self-4, else-self-4, Joined-self-ge1, Joined-self, Joined-self-2, Joined-self-3, Joined-self-costliest, Joined-self-4}
+use Rattle.wide_task.proofs.WideTask.good.Goals.{then-self-ge1, else-self-ge1, then-self, else-self, then-self-2, else-self-2}
+use Rattle.wide_task.proofs.WideTask.good.Goals.{then-self-3, else-self-3, then-self-costliest, else-self-costliest, then-self-4, else-self-4}
+use Rattle.wide_task.proofs.WideTask.good.Goals.{Joined-self-ge1, Joined-self, Joined-self-2, Joined-self-3, Joined-self-costliest, Joined-self-4}
 
 -- the first tests of `is_good`, by how many there are
 abbrev first_two : WideTask → Bool
