@@ -1,13 +1,12 @@
 -- What every call on a table has in hand once it is admitted.
 -- Assumes nothing.
-use Rattle.ground.proofs.Kit.{ℕ, ◌≤◌, Bool, List, ◌≡◌, sym, ◌∙◌, lt-ltb}
+use Rattle.kinds.specs.Answer.{Verdict}
+use Rattle.ground.proofs.Kit.{ℕ, ◌≤◌, Bool, List, ◌≡◌, sym, ◌∙◌, lt-ltb, Ok, Err}
 use Rattle.ground.proofs.Cases.{by_le}
 use Rattle.kinds.specs.declared.Task.{Task}
 use Rattle.kinds.specs.declared.Settings.{Settings}
-use Rattle.kinds.specs.declared.Verdict.{Verdict}
 use Rattle.kinds.specs.declared.Refusal.{Refusal}
 use Rattle.kinds.specs.declared.Refusal.TheVariants.{BadRecord}
-use Rattle.kinds.specs.declared.Verdict.TheVariants.{Accepted, Refused}
 use Rattle.kinds.specs.Limits.{most_tasks}
 use Rattle.share.specs.Table.{priced_rows}
 use Rattle.share.proofs.Tables.{all-good, all-on}
@@ -19,7 +18,7 @@ use Rattle.admission.proofs.Chain.{Ready, admitted, not-admitted, all-passed, no
 
 -- a call that passed the gate is admitted where the walk over its records found none bad, and the block then holds their springs
 pub admitted-sprung : (serves : Bool) (s : Settings) (rows : List Task) (n room bad : ℕ) (a : Verdict) (block : List ℕ)
-    → {gate : Verdict} → gate ≡ gate_of serves s n room → gate ≡ Accepted → a ≡ judged bad n → SprungUntil s.swap s.notch rows n bad block
+    → {gate : Verdict} → gate ≡ gate_of serves s n room → gate ≡ (Ok tt) → a ≡ judged bad n → SprungUntil s.swap s.notch rows n bad block
     → AdmittedSprung serves s rows n room a block
 unfolding admission
 admitted-sprung serves s rows n room bad a block is opens j u =
@@ -29,13 +28,13 @@ admitted-sprung serves s rows n room bad a block is opens j u =
     }
 
 -- what that walk relies on
-pub may-walk : (serves : Bool) (s : Settings) (n room : ℕ) {gate : Verdict} → gate ≡ gate_of serves s n room → gate ≡ Accepted
+pub may-walk : (serves : Bool) (s : Settings) (n room : ℕ) {gate : Verdict} → gate ≡ gate_of serves s n room → gate ≡ (Ok tt)
     → (n ≤ most_tasks) × (1 ≤ s.notch)
 may-walk serves s n room is opens = ((all-passed serves s n room (sym is ∙ opens)).few, notch-passed serves s n room (sym is ∙ opens))
 
 -- one that did not is refused there
-pub refused-gate : (serves : Bool) (s : Settings) (rows : List Task) (n room : ℕ) (r : Refusal) → gate_of serves s n room ≡ Refused r
-    → Refused r ≡ admission serves s rows n room
+pub refused-gate : (serves : Bool) (s : Settings) (rows : List Task) (n room : ℕ) (r : Refusal) → gate_of serves s n room ≡ Err r
+    → Err r ≡ admission serves s rows n room
 unfolding admission
 refused-gate serves s rows n room r g = rw g
 
@@ -46,7 +45,7 @@ pub record Opened (serves : Bool) (s : Settings) (rows : List Task) (n room : �
   pub chargeable : Chargeable s.notch block n
 
 pub opened : (serves : Bool) (s : Settings) (rows : List Task) (n room : ℕ) (a : Verdict) (block : List ℕ)
-    → AdmittedSprung serves s rows n room a block → a ≡ Accepted → Opened serves s rows n room block
+    → AdmittedSprung serves s rows n room a block → a ≡ (Ok tt) → Opened serves s rows n room block
 opened serves s rows n room a block x e =
     let ready = admitted serves s rows n room (sym x.is ∙ e) in
     let good = all-good s.swap s.notch rows n ready.none-bad in

@@ -8,19 +8,19 @@ ghost use Rattle.kinds.specs.Policy.{is_first_fit};
 ghost use Rattle.admission.specs.Admission.{and_then, knows, misset, no_edition, misset_numbers, unsuited, misset_under};
 ghost use Rattle.admission.specs.Admission.{gate, served, roomy, gate_of, judged};
 
-use kinds::{Policy, Refusal, Settings, Table, Verdict};
+use kinds::{Policy, Refusal, Settings, Table};
 
 // The policy's own refusal: 1 where it is none of those numbered, 15 where it is withdrawn.
-pub fn knows(policy: Policy) -> Verdict
+pub fn knows(policy: Policy) -> Result<(), Refusal>
     ensures { result ≡ knows policy }
 {
     match policy {
-        Policy::Pooled => Verdict::Accepted,
-        Policy::GlobalEdf => Verdict::Accepted,
-        Policy::GlobalRm => Verdict::Refused(Refusal::PolicyWithdrawn),
-        Policy::FirstFit => Verdict::Accepted,
-        Policy::OneCoreRm => Verdict::Accepted,
-        Policy::Further(_) => Verdict::Refused(Refusal::NoSuchPolicy),
+        Policy::Pooled => Ok(()),
+        Policy::GlobalEdf => Ok(()),
+        Policy::GlobalRm => Err(Refusal::PolicyWithdrawn),
+        Policy::FirstFit => Ok(()),
+        Policy::OneCoreRm => Ok(()),
+        Policy::Further(_) => Err(Refusal::NoSuchPolicy),
     }
 }
 
@@ -73,26 +73,26 @@ pub fn misset_under(settings: Settings) -> bool
 }
 
 // Refusals 2 and 3, for any kind of table: something is misset, and the count n.
-pub fn gate(misset: bool, n: usize) -> Verdict
+pub fn gate(misset: bool, n: usize) -> Result<(), Refusal>
     ensures { result ≡ gate misset n }
 {
     if misset {
-        return Verdict::Refused(Refusal::Misset);
+        return Err(Refusal::Misset);
     }
     if Table::MOST_TASKS < n {
-        return Verdict::Refused(Refusal::TooManyTasks(n));
+        return Err(Refusal::TooManyTasks(n));
     }
-    Verdict::Accepted
+    Ok(())
 }
 
 // Refusal 5: the room of the shortest lent output.
-pub fn roomy(n: usize, room: usize) -> Verdict
+pub fn roomy(n: usize, room: usize) -> Result<(), Refusal>
     ensures { result ≡ roomy n room }
 {
     if room < n {
-        return Verdict::Refused(Refusal::OutputTooShort(n));
+        return Err(Refusal::OutputTooShort(n));
     }
-    Verdict::Accepted
+    Ok(())
 }
 
 // Whether policy 4 is asked of a call that does not serve it.
@@ -103,27 +103,27 @@ fn unserved(policy: Policy, serves: bool) -> bool
 }
 
 // Refusal 4.
-fn served(policy: Policy, serves: bool) -> Verdict
+fn served(policy: Policy, serves: bool) -> Result<(), Refusal>
     ensures { result ≡ served serves policy }
 {
     if unserved(policy, serves) {
-        return Verdict::Refused(Refusal::PolicyNotServed);
+        return Err(Refusal::PolicyNotServed);
     }
-    Verdict::Accepted
+    Ok(())
 }
 
 // A verdict that comes first, else the rest.
-pub fn and_then(first: Verdict, rest: Verdict) -> Verdict
+pub fn and_then(first: Result<(), Refusal>, rest: Result<(), Refusal>) -> Result<(), Refusal>
     ensures { result ≡ and_then first rest }
 {
     match first {
-        Verdict::Accepted => rest,
-        Verdict::Refused(refusal) => Verdict::Refused(refusal),
+        Ok(()) => rest,
+        Err(refusal) => Err(refusal),
     }
 }
 
 // Refusals 1 to 5 of a call on n tasks that serves policy 4, or does not.
-pub fn gate_of(settings: Settings, serves: bool, n: usize, room: usize) -> Verdict
+pub fn gate_of(settings: Settings, serves: bool, n: usize, room: usize) -> Result<(), Refusal>
     ensures { result ≡ gate_of serves settings n room }
 {
     let asked = settings.policy;
@@ -134,11 +134,11 @@ pub fn gate_of(settings: Settings, serves: bool, n: usize, room: usize) -> Verdi
 }
 
 // Refusal 6: of n records the first that is not good, or n where all are.
-pub fn judge(bad: usize, n: usize) -> Verdict
+pub fn judge(bad: usize, n: usize) -> Result<(), Refusal>
     ensures { result ≡ judged bad n }
 {
     if bad < n {
-        return Verdict::Refused(Refusal::BadRecord(bad));
+        return Err(Refusal::BadRecord(bad));
     }
-    Verdict::Accepted
+    Ok(())
 }

@@ -2,7 +2,7 @@
 // word. Further words are the processors that are proposed for the tasks, one for each; without them both sides of the policy's test are put.
 #![tactic(auto)]
 
-use kinds::{Margin, Settings, Sheet, Table, Verdict};
+use kinds::{Settings, Sheet, Table};
 use numeral::Numeral;
 use office_sheet::Setting;
 use std::io;
@@ -43,8 +43,8 @@ fn proposed(rt: HostRuntime) -> [u16; Table::MOST_TASKS] {
 fn put_margin(x: Sheet, step: u32, out: &mut [u8]) -> usize {
     let margin = margin::margin_at(x.table, x.settings, step);
     match margin {
-        Margin::Refused(refusal) => view_text::put_line(refusal, out),
-        Margin::Is(_) => shortfall::put_test(out, 0, x.table, x.settings, step),
+        Err(refusal) => view_text::put_line(refusal, out),
+        Ok(_) => shortfall::put_test(out, 0, x.table, x.settings, step),
     }
 }
 
@@ -62,8 +62,8 @@ fn put_proposal(rt: HostRuntime, x: Sheet, step: u32, count: usize, out: &mut [u
     let mut loads = [0u32; view_text::MOST_LOADS];
     let verdict = proposal::check(x.table, settings, step, &processors[..n], &mut loads);
     match verdict {
-        Verdict::Refused(refusal) => view_text::put_line(refusal, out),
-        Verdict::Accepted => put_fits(settings.m, step, &loads, out),
+        Err(refusal) => view_text::put_line(refusal, out),
+        Ok(()) => put_fits(settings.m, step, &loads, out),
     }
 }
 
@@ -71,7 +71,7 @@ fn put_proposal(rt: HostRuntime, x: Sheet, step: u32, count: usize, out: &mut [u
 fn put_asked(rt: HostRuntime, input: &[u8], out: &mut [u8]) -> usize {
     let reading = sheet::read(input);
     let verdict = reading.verdict;
-    if let Verdict::Refused(refusal) = verdict {
+    if let Err(refusal) = verdict {
         return view_text::put_line(refusal, out);
     }
     let count = ground::less_or_zero(lent_input::word_count(&rt) as u64, BEFORE);

@@ -1,6 +1,6 @@
 // Printing: words, numbers, what a call answers, and lent outputs up to the entry after the last one, which shows whether it was written.
 use itoa::Buffer;
-use kinds::{Answer, Margin, Refusal, Table, Verdict};
+use kinds::{Refusal, Table};
 use std::io;
 
 // How many entries are lent: one more than a table may have tasks.
@@ -32,17 +32,17 @@ fn refused(rt: HostRuntime, refusal: Refusal) -> io::Result<()> {
 }
 
 // A step, or the number and the place of a refusal.
-pub(crate) fn answer(rt: HostRuntime, answer: Answer) -> io::Result<()> {
+pub(crate) fn answer(rt: HostRuntime, answer: Result<u32, Refusal>) -> io::Result<()> {
     match answer {
-        Answer::Accepted(step) => named(rt, b" step", step as u64),
-        Answer::Refused(refusal) => refused(rt, refusal),
+        Ok(step) => named(rt, b" step", step as u64),
+        Err(refusal) => refused(rt, refusal),
     }
 }
 
-pub(crate) fn verdict(rt: HostRuntime, verdict: Verdict) -> io::Result<()> {
+pub(crate) fn verdict(rt: HostRuntime, verdict: Result<(), Refusal>) -> io::Result<()> {
     match verdict {
-        Verdict::Accepted => words(rt, b" accepted"),
-        Verdict::Refused(refusal) => refused(rt, refusal),
+        Ok(()) => words(rt, b" accepted"),
+        Err(refusal) => refused(rt, refusal),
     }
 }
 
@@ -57,10 +57,10 @@ fn sign(rt: HostRuntime, x: i64) -> io::Result<()> {
     }
 }
 
-pub(crate) fn margin(rt: HostRuntime, margin: Margin) -> io::Result<()> {
+pub(crate) fn margin(rt: HostRuntime, margin: Result<i64, Refusal>) -> io::Result<()> {
     match margin {
-        Margin::Is(x) => sign(rt, x),
-        Margin::Refused(refusal) => refused(rt, refusal),
+        Ok(x) => sign(rt, x),
+        Err(refusal) => refused(rt, refusal),
     }
 }
 

@@ -1,5 +1,6 @@
 -- What a call hands back, told in numbers.
 -- Assumes nothing.
+use Rattle.std.specs.Prelude.{Err}
 use Prim.Native.Nat.{ℕ}
 use mathlib.Core.List.{List, [], ◌∷◌}
 use mathlib.Core.Path.{◌≡◌, sym, ap, ◌∙◌}
@@ -7,7 +8,6 @@ use lib.ListN.{length, get_or}
 use Rattle.kinds.specs.declared.Refusal.{Refusal}
 use Rattle.kinds.specs.Answer.{Handed, accepted, handed_verdict}
 use Rattle.clock.specs.declared.Clock.{Clock}
-use Rattle.kinds.specs.declared.Verdict.TheVariants as verdict
 use Rattle.clock.specs.declared.Release.TheVariants as release
 use Rattle.clock.specs.declared.Called.{Called}
 use Rattle.clock.specs.Call.{released, handed_release, CallIs}
@@ -36,6 +36,6 @@ module _ (c : Clock) (present : ℕ) (r : Called) (p : CallIs c present r) where
       → ToldCallIs c present (record { number = 0; due = 0; task = 0; place = 0; clock = r.clock })
   told_none e = fields (accepted []) (ap handed_release (sym e) ∙ p.answers)
 
-  pub told-refused : (q : Refusal) (t : ToldVerdict) → told_verdict t ≡ handed_verdict (verdict.Refused q) → r.answer ≡ release.Refused q
+  pub told-refused : (q : Refusal) (t : ToldVerdict) → told_verdict t ≡ handed_verdict (Err q) → r.answer ≡ release.Refused q
       → ToldCallIs c present (record { number = t.number; due = 0; task = 0; place = t.place; clock = r.clock })
-  told-refused q t told e = fields (beside (told_verdict t) []) (told-beside (verdict.Refused q) [] t told ∙ (ap handed_release (sym e) ∙ p.answers))
+  told-refused q t told e = fields (beside (told_verdict t) []) (told-beside (Err q) [] t told ∙ (ap handed_release (sym e) ∙ p.answers))

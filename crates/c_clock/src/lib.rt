@@ -7,7 +7,6 @@ ghost use Rattle.c_clock.specs.Clocked.{told_start, ToldCallIs};
 
 use c_numbers::tell_verdict;
 use clock::{Clock, Release};
-use kinds::Verdict;
 
 // Number, place and the clock that is started, of zeros where the start is refused.
 #[repr(C)]
@@ -67,7 +66,7 @@ pub fn clock_call_told(clock: Clock, present: u32) -> ToldCall
             clock: after,
         },
         Release::Refused(refusal) => {
-            let told = tell_verdict(Verdict::Refused(refusal));
+            let told = tell_verdict(Err(refusal));
             ToldCall {
                 number: told.number,
                 due: 0,

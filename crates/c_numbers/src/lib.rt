@@ -5,7 +5,7 @@ ghost use Rattle.std.specs.Prelude.{◌≡◌};
 ghost use Rattle.kinds.specs.Answer.{handed_verdict, handed_count};
 ghost use Rattle.c_numbers.specs.Numbers.{station_settings, told_verdict, told_count};
 
-use kinds::{Counted, Policy, Settings, Verdict};
+use kinds::{Policy, Refusal, Settings};
 
 // The settings as numbers.
 #[repr(C)]
@@ -49,15 +49,15 @@ pub fn settings_of(station: Station) -> Settings
 }
 
 // A verdict in numbers.
-pub fn tell_verdict(verdict: Verdict) -> ToldVerdict
+pub fn tell_verdict(verdict: Result<(), Refusal>) -> ToldVerdict
     ensures { told_verdict result ≡ handed_verdict verdict }
 {
     match verdict {
-        Verdict::Accepted => ToldVerdict {
+        Ok(()) => ToldVerdict {
             number: 0,
             place: 0,
         },
-        Verdict::Refused(refusal) => ToldVerdict {
+        Err(refusal) => ToldVerdict {
             number: refusal.number() as u32,
             place: refusal.place(),
         },
@@ -65,17 +65,17 @@ pub fn tell_verdict(verdict: Verdict) -> ToldVerdict
 }
 
 // A count in numbers.
-pub fn tell_count(counted: Counted) -> ToldCount
+pub fn tell_count(counted: Result<usize, Refusal>) -> ToldCount
     ensures { told_count result ≡ handed_count counted }
 {
     match counted {
-        Counted::Count(count) => ToldCount {
+        Ok(count) => ToldCount {
             number: 0,
             place: 0,
             count,
         },
-        Counted::Refused(refusal) => {
-            let told = tell_verdict(Verdict::Refused(refusal));
+        Err(refusal) => {
+            let told = tell_verdict(Err(refusal));
             ToldCount {
                 number: told.number,
                 place: told.place,

@@ -17,7 +17,7 @@ ghost use Rattle.c_numbers.specs.Numbers.{station_settings};
 ghost use Rattle.c_tables.specs.Told.{told_handed, told_margin, ToldMeets, ToldLooked, ToldProposal, ToldRelieved};
 
 use c_numbers::{Station, ToldVerdict, settings_of, tell_verdict};
-use kinds::{Answer, Margin, Table, Task, Verdict};
+use kinds::{Refusal, Table, Task};
 use wide_task::{WideTable, WideTask};
 
 // Number, step, looks and place. A refusal's step is 0; the plain finder makes no looks.
@@ -50,18 +50,18 @@ pub struct ToldRelief {
 }
 
 // An answer in numbers, with its looks.
-fn tell(answer: Answer, looks: u32) -> Told
+fn tell(answer: Result<u32, Refusal>, looks: u32) -> Told
     ensures { (told_handed result ≡ handed answer) × (result.looks ≡ looks) }
 {
     match answer {
-        Answer::Accepted(step) => Told {
+        Ok(step) => Told {
             number: 0,
             step,
             looks,
             place: 0,
         },
-        Answer::Refused(refusal) => {
-            let told = tell_verdict(Verdict::Refused(refusal));
+        Err(refusal) => {
+            let told = tell_verdict(Err(refusal));
             Told {
                 number: told.number,
                 step: 0,
@@ -108,13 +108,13 @@ pub fn margin_told(table: Table, station: Station, step: u32) -> ToldMargin
     ensures { told_margin result ≡ margin_handed (station_settings station) table.rows table.n step }
 {
     match margin::margin_at(table, settings_of(station), step) {
-        Margin::Is(margin) => ToldMargin {
+        Ok(margin) => ToldMargin {
             number: 0,
             place: 0,
             margin,
         },
-        Margin::Refused(refusal) => {
-            let told = tell_verdict(Verdict::Refused(refusal));
+        Err(refusal) => {
+            let told = tell_verdict(Err(refusal));
             ToldMargin {
                 number: told.number,
                 place: told.place,

@@ -1,19 +1,15 @@
 -- What the reader and the plain finder say of a sheet together, and that the task section of one that both accept stands in it: `section-fits`.
 -- Assumes nothing.
-use Rattle.ground.proofs.Kit.{ℕ, ◌≤◌, Bool, true, false, List, ◌≡◌, refl, sym, ◌∙◌, ap, arith, length, ne_eqb, eqb-true}
+use Rattle.ground.proofs.Kit.{ℕ, ◌≤◌, Bool, true, false, List, ◌≡◌, refl, sym, ◌∙◌, ap, arith, length, ne_eqb, eqb-true, Ok, Err}
 use Rattle.ground.specs.Choice.{pick}
 use Rattle.ground.proofs.Cases.{both_true}
 use Rattle.kinds.specs.declared.Refusal.{Refusal}
 use Rattle.kinds.specs.declared.Sheet.{Sheet}
-use Rattle.kinds.specs.declared.Answer.{Answer}
-use Rattle.kinds.specs.declared.Answer.TheVariants as answer
 use Rattle.kinds.specs.Limits.{most_settings, most_tasks}
 use Rattle.kinds.specs.Refusal.{number_of}
-use Rattle.kinds.specs.Answer.{accepted, refused, handed, is_accepted, handed_with}
+use Rattle.kinds.specs.Answer.{accepted, refused, handed, is_accepted, handed_with, Answer, Verdict}
 use Rattle.kinds.proofs.Refusals.{refusal-numbered}
 use Rattle.plain_finder.specs.Asked.{asked}
-use Rattle.kinds.specs.declared.Verdict.{Verdict}
-use Rattle.kinds.specs.declared.Verdict.TheVariants as verdict
 use Rattle.sheet.specs.declared.Reading.{Reading}
 use Rattle.sheet.specs.Sections.{results_place}
 use Rattle.sheet.specs.Reading.{sheet_in, read_sheet, handed_reading}
@@ -24,21 +20,21 @@ use Rattle.change_over.specs.ChangeOver.{acceptable, section_of}
 
 module _ (s : List ℕ) (r : Reading) (read : handed_reading r ≡ read_sheet s) where
   -- a sheet that does not read
-  pub unread : (q : Refusal) → r.verdict ≡ verdict.Refused q → Nothing ≡ section_of s
+  pub unread : (q : Refusal) → r.verdict ≡ Err q → Nothing ≡ section_of s
   unfolding section_of acceptable
   unread q v =
       let e : refused r.sheet q ≡ read_sheet s = ap (λ (w : Verdict). handed_with w r.sheet) (sym v) ∙ read in
       rw (← e, ne_eqb (number_of q) 0 (λ z. omega (arith, refusal-numbered q)))
 
-  module _ (v : r.verdict ≡ verdict.Accepted) where
+  module _ (v : r.verdict ≡ (Ok tt)) where
     reads : accepted r.sheet ≡ read_sheet s
     reads = ap (λ (w : Verdict). handed_with w r.sheet) (sym v) ∙ read
 
     -- one that reads, by what the plain finder answers
     answered : (a : Answer) → handed a ≡ asked r.sheet → pick (is_accepted a) (Tasks r.sheet.count r.sheet.table.n) Nothing ≡ section_of s
     unfolding section_of acceptable
-    answered (answer.Accepted k) e = rw (← reads, ← e)
-    answered (answer.Refused q) e = rw (← reads, ← e, ne_eqb (number_of q) 0 (λ z. omega (arith, refusal-numbered q)))
+    answered (Ok k) e = rw (← reads, ← e)
+    answered (Err q) e = rw (← reads, ← e, ne_eqb (number_of q) 0 (λ z. omega (arith, refusal-numbered q)))
 
     module _ (a : Answer) (e : handed a ≡ asked r.sheet) (b : Bool) (is : b ≡ is_accepted a) where
       pub accepts : b ≡ true → Tasks r.sheet.count r.sheet.table.n ≡ section_of s

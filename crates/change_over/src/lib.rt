@@ -5,7 +5,6 @@ ghost use Rattle.std.specs.Prelude.{◌≡◌, ◌≤◌};
 ghost use Rattle.kinds.specs.Limits.{most_settings, most_tasks};
 ghost use Rattle.change_over.specs.ChangeOver.{section_of, tasks_part, change_over, IsPart};
 
-use kinds::Verdict;
 
 // The two lent sheets.
 #[derive(Clone, Copy)]
@@ -35,7 +34,7 @@ fn section_of(bytes: &[u8]) -> Section
 {
     let reading = sheet::read(bytes);
     let verdict = reading.verdict;
-    let Verdict::Accepted = verdict else {
+    let Ok(()) = verdict else {
         return Section::Nothing;
     };
     let x = reading.sheet;
@@ -43,10 +42,10 @@ fn section_of(bytes: &[u8]) -> Section
     let n = table.n;
     let settings = x.settings;
     let answer = plain_finder::decide(table, settings, n);
-    if answer.accepted() {
-        return Section::Tasks(x.count, n);
+    match answer {
+        Ok(_) => Section::Tasks(x.count, n),
+        Err(_) => Section::Nothing,
     }
-    Section::Nothing
 }
 
 // The task section of a sheet with so many settings and n tasks.

@@ -9,7 +9,7 @@ ghost use Rattle.clock.specs.Start.{is_period, first_bad, no_clock, clock_from, 
 ghost use Rattle.clock.specs.Call.{CallIs};
 ghost use Rattle.clock.specs.Handover.{LateIs, LatestIs};
 
-use kinds::{Refusal, Table, Task, Verdict};
+use kinds::{Refusal, Table, Task};
 
 // The clock table by value: for each task its period and its next release, of which the first n count. It is laid out as C lays it out.
 #[repr(C)]
@@ -28,7 +28,7 @@ impl Clock {
 // The answer to a start, and the clock: of zeros where it is refused.
 #[derive(Clone, Copy)]
 pub struct Started {
-    pub answer: Verdict,
+    pub answer: Result<(), Refusal>,
     pub clock: Clock,
 }
 
@@ -117,19 +117,19 @@ pub fn start(periods: &[u32], tick: u32) -> Started
     let n = periods.len();
     if Table::MOST_TASKS < n {
         return Started {
-            answer: Verdict::Refused(Refusal::TooManyTasks(n)),
+            answer: Err(Refusal::TooManyTasks(n)),
             clock: no_clock(),
         };
     }
     let bad = first_bad(periods);
     if bad < n {
         return Started {
-            answer: Verdict::Refused(Refusal::BadPeriod(bad)),
+            answer: Err(Refusal::BadPeriod(bad)),
             clock: no_clock(),
         };
     }
     Started {
-        answer: Verdict::Accepted,
+        answer: Ok(()),
         clock: clock_from(periods, tick),
     }
 }

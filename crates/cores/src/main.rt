@@ -6,7 +6,7 @@
 mod jobs;
 mod words;
 
-use kinds::{Answer, Table};
+use kinds::Table;
 use loosen::fields::{Fault, Number};
 use loosen::{fields, survey};
 use std::io;
@@ -39,8 +39,8 @@ fn put_planned(s: &[u8], survey: &[usize; survey::ROOM], m: u16, out: &mut [u8])
     let mut cores = [0u16; Table::MOST_TASKS];
     let answer = wide_finder::find(table, m, &mut periods, &mut cores);
     match answer {
-        Answer::Refused(refusal) => words::put_refused(out, refusal, table, m),
-        Answer::Accepted(step) => {
+        Err(refusal) => words::put_refused(out, refusal, table, m),
+        Ok(step) => {
             let mut names = [0u8; task_names::ROOM];
             loosen::keep_names_of(s, fields::OF_JOB, survey, &mut names);
             let headed = words::put_head(out, step, &cores, m);

@@ -118,7 +118,7 @@ pub(crate) fn put_head(
 fn enough(table: WideTable, m: u16) -> u16 {
     for fewer in m..Settings::MOST_PROCESSORS {
         let answer = wide_finder::decide(table, fewer + 1, Table::MOST_TASKS);
-        if answer.accepted() {
+        if answer.is_ok() {
             return fewer + 1;
         }
     }

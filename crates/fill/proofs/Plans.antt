@@ -1,6 +1,6 @@
 -- What the plain finder leaves in two outputs is the plan of the definition, and its sheet can always be written.
 -- Assumes nothing.
-use Rattle.ground.proofs.Kit.{ℕ, ◌+◌, ◌≤◌, ◌<◌, min, true, List, [], ◌++◌, ◌≡◌, refl, sym, ◌∙◌, ap, ap₂, arith, eqb, length, get_or, set, drop, eq-eqb}
+use Rattle.ground.proofs.Kit.{ℕ, ◌+◌, ◌≤◌, ◌<◌, min, true, List, [], ◌++◌, ◌≡◌, refl, sym, ◌∙◌, ap, ap₂, arith, eqb, length, get_or, set, drop, eq-eqb, Ok, Err}
 use Rattle.ground.proofs.Kit.{ne_eqb, lt-ltb}
 use lib.ListN.{get_or-append}
 use Rattle.ground.specs.Laid.{padded_to}
@@ -11,11 +11,9 @@ use Rattle.kinds.specs.declared.Granted.{Granted}
 use Rattle.kinds.specs.declared.Results.{Results}
 use Rattle.kinds.specs.declared.Sheet.{Sheet}
 use Rattle.kinds.specs.declared.Refusal.{Refusal}
-use Rattle.kinds.specs.declared.Answer.{Answer}
-use Rattle.kinds.specs.declared.Answer.TheVariants as answer
 use Rattle.kinds.specs.Limits.{most_tasks}
 use Rattle.kinds.specs.Refusal.{number_of}
-use Rattle.kinds.specs.Answer.{Handed, accepted, refused, handed}
+use Rattle.kinds.specs.Answer.{Handed, accepted, refused, handed, Answer, Counted}
 use Rattle.kinds.proofs.Refusals.{refusal-numbered}
 use Rattle.kinds.proofs.Answers.{handed-one}
 use Rattle.kinds.proofs.Chain.{comes-first, goes_on}
@@ -28,7 +26,6 @@ use Rattle.plain_finder.proofs.Asked.{asked-roomy}
 use Rattle.sheet.specs.Sections.{longest_sheet, settings_fit, results_fit}
 use Rattle.sheet.specs.Rows.{granted, no_granted, no_results}
 use Rattle.sheet.proofs.Stages.{settings-few}
-use Rattle.kinds.specs.declared.Counted.{Counted}
 use Rattle.writer.specs.Encode.{encode, length_of}
 use Rattle.writer.specs.Writing.{write_sheet, Writes}
 use Rattle.writer.proofs.Rows.{encode-long}
@@ -83,14 +80,14 @@ module _ (x : Sheet) (ps qs ps' qs' : List ℕ) (long-ps : length ps ≡ most_ta
   answered = m.answers ∙ asked-of-most x (min (length ps) (length qs)) (omega arith)
 
   -- a refusal of the plain finder leaves the sheet as it was
-  pub plan-refused : (q : Refusal) → a ≡ answer.Refused q → Plans x (record { answer = a; sheet = x })
+  pub plan-refused : (q : Refusal) → a ≡ Err q → Plans x (record { answer = a; sheet = x })
   unfolding after_plan
   plan-refused q e =
       let is : asked x ≡ refused 0 q = sym answered ∙ ap handed e in
       let not-accepted = ne_eqb (number_of q) 0 (λ z. omega (arith, refusal-numbered q)) in
       record { answers = answered; fills = rw (is, not-accepted) }
 
-  module _ (k : ℕ) (e : a ≡ answer.Accepted k) where
+  module _ (k : ℕ) (e : a ≡ Ok k) where
     step_is : asked x ≡ accepted k
     step_is = sym answered ∙ ap handed e
 
@@ -136,11 +133,11 @@ module _ (x : Sheet) (ps qs ps' qs' : List ℕ) (long-ps : length ps ≡ most_ta
 
 -- what comes of a sheet that was filled in: its refusal, or its bytes
 module _ (x : Sheet) (p : SheetPlan) (plans : Plans x p) where
-  pub filling-refused : (q : Refusal) → p.answer ≡ answer.Refused q → planned_sheet x ≡ refused [] q
+  pub filling-refused : (q : Refusal) → p.answer ≡ Err q → planned_sheet x ≡ refused [] q
   unfolding planned_sheet
   filling-refused q e = sym (comes-first [] (asked x) (λ k. accepted (encode (with_plan x k))) 0 q (sym plans.answers ∙ ap handed e))
 
-  module _ (k : ℕ) (e : p.answer ≡ answer.Accepted k) where
+  module _ (k : ℕ) (e : p.answer ≡ Ok k) where
     filled_at : asked x ≡ accepted k
     filled_at = sym plans.answers ∙ ap handed e
 

@@ -8,7 +8,7 @@ ghost use Rattle.refusal_line.specs.Fronts.{Fronts};
 ghost use Rattle.fill.specs.Results.{results_of, Plans};
 ghost use Rattle.fill.specs.Fill.{planned, filled, Fills};
 
-use kinds::{Answer, Counted, Granted, Results, Sheet, Table, Verdict};
+use kinds::{Granted, Refusal, Results, Sheet, Table};
 
 // The results section of the first n entries of a plan's two outputs.
 fn results_of(
@@ -32,7 +32,7 @@ fn results_of(
 // The plain finder's answer to a sheet, and the sheet with that plan for its results; as it was where it is refused.
 #[derive(Clone, Copy)]
 pub struct SheetPlan {
-    pub answer: Answer,
+    pub answer: Result<u32, Refusal>,
     pub sheet: Sheet,
 }
 
@@ -45,7 +45,7 @@ pub fn fill_sheet(x: Sheet) -> SheetPlan
     let mut periods = [0u32; Table::MOST_TASKS];
     let mut processors = [0u16; Table::MOST_TASKS];
     let answer = plain_finder::find(table, settings, &mut periods, &mut processors);
-    if let Answer::Refused(_) = answer {
+    if let Err(_) = answer {
         return SheetPlan { answer, sheet: x };
     }
     let results = results_of(periods, processors, table.n);
@@ -59,19 +59,19 @@ pub fn fill_sheet(x: Sheet) -> SheetPlan
 }
 
 // Fills in the sheet that was read, or refuses it; a refusal writes nothing.
-pub fn fill_in(input: &[u8], out: &mut [u8; sheet::LONGEST]) -> Counted
+pub fn fill_in(input: &[u8], out: &mut [u8; sheet::LONGEST]) -> Result<usize, Refusal>
     ensures { Fills (planned input.now) out.old result out.new }
 {
     let reading = sheet::read(input);
     let verdict = reading.verdict;
-    if let Verdict::Refused(refusal) = verdict {
-        return Counted::Refused(refusal);
+    if let Err(refusal) = verdict {
+        return Err(refusal);
     }
     let plan = fill_sheet(reading.sheet);
     let answer = plan.answer;
     match answer {
-        Answer::Refused(refusal) => Counted::Refused(refusal),
-        Answer::Accepted(_) => writer::write(plan.sheet, out),
+        Err(refusal) => Err(refusal),
+        Ok(_) => writer::write(plan.sheet, out),
     }
 }
 
@@ -81,7 +81,7 @@ pub fn fill(input: &[u8], out: &mut [u8; sheet::LONGEST]) -> usize
 {
     let written = fill_in(input, out);
     match written {
-        Counted::Refused(refusal) => refusal_line::put_refusal(out, refusal),
-        Counted::Count(k) => k,
+        Err(refusal) => refusal_line::put_refusal(out, refusal),
+        Ok(k) => k,
     }
 }

@@ -1,6 +1,6 @@
 -- A sheet compared with a plan is what the definition compares, and with its own plan what the checker says of it.
 -- Assumes nothing.
-use Rattle.ground.proofs.Kit.{ℕ, ◌≤◌, ◌<◌, min, false, List, ◌≡◌, refl, sym, ◌∙◌, ap, arith, length, le-leb, lt-leb}
+use Rattle.ground.proofs.Kit.{ℕ, ◌≤◌, ◌<◌, min, false, List, ◌≡◌, refl, sym, ◌∙◌, ap, arith, length, le-leb, lt-leb, Ok, Err}
 use lib.ListN.{get_or-eq_default}
 use Rattle.ground.specs.First.{first_below}
 use Rattle.ground.proofs.First.{first-none}
@@ -10,10 +10,8 @@ use Rattle.kinds.specs.declared.Granted.{Granted}
 use Rattle.kinds.specs.declared.Sheet.{Sheet}
 use Rattle.kinds.specs.declared.Refusal.{Refusal}
 use Rattle.kinds.specs.declared.Refusal.TheVariants.{NoResults, WrongResult}
-use Rattle.kinds.specs.declared.Answer.{Answer}
-use Rattle.kinds.specs.declared.Answer.TheVariants as answer
 use Rattle.kinds.specs.Limits.{most_tasks}
-use Rattle.kinds.specs.Answer.{accepted, refused, handed}
+use Rattle.kinds.specs.Answer.{accepted, refused, handed, Answer}
 use Rattle.kinds.proofs.Chain.{comes-first, goes_on}
 use Rattle.plain_finder.specs.Asked.{asked}
 use Rattle.sheet.specs.Rows.{no_granted}
@@ -42,11 +40,11 @@ none-unlike rows others n i long long' h l =
     (λ j below. by_le most_tasks j (λ past. alike-past rows others j (omega arith) (omega arith)) (λ held. h j (omega arith))) refl
 
 module _ (x : Sheet) (p : SheetPlan) where
-  pub plan-refuses : (q : Refusal) → p.answer ≡ answer.Refused q → refused tt q ≡ checked_by x p
+  pub plan-refuses : (q : Refusal) → p.answer ≡ Err q → refused tt q ≡ checked_by x p
   unfolding checked_by
   plan-refuses q e = comes-first tt (handed p.answer) (λ k. compared x p.sheet) 0 q (ap handed e)
 
-  module _ (k : ℕ) (e : p.answer ≡ answer.Accepted k) where
+  module _ (k : ℕ) (e : p.answer ≡ Ok k) where
     then-compared : compared x p.sheet ≡ checked_by x p
     unfolding checked_by
     then-compared = goes_on tt (handed p.answer) (λ j. compared x p.sheet) k (ap handed e)
@@ -70,19 +68,19 @@ module _ (x : Sheet) (p : SheetPlan) where
 
   -- with its own plan
   module _ (plans : Plans x p) where
-    own-refuses : (q : Refusal) → p.answer ≡ answer.Refused q → refused tt q ≡ checked_sheet x
+    own-refuses : (q : Refusal) → p.answer ≡ Err q → refused tt q ≡ checked_sheet x
     unfolding checked_sheet
     own-refuses q e = comes-first tt (asked x) (λ k. compared x (with_plan x k)) 0 q (sym plans.answers ∙ ap handed e)
 
-    own-compared : (k : ℕ) → p.answer ≡ answer.Accepted k → compared x p.sheet ≡ checked_sheet x
+    own-compared : (k : ℕ) → p.answer ≡ Ok k → compared x p.sheet ≡ checked_sheet x
     unfolding checked_sheet
     own-compared k e =
         ap (compared x) (filling-is x p plans k e)
         ∙ goes_on tt (asked x) (λ j. compared x (with_plan x j)) k (sym plans.answers ∙ ap handed e)
 
     by_answer : (a : Answer) → p.answer ≡ a → checked_by x p ≡ checked_sheet x
-    by_answer (answer.Refused q) e = sym (plan-refuses q e) ∙ own-refuses q e
-    by_answer (answer.Accepted k) e = sym (then-compared k e) ∙ own-compared k e
+    by_answer (Err q) e = sym (plan-refuses q e) ∙ own-refuses q e
+    by_answer (Ok k) e = sym (then-compared k e) ∙ own-compared k e
 
     pub checked-by : checked_by x p ≡ checked_sheet x
     checked-by = by_answer p.answer refl

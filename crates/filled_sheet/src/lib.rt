@@ -10,7 +10,7 @@ ghost use Rattle.filled_sheet.specs.Checked.{differ, unlike, checked_by, checked
 ghost use Rattle.filled_sheet.specs.Told.{told};
 
 use fill::SheetPlan;
-use kinds::{Answer, Granted, Refusal, Results, Sheet, Table, Verdict};
+use kinds::{Granted, Refusal, Results, Sheet, Table};
 
 // Whether two results differ, in the period or in the processor.
 fn differ(stored: Granted, planned: Granted) -> bool
@@ -36,35 +36,35 @@ fn first_unlike(results: Results, due: Results, n: usize) -> usize
 }
 
 // Compares the results of a sheet with those of its plan; where the plan is refused, so is the sheet.
-pub fn check_plan(x: Sheet, plan: SheetPlan) -> Verdict
+pub fn check_plan(x: Sheet, plan: SheetPlan) -> Result<(), Refusal>
     ensures { handed_verdict result ≡ checked_by x plan }
 {
     let answer = plan.answer;
-    if let Answer::Refused(refusal) = answer {
-        return Verdict::Refused(refusal);
+    if let Err(refusal) = answer {
+        return Err(refusal);
     }
     let n = x.table.n;
     let results = x.results;
     if results.n < n {
-        return Verdict::Refused(Refusal::NoResults);
+        return Err(Refusal::NoResults);
     }
     let filled = plan.sheet;
     let unlike = first_unlike(results, filled.results, n);
     if unlike < n {
-        return Verdict::Refused(Refusal::WrongResult(unlike));
+        return Err(Refusal::WrongResult(unlike));
     }
-    Verdict::Accepted
+    Ok(())
 }
 
 // Accepts a sheet whose every task has the result that the plain finder gives; it lends nothing out.
-pub fn check(bytes: &[u8]) -> Verdict
+pub fn check(bytes: &[u8]) -> Result<(), Refusal>
     ensures { handed_verdict result ≡ checked bytes.now }
 {
     let reading = sheet::read(bytes);
     let verdict = reading.verdict;
     match verdict {
-        Verdict::Refused(refusal) => Verdict::Refused(refusal),
-        Verdict::Accepted => {
+        Err(refusal) => Err(refusal),
+        Ok(()) => {
             let x = reading.sheet;
             check_plan(x, fill::fill_sheet(x))
         }
@@ -77,7 +77,7 @@ pub fn tell(input: &[u8], out: &mut [u8; sheet::LONGEST]) -> usize
 {
     let verdict = check(input);
     match verdict {
-        Verdict::Refused(refusal) => refusal_line::put_refusal(out, refusal),
-        Verdict::Accepted => refusal_line::put_bytes(out, 0, b"accepted\n"),
+        Err(refusal) => refusal_line::put_refusal(out, refusal),
+        Ok(()) => refusal_line::put_bytes(out, 0, b"accepted\n"),
     }
 }

@@ -5,7 +5,6 @@
 
 ghost use Rattle.std.specs.Prelude.{◌≡◌, ◌≤◌, length, take};
 
-use kinds::Counted;
 use loosen::fields;
 use std::io;
 
@@ -14,7 +13,7 @@ fn enter(policy: &[u8], processors: &[u8], given: &[u8], out: &mut [u8; sheet::L
     ensures { (result ≤ length out.new) × (result ≡ length (take result out.new)) }
 {
     let mut exact = [0u8; office::LONGEST];
-    let Counted::Count(k) = tidy::tidied(given, &mut exact) else {
+    let Ok(k) = tidy::tidied(given, &mut exact) else {
         return office_sheet::enter(policy, processors, given, out);
     };
     office_sheet::enter(policy, processors, &exact[..k], out)

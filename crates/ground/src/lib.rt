@@ -4,17 +4,10 @@
 ghost use Rattle.std.specs.Prelude.{◌≡◌, ◌+◌, ◌-◌, ◌*◌, ◌≤◌, max, min};
 ghost use Rattle.ground.specs.Rounding.{ceil_div};
 
-// The answer of a search for a step.
-#[derive(Clone, Copy)]
-pub enum Step {
-    At(u32),
-    Nothing,
-}
-
-// How a search for a step ended: its answer, and the looks that it made.
+// How a search for a step ended: the step, where there is one, and the looks that it made.
 #[derive(Clone, Copy)]
 pub struct Ended {
-    pub step: Step,
+    pub step: Option<u32>,
     pub looks: u32,
 }
 

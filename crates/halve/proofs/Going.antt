@@ -1,7 +1,6 @@
 -- The loop that halves: one look more, and its end.
 -- Assumes nothing.
-use Rattle.ground.proofs.Kit.{ℕ, ◌-◌, ◌≤◌, ◌<◌, Bool, List, arith}
-use Rattle.ground.specs.declared.Step.TheVariants.{At, Nothing}
+use Rattle.ground.proofs.Kit.{ℕ, ◌-◌, ◌≤◌, ◌<◌, Bool, List, arith, Some, None}
 use Rattle.ground.specs.Least.{Rising}
 use Rattle.ground.specs.Halving.{middle}
 use Rattle.ground.proofs.Cases.{by_bool}
@@ -38,10 +37,10 @@ module _ (test : ℕ → Bool) (r : Range) (l : r.from < r.to) where
 
 -- nothing is left
 module _ (test : ℕ → Bool) (K : ℕ) (r : Range) (g : Going test K r) (d : r.to ≤ r.from) where
-  pub going-found : r.from ≤ K → HalvingEnds test K (record { step = At r.from; looks = r.looks })
+  pub going-found : r.from ≤ K → HalvingEnds test K (record { step = Some r.from; looks = r.looks })
   going-found h = record { least = halved-found test K r.from r.to g.halved d h; count = counted-done test K r.from r.to r.looks g d }
 
-  pub going-none : K < r.from → HalvingEnds test K (record { step = Nothing; looks = r.looks })
+  pub going-none : K < r.from → HalvingEnds test K (record { step = None; looks = r.looks })
   going-none h = record { least = halved_none test K r.from r.to g.halved d h; count = counted-done test K r.from r.to r.looks g d }
 
 -- the test on charges stays once it holds

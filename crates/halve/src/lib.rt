@@ -10,7 +10,7 @@ ghost use Rattle.policy.specs.Handover.{Light};
 ghost use Rattle.policy.specs.Weighed.{charged_at};
 ghost use Rattle.halve.specs.Halves.{half, HalvingEnds};
 
-use ground::{Ended, Step};
+use ground::Ended;
 use policy::Weights;
 use springs::Columns;
 
@@ -64,11 +64,11 @@ pub fn least_step(w: Weights, notch: u16, block: &mut [u32; Columns::ROOM], n: u
     }
     let looks = range.looks;
     if range.from <= full {
-        let step = Step::At(range.from);
+        let step = Some(range.from);
         return Ended { step, looks };
     }
     Ended {
-        step: Step::Nothing,
+        step: None,
         looks,
     }
 }

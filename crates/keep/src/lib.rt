@@ -9,7 +9,7 @@ ghost use Rattle.kinds.specs.Task.{no_task, table};
 ghost use Rattle.kinds.specs.Answer.{accepted, refused};
 ghost use Rattle.keep.specs.Keep.{kept, left_row, joined_rows, joined, left, handed_change};
 
-use kinds::{Index, Refusal, Table, Task, Verdict};
+use kinds::{Index, Refusal, Table, Task};
 use springs::Columns;
 
 // A table, and beside it the index of its tasks. It is laid out as C lays it out.
@@ -23,7 +23,7 @@ pub struct Kept {
 // The answer to a change, and what is kept after it.
 #[derive(Clone, Copy)]
 pub struct Changed {
-    pub answer: Verdict,
+    pub answer: Result<(), Refusal>,
     pub kept: Kept,
 }
 
@@ -32,7 +32,7 @@ fn refuse(kept: Kept, refusal: Refusal) -> Changed
     ensures { handed_change result ≡ refused kept refusal }
 {
     Changed {
-        answer: Verdict::Refused(refusal),
+        answer: Err(refusal),
         kept,
     }
 }
@@ -42,7 +42,7 @@ fn accept(table: Table, index: Index) -> Changed
     ensures { handed_change result ≡ accepted (kept table index) }
 {
     Changed {
-        answer: Verdict::Accepted,
+        answer: Ok(()),
         kept: Kept { table, index },
     }
 }

@@ -9,7 +9,6 @@ ghost use Rattle.kinds.specs.Task.{is_within, is_on_notch, is_good, priced, task
 ghost use Rattle.kinds.specs.Policy.{policy_of, policy_number, meant, is_first_fit, is_one_core};
 ghost use Rattle.kinds.specs.Settings.{settings, settings_of, numbers_of, tests_charge};
 ghost use Rattle.kinds.specs.Refusal.{handed_back, number_of, place_of};
-ghost use Rattle.kinds.specs.Answer.{is_accepted, step_of};
 
 // A share of one processor, in parts.
 #[derive(Clone, Copy)]
@@ -382,55 +381,6 @@ impl Refusal {
     {
         self.handed_back().1
     }
-}
-
-// What a finder answers: the step of an accepted plan, or the refusal.
-#[derive(Clone, Copy)]
-pub enum Answer {
-    Accepted(u32),
-    Refused(Refusal),
-}
-
-impl Answer {
-    pub fn accepted(self) -> bool
-        ensures { result ≡ is_accepted self }
-    {
-        match self {
-            Answer::Accepted(_) => true,
-            Answer::Refused(_) => false,
-        }
-    }
-
-    // The step of an accepted plan; a refusal's step is 0.
-    pub fn step(self) -> u32
-        ensures { result ≡ step_of self }
-    {
-        match self {
-            Answer::Accepted(step) => step,
-            Answer::Refused(_) => 0,
-        }
-    }
-}
-
-// Yes, or the refusal.
-#[derive(Clone, Copy)]
-pub enum Verdict {
-    Accepted,
-    Refused(Refusal),
-}
-
-// A count, of rows or of bytes, or the refusal.
-#[derive(Clone, Copy)]
-pub enum Counted {
-    Count(usize),
-    Refused(Refusal),
-}
-
-// What the margin answers: a signed number, or the refusal.
-#[derive(Clone, Copy)]
-pub enum Margin {
-    Is(i64),
-    Refused(Refusal),
 }
 
 // The limits that definitions name are those that the code names.

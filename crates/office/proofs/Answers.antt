@@ -1,6 +1,6 @@
 -- What import and export answer in each case, with the output after it, and that no second answer meets either promise.
 -- Assumes nothing.
-use Rattle.ground.proofs.Kit.{ℕ, ◌≤◌, ◌<◌, List, [], ◌++◌, append-nil, ◌≡◌, refl, sym, ◌∙◌, ap, ap₂, arith, length, drop, ne_eqb, lt-ltb, le-ltb}
+use Rattle.ground.proofs.Kit.{ℕ, ◌≤◌, ◌<◌, List, [], ◌++◌, append-nil, ◌≡◌, refl, sym, ◌∙◌, ap, ap₂, arith, length, drop, ne_eqb, lt-ltb, le-ltb, Ok, Err}
 use lib.ListN.{drop_of_length-le}
 use Rattle.ground.proofs.Cases.{by_le}
 use Rattle.ground.proofs.Joins.{join-cong}
@@ -11,13 +11,11 @@ use Rattle.kinds.specs.declared.Refusal.TheVariants.{TooManyTasks, OutputTooShor
 use Rattle.kinds.specs.Limits.{most_tasks}
 use Rattle.kinds.specs.Task.{at, table_of}
 use Rattle.kinds.specs.Refusal.{number_of}
-use Rattle.kinds.specs.Answer.{Handed, accepted, refused}
+use Rattle.kinds.specs.Answer.{Handed, accepted, refused, Counted}
 use Rattle.kinds.proofs.Refusals.{refusal-numbered}
 use Rattle.kinds.proofs.Answers.{not-refused, count-one}
 use Rattle.field.specs.Handover.{Put}
 use Rattle.field.proofs.Stores.{stored-front}
-use Rattle.kinds.specs.declared.Counted.{Counted}
-use Rattle.kinds.specs.declared.Counted.TheVariants.{Count, Refused}
 use Rattle.office.specs.declared.Imported.{Imported}
 use Rattle.office.specs.Text.{line_of, row_line, text_to}
 use Rattle.office.specs.Reading.{Rows, Not, read_text, rows_of}
@@ -65,7 +63,7 @@ module _ (s : List ℕ) (room : ℕ) where
     pub reads_short : room < n → (i : Imported) → i ≡ imported_not (OutputTooShort n) → Reads s room i
     reads_short q i k = reads-refused (OutputTooShort n) (handed ∙ carry-short n room q) i k
 
-    pub reads-done : n ≤ room → Reads s room (record { answer = Count n; table = record { rows = array; n = n } })
+    pub reads-done : n ≤ room → Reads s room (record { answer = Ok n; table = record { rows = array; n = n } })
     reads-done q =
         let e = handed ∙ carry-done n room q in
         let r : rows_of (read_text s) ≡ g.rows = ap rows_of (going_end s array at n g h) in
@@ -88,19 +86,19 @@ unfolding export_handed
 few-of rows n room h needed e = simp (le-ltb most_tasks n h, ← e)
 
 module _ (rows : List Task) (n : ℕ) (old : List ℕ) where
-  refused-keeps : (r : Refusal) → export_handed rows n (length old) ≡ refused 0 r → Exports rows n old (Refused r) old
+  refused-keeps : (r : Refusal) → export_handed rows n (length old) ≡ refused 0 r → Exports rows n old (Err r) old
   refused-keeps r e =
       record { answer = sym e; output = sym (ap (λ (h : Handed ℕ). after_carry h (text_to rows n) old) e ∙ after-refused r (text_to rows n) old) }
 
-  pub exports-many : most_tasks < n → Exports rows n old (Refused (TooManyTasks n)) old
+  pub exports-many : most_tasks < n → Exports rows n old (Err (TooManyTasks n)) old
   exports-many h = refused-keeps (TooManyTasks n) (many-of rows n (length old) h)
 
   module _ (h : n ≤ most_tasks) (needed : ℕ) (e : needed ≡ length (text_to rows n)) where
-    pub exports-short : length old < needed → Exports rows n old (Refused (OutputTooShort needed)) old
+    pub exports-short : length old < needed → Exports rows n old (Err (OutputTooShort needed)) old
     exports-short q = refused-keeps (OutputTooShort needed) (few-of rows n (length old) h needed e ∙ carry-short needed (length old) q)
 
   module _ (h : n ≤ most_tasks) (q : length (text_to rows n) ≤ length old) where
-    pub exports-done : (written : ℕ) (new : List ℕ) → Put old 0 (length (text_to rows n)) (text_to rows n) written new → Exports rows n old (Count written) new
+    pub exports-done : (written : ℕ) (new : List ℕ) → Put old 0 (length (text_to rows n)) (text_to rows n) written new → Exports rows n old (Ok written) new
     exports-done written new p =
         let e : written ≡ length (text_to rows n) = omega (arith, p.next-is) in
         let k : export_handed rows n (length old) ≡ accepted written =

@@ -5,8 +5,7 @@ use Rattle.kinds.specs.declared.Task.{Task}
 use Rattle.kinds.specs.declared.Refusal.TheVariants.{TooManyTasks, OutputTooShort}
 use Rattle.kinds.specs.Limits.{most_tasks}
 use Rattle.kinds.specs.Task.{table_of}
-use Rattle.kinds.specs.Answer.{Handed, accepted, refused, check, handed_count, after}
-use Rattle.kinds.specs.declared.Counted.{Counted}
+use Rattle.kinds.specs.Answer.{Handed, accepted, refused, check, handed_count, after, Counted}
 use Rattle.office.specs.declared.Imported.{Imported}
 use Rattle.office.specs.Text.{text_to}
 use Rattle.office.specs.Reading.{Reading, Rows, Not, read_text, rows_of}

@@ -12,7 +12,7 @@ ghost use Rattle.office.specs.Reading.{line_at};
 ghost use Rattle.office.specs.Carrying.{Reads, Exports};
 ghost use Rattle.office.specs.Handover.{imported_not};
 
-use kinds::{Counted, Refusal, Table, Task};
+use kinds::{Refusal, Table, Task};
 use numeral::Numeral;
 
 const COMMA: u8 = b',';
@@ -37,7 +37,7 @@ pub enum Line {
 // What an import by value answers, with the table; a refused one has the table of no tasks.
 #[derive(Clone, Copy)]
 pub struct Imported {
-    pub answer: Counted,
+    pub answer: Result<usize, Refusal>,
     pub table: Table,
 }
 
@@ -69,7 +69,7 @@ pub fn line_at(s: &[u8], at: usize) -> Line
 fn refused(refusal: Refusal) -> Imported
     ensures { result ≡ imported_not refusal }
 {
-    let answer = Counted::Refused(refusal);
+    let answer = Err(refusal);
     let table = Table::new([Task::NONE; Table::MOST_TASKS], 0);
     Imported { answer, table }
 }
@@ -95,7 +95,7 @@ pub fn import(text: &[u8], room: usize) -> Imported
     if room < n {
         return refused(Refusal::OutputTooShort(n));
     }
-    let answer = Counted::Count(n);
+    let answer = Ok(n);
     let table = Table::new(rows, n);
     Imported { answer, table }
 }
@@ -157,20 +157,20 @@ fn put_text(out: &mut [u8], rows: [Task; Table::MOST_TASKS], n: usize) -> usize
 }
 
 // The text of a table, into a lent output: exactly that text, and nothing past it.
-pub fn export(table: Table, out: &mut [u8]) -> Counted
+pub fn export(table: Table, out: &mut [u8]) -> Result<usize, Refusal>
     ensures { Exports table.rows table.n out.old result out.new }
 {
     let n = table.n;
     let rows = table.rows;
     if Table::MOST_TASKS < n {
-        return Counted::Refused(Refusal::TooManyTasks(n));
+        return Err(Refusal::TooManyTasks(n));
     }
     let needed = text_width(rows, n);
     if out.len() < needed {
-        return Counted::Refused(Refusal::OutputTooShort(needed));
+        return Err(Refusal::OutputTooShort(needed));
     }
     let written = put_text(out, rows, n);
-    Counted::Count(written)
+    Ok(written)
 }
 
 // The longest text that definitions name is the one that the code names.

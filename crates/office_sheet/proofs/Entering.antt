@@ -1,25 +1,23 @@
 -- What is written for the arguments and a text: the line of the first refusal, or the sheet.
 -- Assumes nothing.
-use Rattle.ground.proofs.Kit.{ℕ, ◌≤◌, ◌<◌, List, ◌++◌, ◌≡◌, refl, sym, ◌∙◌, ap, arith, length, drop, lt-ltb, le-ltb}
+use Rattle.ground.proofs.Kit.{ℕ, ◌≤◌, ◌<◌, List, ◌++◌, ◌≡◌, refl, sym, ◌∙◌, ap, arith, length, drop, lt-ltb, le-ltb, Ok, Err}
 use Rattle.kinds.specs.declared.Refusal.{Refusal}
 use Rattle.kinds.specs.declared.Refusal.TheVariants.{NoSuchPolicy, Misset}
 use Rattle.kinds.specs.declared.Sheet.{Sheet}
 use Rattle.kinds.specs.declared.Table.{Table}
 use Rattle.kinds.specs.Limits.{most_tasks}
 use Rattle.kinds.specs.Refusal.{number_of, place_of}
-use Rattle.kinds.specs.Answer.{Handed, handed_count}
+use Rattle.kinds.specs.Answer.{Handed, handed_count, Counted}
 use Rattle.kinds.specs.Task.{table_of}
 use Rattle.kinds.proofs.Answers.{not-refused}
 use Rattle.numeral.specs.declared.Numeral.TheVariants as numeral
 use Rattle.numeral.specs.Scan.{numeral_in}
 use Rattle.sheet.specs.Sections.{longest_sheet, settings_fit, results_fit}
-use Rattle.kinds.specs.declared.Counted.TheVariants as counted
 use Rattle.writer.specs.Encode.{encode, length_of}
 use Rattle.writer.specs.Writing.{Writes}
 use Rattle.writer.proofs.Rows.{encode-long}
 use Rattle.writer.proofs.Answers.{accepts, write-accepts, accepted-after}
 use Rattle.office.specs.declared.Imported.{Imported}
-use Rattle.kinds.specs.declared.Counted.{Counted}
 use Rattle.office.specs.Reading.{read_text, rows_of}
 use Rattle.office.specs.Carrying.{import_handed, Reads}
 use Rattle.office.proofs.Landing.{lands, all-landed}
@@ -76,19 +74,19 @@ module _ (p m : ℕ) (text : List ℕ) (i : Imported) (reads : Reads text most_t
   handed-as : (r : Counted) → i.answer ≡ r → import_handed text most_tasks ≡ handed_count r
   handed-as r e = sym reads.answer ∙ ap handed_count e
 
-  pub text-refused : (q : Refusal) → i.answer ≡ counted.Refused q → entered_text p m text ≡ refusal_line (number_of q) (place_of q)
+  pub text-refused : (q : Refusal) → i.answer ≡ Err q → entered_text p m text ≡ refusal_line (number_of q) (place_of q)
   unfolding entered_text
   text-refused q e =
-      ap (λ (h : Handed ℕ). or_line h (λ n. encode (sheet_with p m (table_of (rows_of (read_text text)))))) (handed-as (counted.Refused q) e)
+      ap (λ (h : Handed ℕ). or_line h (λ n. encode (sheet_with p m (table_of (rows_of (read_text text)))))) (handed-as (Err q) e)
       ∙ line_of {A = ℕ} 0 q (λ n. encode (sheet_with p m (table_of (rows_of (read_text text)))))
 
   pub table-few : i.table.n ≤ most_tasks
   table-few = let c = ap (λ (t : Table). t.n) reads.table in omega (arith, (lands text most_tasks).few)
 
-  pub text-taken : (n : ℕ) → i.answer ≡ counted.Count n → entered_text p m text ≡ encode (sheet_with p m i.table)
+  pub text-taken : (n : ℕ) → i.answer ≡ Ok n → entered_text p m text ≡ encode (sheet_with p m i.table)
   unfolding entered_text
   text-taken n e =
-      let h = handed-as (counted.Count n) e in
+      let h = handed-as (Ok n) e in
       let all = all-landed text most_tasks n h in
       ap (λ (h : Handed ℕ). or_line h (λ n. encode (sheet_with p m (table_of (rows_of (read_text text)))))) h
       ∙ ap (λ (t : Table). encode (sheet_with p m t)) (ap table_of (sym all) ∙ sym reads.table)
@@ -98,11 +96,11 @@ module _ (p m : ℕ) (t : Table) (few : t.n ≤ most_tasks) (old new : List ℕ)
   abbrev x : Sheet
   x = sheet_with p m t
 
-  pub unrefused : (q : Refusal) {B : Type 0} → Writes x old (counted.Refused q) new → B
+  pub unrefused : (q : Refusal) {B : Type 0} → Writes x old (Err q) new → B
   unfolding settings_fit results_fit
   unrefused q w = not-refused (length_of x) 0 q (sym (write-accepts x (length old) refl few refl (omega arith)) ∙ sym w.answer)
 
-  pub sheet-fronts : (k : ℕ) → Writes x old (counted.Count k) new → Fronts (encode x) old k new
+  pub sheet-fronts : (k : ℕ) → Writes x old (Ok k) new → Fronts (encode x) old k new
   sheet-fronts k w =
       let e = sym w.answer in
       let a = accepts x (length old) k e in

@@ -9,7 +9,7 @@ ghost use Rattle.refusal_line.specs.Fronts.{Fronts};
 ghost use Rattle.writer.specs.Encode.{encode};
 ghost use Rattle.office_sheet.specs.Written.{setting_of, sheet_with, entered, taken_table, taken_out};
 
-use kinds::{Counted, Granted, Policy, Refusal, Results, Settings, Sheet, Table, Verdict};
+use kinds::{Granted, Policy, Refusal, Results, Settings, Sheet, Table};
 use numeral::Numeral;
 
 // A number of the station settings, or none.
@@ -53,7 +53,7 @@ fn put_unfilled(policy: u16, m: u16, table: Table, out: &mut [u8]) -> usize
         table,
         results,
     };
-    let Counted::Count(k) = writer::write(x, out) else {
+    let Ok(k) = writer::write(x, out) else {
         return 0;
     };
     k
@@ -71,7 +71,7 @@ pub fn enter(policy: &[u8], processors: &[u8], text: &[u8], out: &mut [u8; sheet
     };
     let imported = office::import(text, Table::MOST_TASKS);
     let answer = imported.answer;
-    if let Counted::Refused(refusal) = answer {
+    if let Err(refusal) = answer {
         return refusal_line::put_refusal(out, refusal);
     }
     let table = imported.table;
@@ -83,8 +83,8 @@ fn put_text(table: Table, out: &mut [u8; office::LONGEST]) -> usize
     ensures { Fronts (taken_table table) out.old result out.new }
 {
     match office::export(table, out) {
-        Counted::Refused(refusal) => refusal_line::put_refusal(out, refusal),
-        Counted::Count(k) => k,
+        Err(refusal) => refusal_line::put_refusal(out, refusal),
+        Ok(k) => k,
     }
 }
 
@@ -95,8 +95,8 @@ pub fn take_out(bytes: &[u8], out: &mut [u8; office::LONGEST]) -> usize
     let reading = sheet::read(bytes);
     let verdict = reading.verdict;
     match verdict {
-        Verdict::Refused(refusal) => refusal_line::put_refusal(out, refusal),
-        Verdict::Accepted => {
+        Err(refusal) => refusal_line::put_refusal(out, refusal),
+        Ok(()) => {
             let x = reading.sheet;
             let table = x.table;
             put_text(table, out)

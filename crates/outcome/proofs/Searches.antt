@@ -1,15 +1,11 @@
 -- What the two finders share: what the search of an admitted call relies on, what its answer then is, and what a refused call leaves.
 -- Assumes nothing.
-use Rattle.ground.proofs.Kit.{ℕ, min, Bool, List, ◌≡◌, sym, ◌∙◌, ap, length}
-use Rattle.ground.specs.declared.Step.{Step}
-use Rattle.ground.specs.declared.Step.TheVariants.{Nothing}
+use Rattle.ground.specs.Least.{Step}
+use Rattle.ground.proofs.Kit.{ℕ, min, Bool, List, ◌≡◌, sym, ◌∙◌, ap, length, Ok, Err, None}
 use Rattle.kinds.specs.declared.Task.{Task}
 use Rattle.kinds.specs.declared.Settings.{Settings}
-use Rattle.kinds.specs.declared.Answer.{Answer}
 use Rattle.kinds.specs.declared.Refusal.{Refusal}
-use Rattle.kinds.specs.declared.Verdict.{Verdict}
-use Rattle.kinds.specs.declared.Verdict.TheVariants.{Accepted, Refused}
-use Rattle.kinds.specs.Answer.{handed}
+use Rattle.kinds.specs.Answer.{handed, Answer, Verdict}
 use Rattle.springs.specs.Handover.{Beside}
 use Rattle.springs.proofs.Blocks.{sprung-beside}
 use Rattle.policy.specs.Under.{least_under}
@@ -23,23 +19,23 @@ use Rattle.outcome.proofs.Found.{refused-sprung, refused-found, admitted-found, 
 
 module _ (serves : Bool) (s : Settings) (rows : List Task) (n room : ℕ) where
   -- a gate that refuses is the admission
-  pub gate-admission : {gate : Verdict} (r : Refusal) → gate ≡ gate_of serves s n room → gate ≡ Refused r → gate ≡ admission serves s rows n room
+  pub gate-admission : {gate : Verdict} (r : Refusal) → gate ≡ gate_of serves s n room → gate ≡ Err r → gate ≡ admission serves s rows n room
   gate-admission r is refused = refused ∙ refused-gate serves s rows n room r (sym is ∙ refused)
 
-  module _ (a : Verdict) (r : Refusal) (is : a ≡ admission serves s rows n room) (refused : a ≡ Refused r) (answer : Answer)
-      (e : handed answer ≡ decided a Nothing) where
+  module _ (a : Verdict) (r : Refusal) (is : a ≡ admission serves s rows n room) (refused : a ≡ Err r) (answer : Answer)
+      (e : handed answer ≡ decided a None) where
     -- an admission that refuses is found refused
     pub found-refused : handed answer ≡ found serves s rows n room
-    found-refused = e ∙ refused-found serves s rows n room a is r Nothing refused
+    found-refused = e ∙ refused-found serves s rows n room a is r None refused
 
     -- and leaves the outputs, of which the shorter has the room, as they are
     pub refused-meets : (periods processors : List ℕ) → room ≡ min (length periods) (length processors)
         → Meets (outcome serves s rows n periods processors) answer periods processors
     refused-meets periods processors shorter =
         meets-refused serves s rows n periods processors answer (found-refused ∙ ap (found serves s rows n) shorter)
-        (λ t. refused-sprung answer a Nothing r e refused t)
+        (λ t. refused-sprung answer a None r e refused t)
 
-  module _ (a : Verdict) (block : List ℕ) (x : AdmittedSprung serves s rows n room a block) (admits : a ≡ Accepted) where
+  module _ (a : Verdict) (block : List ℕ) (x : AdmittedSprung serves s rows n room a block) (admits : a ≡ (Ok tt)) where
     -- an admitted call may be searched
     pub may-search : Searchable s block n
     may-search =

@@ -4,8 +4,7 @@ use Rattle.std.specs.Prelude.{ℕ, ◌≤◌, Bool, true, List, ◌≡◌}
 use Rattle.ground.specs.Folds.{list_to}
 use Rattle.kinds.specs.declared.Task.{Task}
 use Rattle.kinds.specs.declared.Settings.{Settings}
-use Rattle.kinds.specs.declared.Answer.{Answer}
-use Rattle.kinds.specs.Answer.{Handed, after, handed, is_accepted, step_of}
+use Rattle.kinds.specs.Answer.{Handed, after, handed, is_accepted, step_of, Answer}
 use Rattle.kinds.specs.Limits.{most_processors}
 use Rattle.kinds.specs.Policy.{meant, Served}
 use Rattle.springs.specs.declared.Spring.{Spring}

@@ -13,27 +13,26 @@ ghost use Rattle.springs.specs.Handover.{Chargeable};
 ghost use Rattle.outcome.specs.Plan.{decided, processor_on};
 ghost use Rattle.outcome.specs.Handover.{Placeable, MayGrant, Leaves};
 
-use ground::Step;
-use kinds::{Answer, Refusal, Settings, Table, Verdict};
+use kinds::{Refusal, Settings, Table};
 use springs::Columns;
 
 // What an admission and the search for a step come to.
-pub fn decide(admission: Verdict, step: Step) -> Answer
+pub fn decide(admission: Result<(), Refusal>, step: Option<u32>) -> Result<u32, Refusal>
     ensures { handed result ≡ decided admission step }
 {
-    let Verdict::Refused(refusal) = admission else {
+    let Err(refusal) = admission else {
         return stepped(step);
     };
-    Answer::Refused(refusal)
+    Err(refusal)
 }
 
 // The answer of an admitted call.
-fn stepped(step: Step) -> Answer
-    ensures { handed result ≡ decided Verdict.Accepted step }
+fn stepped(step: Option<u32>) -> Result<u32, Refusal>
+    ensures { handed result ≡ decided (Ok tt) step }
 {
     match step {
-        Step::At(k) => Answer::Accepted(k),
-        Step::Nothing => Answer::Refused(Refusal::NoStepPasses),
+        Some(k) => Ok(k),
+        None => Err(Refusal::NoStepPasses),
     }
 }
 
@@ -80,7 +79,7 @@ fn processors_at(
 
 // Writes what an answer grants to the two lent outputs: an accepted plan, worked out of the springs in the block, or nothing.
 pub fn grant(
-    answer: Answer,
+    answer: Result<u32, Refusal>,
     settings: Settings,
     block: &mut [u32; Columns::ROOM],
     n: usize,
@@ -91,7 +90,7 @@ pub fn grant(
     ensures { Leaves (handed answer) settings (spring_in block.old) n periods.old processors.old
         periods.new processors.new }
 {
-    if let Answer::Accepted(k) = answer {
+    if let Ok(k) = answer {
         write_periods(settings.notch, block, n, k, periods);
         let placed = processors_at(settings, block, n, k);
         write_front(placed, n, processors);

@@ -1,9 +1,8 @@
 -- The search over a block of springs: under edition 1 it has come to step k, whose shares stand in the block; and of either edition it is the
 -- search that demand 2 asks for.
 -- Assumes nothing.
-use Rattle.ground.proofs.Kit.{ℕ, ◌+◌, ◌≤◌, ◌<◌, Bool, true, false, List, ◌≡◌, refl, sym, ◌∙◌, ap, arith, get_or}
-use Rattle.ground.specs.declared.Step.{Step}
-use Rattle.ground.specs.declared.Step.TheVariants.{At, Nothing}
+use Rattle.ground.specs.Least.{Step}
+use Rattle.ground.proofs.Kit.{ℕ, ◌+◌, ◌≤◌, ◌<◌, Bool, true, false, List, ◌≡◌, refl, sym, ◌∙◌, ap, arith, get_or, Some, None}
 use Rattle.ground.specs.Folds.{sum_to}
 use Rattle.ground.proofs.First.{first_more}
 use Rattle.ground.proofs.Folds.{max-cong}
@@ -74,7 +73,7 @@ module _ (p : Policy) (m : ℕ) (old : List ℕ) (n : ℕ) (s : Springy old n) w
     tested b e = e ∙ passes_same p m (load_in block) (shares_on (spring_in old) k) n w.are
 
     module _ (b : Bool) (e : b ≡ passing.passes p m (load_in block) n) where
-      pub stepped-here : b ≡ true → k ≤ full_in old n → Searched p m (shares_on (spring_in old)) n (At k) old block
+      pub stepped-here : b ≡ true → k ≤ full_in old n → Searched p m (shares_on (spring_in old)) n (Some k) old block
       unfolding least_step
       stepped-here t l = record { least = least-here (passes_at p m (shares_on (spring_in old)) n) _ k w.before l (sym (tested b e) ∙ t); beside = w.beside }
 
@@ -83,7 +82,7 @@ module _ (p : Policy) (m : ℕ) (old : List ℕ) (n : ℕ) (s : Springy old n) w
         failed : (j : ℕ) → j < k + 1 → passes_at p m (shares_on (spring_in old)) n j ≡ false
         failed = first_more (passes_at p m (shares_on (spring_in old)) n) 0 k w.before (sym (tested b e) ∙ t)
 
-        pub stepped-end : full_in old n ≤ k → Searched p m (shares_on (spring_in old)) n Nothing old block
+        pub stepped-end : full_in old n ≤ k → Searched p m (shares_on (spring_in old)) n None old block
         unfolding least_step
         stepped-end h = record { least = least-none (passes_at p m (shares_on (spring_in old)) n) _ (k + 1) failed (omega arith); beside = w.beside }
 

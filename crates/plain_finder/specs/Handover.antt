@@ -1,7 +1,7 @@
 -- What the search for a step over a block of springs hands on.
 -- Assumes nothing.
+use Rattle.ground.specs.Least.{Step}
 use Rattle.std.specs.Prelude.{ℕ, List, ◌≡◌}
-use Rattle.ground.specs.declared.Step.{Step}
 use Rattle.kinds.specs.declared.Policy.{Policy}
 use Rattle.springs.specs.Columns.{full_in}
 use Rattle.springs.specs.Handover.{Beside}

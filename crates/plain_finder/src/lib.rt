@@ -14,12 +14,11 @@ ghost use Rattle.outcome.specs.Plan.{found, outcome, Meets};
 ghost use Rattle.outcome.specs.Handover.{Searchable};
 ghost use Rattle.plain_finder.specs.Handover.{Searched};
 
-use ground::Step;
-use kinds::{Answer, Policy, Settings, Table, Verdict};
+use kinds::{Policy, Refusal, Settings, Table};
 use springs::Columns;
 
 // The periods and processors of the least passing step, written to the two lent outputs, or the refusal, which writes nothing.
-pub fn find(table: Table, settings: Settings, periods: &mut [u32], processors: &mut [u16]) -> Answer
+pub fn find(table: Table, settings: Settings, periods: &mut [u32], processors: &mut [u16]) -> Result<u32, Refusal>
     ensures { Meets (outcome true settings table.rows table.n periods.old processors.old) result
         periods.new processors.new }
 {
@@ -27,13 +26,13 @@ pub fn find(table: Table, settings: Settings, periods: &mut [u32], processors: &
     let room = ground::shorter(periods.len(), processors.len());
     let mut block = [0u32; Columns::ROOM];
     let gate = admission::gate_of(settings, true, n, room);
-    let Verdict::Accepted = gate else {
-        return outcome::decide(gate, Step::Nothing);
+    let Ok(()) = gate else {
+        return outcome::decide(gate, None);
     };
     let bad = springs::springs_of(table, settings.swap, settings.notch, &mut block);
     let admission = admission::judge(bad, n);
-    let Verdict::Accepted = admission else {
-        return outcome::decide(admission, Step::Nothing);
+    let Ok(()) = admission else {
+        return outcome::decide(admission, None);
     };
     let step = least_step(settings, &mut block, n);
     let answer = outcome::decide(admission, step);
@@ -42,25 +41,25 @@ pub fn find(table: Table, settings: Settings, periods: &mut [u32], processors: &
 }
 
 // The answer, for outputs of which the shorter has so much room.
-pub fn decide(table: Table, settings: Settings, room: usize) -> Answer
+pub fn decide(table: Table, settings: Settings, room: usize) -> Result<u32, Refusal>
     ensures { handed result ≡ found true settings table.rows table.n room }
 {
     let n = table.n;
     let mut block = [0u32; Columns::ROOM];
     let gate = admission::gate_of(settings, true, n, room);
-    let Verdict::Accepted = gate else {
-        return outcome::decide(gate, Step::Nothing);
+    let Ok(()) = gate else {
+        return outcome::decide(gate, None);
     };
     let bad = springs::springs_of(table, settings.swap, settings.notch, &mut block);
     let admission = admission::judge(bad, n);
-    let Verdict::Accepted = admission else {
-        return outcome::decide(admission, Step::Nothing);
+    let Ok(()) = admission else {
+        return outcome::decide(admission, None);
     };
     outcome::decide(admission, least_step(settings, &mut block, n))
 }
 
 // The least step from 0 to full compression that passes on the loads of the settings' edition.
-fn least_step(settings: Settings, block: &mut [u32; Columns::ROOM], n: usize) -> Step
+fn least_step(settings: Settings, block: &mut [u32; Columns::ROOM], n: usize) -> Option<u32>
     requires { Searchable settings block.old n }
     ensures { Searched (meant settings.policy) settings.m (loads_on settings (spring_in block.old)) n result
         block.old block.new }
@@ -80,7 +79,7 @@ fn least_charged(
     notch: u16,
     block: &mut [u32; Columns::ROOM],
     n: usize,
-) -> Step
+) -> Option<u32>
     requires { Chargeable notch block.old n × (1 ≤ m) × (m ≤ most_processors) × Served policy }
     ensures { Searched policy m (charges_on notch (spring_in block.old)) n result block.old block.new }
 {
@@ -88,17 +87,17 @@ fn least_charged(
     let mut step: u32 = 0;
     loop {
         if policy::passes_charged(policy, m, notch, block, n, step) {
-            return Step::At(step);
+            return Some(step);
         }
         if last <= step {
-            return Step::Nothing;
+            return None;
         }
         step += 1;
     }
 }
 
 // Edition 1: the least step that passes on the shares, which are let down from step to step.
-fn least_shared(policy: Policy, m: u16, block: &mut [u32; Columns::ROOM], n: usize) -> Step
+fn least_shared(policy: Policy, m: u16, block: &mut [u32; Columns::ROOM], n: usize) -> Option<u32>
     requires { Springy block.old n × (1 ≤ m) × (m ≤ most_processors) × Served policy }
     ensures { Searched policy m (shares_on (spring_in block.old)) n result block.old block.new }
 {
@@ -108,10 +107,10 @@ fn least_shared(policy: Policy, m: u16, block: &mut [u32; Columns::ROOM], n: usi
     let mut k: u32 = 0;
     loop {
         if policy::passes_summed(policy, m, block, n, sum, most) {
-            return Step::At(k);
+            return Some(k);
         }
         if full <= k {
-            return Step::Nothing;
+            return None;
         }
         sum = springs::next_shares(block, n);
         k += 1;

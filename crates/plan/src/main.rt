@@ -4,7 +4,7 @@
 #![tactic(auto)]
 
 use fill::SheetPlan;
-use kinds::{Answer, Counted, Granted, Refusal, Results, Settings, Sheet, Table};
+use kinds::{Granted, Refusal, Results, Settings, Sheet, Table};
 use loosen::fields;
 use office_sheet::Setting;
 use std::io;
@@ -93,15 +93,15 @@ fn given(rt: HostRuntime) -> usize {
 fn put_sheet(x: Sheet, out: &mut [u8]) -> usize {
     let written = writer::write(x, out);
     match written {
-        Counted::Count(k) => k,
-        Counted::Refused(_) => 0,
+        Ok(k) => k,
+        Err(_) => 0,
     }
 }
 
 // Puts a plan as it is asked for; why there is none is put for people to read.
 fn put_planned(plan: SheetPlan, form: Form, names: &[u8; ROOM], out: &mut [u8]) -> usize {
     let answer = plan.answer;
-    if let Answer::Refused(_) = answer {
+    if let Err(_) = answer {
         return view_text::put_plan(plan, names, out);
     }
     match form {
@@ -121,7 +121,7 @@ fn put_table(
 ) -> usize {
     let imported = office::import(exact, Table::MOST_TASKS);
     let answer = imported.answer;
-    if let Counted::Refused(refusal) = answer {
+    if let Err(refusal) = answer {
         return view_text::put_line(refusal, out);
     }
     let plan = fill::fill_sheet(unfilled(settings, imported.table, given(rt)));
@@ -140,7 +140,7 @@ fn put_asked(rt: HostRuntime, exact: &[u8], names: &[u8; ROOM], out: &mut [u8]) 
 // Puts what a text comes to as it was given: through its exact text, or by itself where it has none.
 fn put_tidy_plan(rt: HostRuntime, given: &[u8], names: &[u8; ROOM], out: &mut [u8]) -> usize {
     let mut exact = [0u8; office::LONGEST];
-    let Counted::Count(k) = tidy::tidied(given, &mut exact) else {
+    let Ok(k) = tidy::tidied(given, &mut exact) else {
         return put_asked(rt, given, names, out);
     };
     put_asked(rt, &exact[..k], names, out)

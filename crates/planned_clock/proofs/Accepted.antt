@@ -1,14 +1,12 @@
 -- The periods of an accepted plan start a clock: no start refuses them.
 -- Assumes nothing.
-use Rattle.ground.proofs.Kit.{ℕ, ◌≤◌, ◌<◌, min, Bool, true, false, List, ◌++◌, ◌≡◌, refl, sym, ◌∙◌, ap, arith, length, take, drop, ne_eqb}
+use Rattle.ground.proofs.Kit.{ℕ, ◌≤◌, ◌<◌, min, Bool, true, false, List, ◌++◌, ◌≡◌, refl, sym, ◌∙◌, ap, arith, length, take, drop, ne_eqb, Ok, Err}
 use lib.Seq.{take_at}
 use Rattle.ground.proofs.Cases.{true-false}
 use Rattle.ground.proofs.Buffer.{list-long, list-in}
 use Rattle.kinds.specs.declared.Task.{Task}
 use Rattle.kinds.specs.declared.Settings.{Settings}
-use Rattle.kinds.specs.declared.Answer.{Answer}
-use Rattle.kinds.specs.declared.Answer.TheVariants.{Accepted, Refused}
-use Rattle.kinds.specs.Answer.{Handed, accepted, handed, is_accepted}
+use Rattle.kinds.specs.Answer.{Handed, accepted, handed, is_accepted, Answer}
 use Rattle.kinds.specs.Task.{at}
 use Rattle.kinds.proofs.Refusals.{refusal-numbered}
 use Rattle.share.specs.Share.{period_at}
@@ -58,19 +56,19 @@ module _ (serves : Bool) (s : Settings) (rows : List Task) (n room k : ℕ) (e :
 -- what the function hands over: the finder's answer, with the outputs as it left them
 module _ (s : Settings) (rows : List Task) (n : ℕ) (old old' : List ℕ) where
   -- an accepted answer was found
-  as-found : (k : ℕ) (new new' : List ℕ) → Meets (outcome true s rows n old old') (Accepted k) new new'
+  as-found : (k : ℕ) (new new' : List ℕ) → Meets (outcome true s rows n old old') (Ok k) new new'
       → accepted k ≡ found true s rows n (min (length old) (length old'))
   unfolding outcome
   as-found k new new' m = m.answers
 
   pub roomy : (plan : Answer) (new new' : List ℕ) → Meets (outcome true s rows n old old') plan new new'
       → is_accepted plan ≡ true → length new ≡ length old → n ≤ length new
-  roomy (Accepted k) new new' m a l =
+  roomy (Ok k) new new' m a l =
       omega (arith, l, (accepting true s rows n (min (length old) (length old')) k (as-found k new new' m)).ready.passed.roomy)
-  roomy (Refused r) new new' m a l = true-false a refl
+  roomy (Err r) new new' m a l = true-false a refl
 
   -- the periods of the plan stand in front
-  in-front : (k : ℕ) (new new' : List ℕ) → Meets (outcome true s rows n old old') (Accepted k) new new' → take n new ≡ periods_under s rows n k
+  in-front : (k : ℕ) (new new' : List ℕ) → Meets (outcome true s rows n old old') (Ok k) new new' → take n new ≡ periods_under s rows n k
   unfolding outcome
   in-front k new new' m =
       let e : new ≡ periods_under s rows n k ++ drop n old = rw (← m.answers) at m.grants in
@@ -79,7 +77,7 @@ module _ (s : Settings) (rows : List Task) (n : ℕ) (old old' : List ℕ) where
   pub planned-well : (tick : ℕ) (plan : Answer) (new new' : List ℕ) (begun : Started) → Meets (outcome true s rows n old old') plan new new'
       → is_accepted plan ≡ true → handed_start begun ≡ started (take n new) tick
       → PlanIs (outcome true s rows n old old') s rows n tick (record { plan = plan; clock = begun.clock }) new new'
-  planned-well tick (Accepted k) new new' begun m a e =
+  planned-well tick (Ok k) new new' begun m a e =
       let g : handed_start begun ≡ accepted (clock_from (periods_under s rows n k) tick) =
       e ∙ (ap (λ (x : List ℕ). started x tick) (in-front k new new' m)
       ∙ accepted-starts true s rows n (min (length old) (length old')) k (as-found k new new' m) tick) in
@@ -87,14 +85,14 @@ module _ (s : Settings) (rows : List Task) (n : ℕ) (old old' : List ℕ) where
         plans = m;
         starts = clock-is begun ∙ (ap (λ (h : Handed Clock). h.value) g ∙ ap (λ (h : Handed ℕ). clock_of h s rows n tick) m.answers);
       }
-  planned-well tick (Refused r) new new' begun m a e = true-false a refl
+  planned-well tick (Err r) new new' begun m a e = true-false a refl
 
   pub planned-none : (tick : ℕ) (plan : Answer) (new new' : List ℕ) (c : Clock) → Meets (outcome true s rows n old old') plan new new'
       → is_accepted plan ≡ false → c ≡ no_clock
       → PlanIs (outcome true s rows n old old') s rows n tick (record { plan = plan; clock = c }) new new'
-  planned-none tick (Accepted k) new new' c m a e = true-false refl a
-  planned-none tick (Refused r) new new' c m a e =
-      let d : no_clock ≡ clock_of (handed (Refused r)) s rows n tick = rw (ne_eqb (handed (Refused r)).number 0 (λ z. omega (arith, refusal-numbered r))) in
+  planned-none tick (Ok k) new new' c m a e = true-false refl a
+  planned-none tick (Err r) new new' c m a e =
+      let d : no_clock ≡ clock_of (handed (Err r)) s rows n tick = rw (ne_eqb (handed (Err r)).number 0 (λ z. omega (arith, refusal-numbered r))) in
       record { plans = m; starts = e ∙ (d ∙ ap (λ (h : Handed ℕ). clock_of h s rows n tick) m.answers) }
 
 -- no second plan, nor a second clock, nor a second content of either output

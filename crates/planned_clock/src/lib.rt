@@ -7,12 +7,12 @@ ghost use Rattle.outcome.specs.Plan.{outcome};
 ghost use Rattle.planned_clock.specs.ClockPlan.{PlanIs};
 
 use clock::Clock;
-use kinds::{Answer, Settings, Table};
+use kinds::{Refusal, Settings, Table};
 
 // What the plain finder answers, and the clock: of zeros where it refuses.
 #[derive(Clone, Copy)]
 pub struct Planned {
-    pub plan: Answer,
+    pub plan: Result<u32, Refusal>,
     pub clock: Clock,
 }
 
@@ -30,13 +30,11 @@ pub fn start_plan(
 {
     let n = table.n;
     let plan = plain_finder::find(table, settings, periods, processors);
-    if plan.accepted() {
-        let started = clock::start(&periods[..n], tick);
-        let clock = started.clock;
+    let Ok(_) = plan else {
+        let clock = clock::no_clock();
         return Planned { plan, clock };
-    }
-    Planned {
-        plan,
-        clock: clock::no_clock(),
-    }
+    };
+    let started = clock::start(&periods[..n], tick);
+    let clock = started.clock;
+    Planned { plan, clock }
 }

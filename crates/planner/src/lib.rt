@@ -7,7 +7,7 @@ ghost use Rattle.kinds.specs.Limits.{scale, most_tasks, most_processors};
 ghost use Rattle.fit.specs.Handover.{Loads};
 ghost use Rattle.planner.specs.Handover.{WithRoom};
 
-use kinds::{Settings, Share, Table, Verdict};
+use kinds::{Settings, Share, Table};
 use springs::Columns;
 
 // The heavier of two tasks, the first where they are as heavy. Loads stand first in a block.
@@ -94,7 +94,7 @@ pub fn propose(table: Table, settings: Settings, step: u32) -> [u16; Table::MOST
     let m = settings.m as usize;
     let mut block = [0u32; Columns::ROOM];
     let admission = proposal::admit(table, settings, step, n, m, &mut block);
-    let Verdict::Accepted = admission else {
+    let Ok(()) = admission else {
         return [0u16; Table::MOST_TASKS];
     };
     let trial = fit::first_fit(&block, n, m);

@@ -1,9 +1,8 @@
 -- What the admission of a proposal has checked, and the loads that it leaves.
 -- Assumes nothing.
-use Rattle.ground.proofs.Kit.{ℕ, ◌≤◌, List, ◌≡◌, ◌∙◌, ltb-false}
+use Rattle.ground.proofs.Kit.{ℕ, ◌≤◌, List, ◌≡◌, ◌∙◌, ltb-false, Ok}
 use Rattle.kinds.specs.declared.Task.{Task}
 use Rattle.kinds.specs.declared.Settings.{Settings}
-use Rattle.kinds.specs.declared.Verdict.TheVariants.{Accepted}
 use Rattle.share.specs.Table.{first_bad}
 use Rattle.share.proofs.Tables.{all-good, all-on}
 use Rattle.springs.specs.Spring.{loads_on}
@@ -24,7 +23,7 @@ pub record Passed (s : Settings) (n proposed room : ℕ) : Type 0 where
   pub entries : n ≤ proposed
   pub roomy : s.m ≤ room
 
-pub gate-passed : (s : Settings) (n proposed room : ℕ) → gate_of s n proposed room ≡ Accepted → Passed s n proposed room
+pub gate-passed : (s : Settings) (n proposed room : ℕ) → gate_of s n proposed room ≡ (Ok tt) → Passed s n proposed room
 gate-passed s n proposed room e =
     let last = and_then (roomy n proposed) (roomy s.m room) in
     let set = then-admitted (gate (misset_numbers s) n) last e in
@@ -43,7 +42,7 @@ pub record Ready (s : Settings) (rows : List Task) (n proposed room : ℕ) : Typ
   pub passed : Passed s n proposed room
   pub none-bad : n ≤ first_bad s.swap s.notch rows n
 
-pub admitted : (s : Settings) (rows : List Task) (n proposed room : ℕ) → admission s rows n proposed room ≡ Accepted → Ready s rows n proposed room
+pub admitted : (s : Settings) (rows : List Task) (n proposed room : ℕ) → admission s rows n proposed room ≡ (Ok tt) → Ready s rows n proposed room
 unfolding admission
 admitted s rows n proposed room e =
     let a = then-admitted (gate_of s n proposed room) (records_good s.swap s.notch rows n) e in

@@ -1,10 +1,9 @@
 -- What the functions of the checker and a planner hand each other.
 -- Assumes nothing.
-use Rattle.std.specs.Prelude.{ℕ, ◌+◌, ◌≤◌, ◌<◌, List, ◌≡◌, length, get_or}
+use Rattle.kinds.specs.Answer.{Verdict}
+use Rattle.std.specs.Prelude.{ℕ, ◌+◌, ◌≤◌, ◌<◌, List, ◌≡◌, length, get_or, Ok}
 use Rattle.kinds.specs.declared.Task.{Task}
 use Rattle.kinds.specs.declared.Settings.{Settings}
-use Rattle.kinds.specs.declared.Verdict.{Verdict}
-use Rattle.kinds.specs.declared.Verdict.TheVariants.{Accepted}
 use Rattle.kinds.specs.Limits.{most_processors}
 use Rattle.springs.specs.Handover.{Roomy}
 use Rattle.fit.specs.Fit.{load_in}
@@ -23,7 +22,7 @@ pub record LoadsOf (s : Settings) (rows : List Task) (n k : ℕ) (block : List �
 -- the admission, and where it admits the loads of the tasks
 pub record AdmittedLoaded (s : Settings) (rows : List Task) (n k proposed room : ℕ) (a : Verdict) (block : List ℕ) : Type 0 where
   pub is : a ≡ admission s rows n proposed room
-  pub loads : a ≡ Accepted → LoadsOf s rows n k block
+  pub loads : a ≡ (Ok tt) → LoadsOf s rows n k block
 
 -- what the loading relies on: loads of n tasks, and for each of them a processor that there can be
 pub record Loadable (block : List ℕ) (n : ℕ) (proposal : List ℕ) : Type 0 where

@@ -12,11 +12,11 @@ ghost use Rattle.proposal.specs.Loads.{is_out_of_range, first_out_of_range, is_o
 ghost use Rattle.proposal.specs.Proposal.{place_in, gate_of, outcome, Meets};
 ghost use Rattle.proposal.specs.Handover.{AdmittedLoaded, Loadable, LoadsAre};
 
-use kinds::{Refusal, Settings, Share, Table, Verdict};
+use kinds::{Refusal, Settings, Share, Table};
 use springs::Columns;
 
 // Refusals 2, 3 and 5 of a call on n tasks, for a proposal of so many entries and an output with so much room.
-fn gate_of(settings: Settings, n: usize, proposed: usize, room: usize) -> Verdict
+fn gate_of(settings: Settings, n: usize, proposed: usize, room: usize) -> Result<(), Refusal>
     ensures { result ≡ gate_of settings n proposed room }
 {
     let entries = admission::roomy(n, proposed);
@@ -35,18 +35,18 @@ pub fn admit(
     proposed: usize,
     room: usize,
     block: &mut [u32; Columns::ROOM],
-) -> Verdict
+) -> Result<(), Refusal>
     requires { Roomy block.old }
     ensures { AdmittedLoaded settings table.rows table.n step proposed room result block.new }
 {
     let n = table.n;
     let gate = gate_of(settings, n, proposed, room);
-    let Verdict::Accepted = gate else {
+    let Ok(()) = gate else {
         return gate;
     };
     let bad = springs::springs_of(table, settings.swap, settings.notch, block);
     let judged = admission::judge(bad, n);
-    let Verdict::Accepted = judged else {
+    let Ok(()) = judged else {
         return judged;
     };
     springs::loads_at(settings, block, n, step);
@@ -127,7 +127,7 @@ pub fn check(
     step: u32,
     proposal: &[u16],
     loads: &mut [u32],
-) -> Verdict
+) -> Result<(), Refusal>
     ensures { Meets (outcome settings table.rows table.n step proposal.now loads.old) result loads.new }
 {
     let n = table.n;
@@ -141,20 +141,20 @@ pub fn check(
         loads.len(),
         &mut block,
     );
-    let Verdict::Accepted = admission else {
+    let Ok(()) = admission else {
         return admission;
     };
     let first = first_out_of_range(proposal, n, m);
     if first < n {
-        return Verdict::Refused(Refusal::ProcessorOutOfRange(first));
+        return Err(Refusal::ProcessorOutOfRange(first));
     }
     let held = loads_of(&block, proposal, n);
     let processors = m as usize;
     let below = before_overfull(held, processors);
     if below < processors {
         let lowest = below + 1;
-        return Verdict::Refused(Refusal::ProcessorOverfull(lowest));
+        return Err(Refusal::ProcessorOverfull(lowest));
     }
     write_front(held, processors, loads);
-    Verdict::Accepted
+    Ok(())
 }

@@ -1,7 +1,6 @@
 -- The loop of the quick finder, over the state that it carries.
 -- Assumes nothing.
-use Rattle.ground.proofs.Kit.{ℕ, ◌+◌, ◌-◌, ◌≤◌, ◌<◌, true, false, ◌≡◌, sym, ◌∙◌, arith, eq-eqb, ne_eqb}
-use Rattle.ground.specs.declared.Step.TheVariants.{At, Nothing}
+use Rattle.ground.proofs.Kit.{ℕ, ◌+◌, ◌-◌, ◌≤◌, ◌<◌, true, false, ◌≡◌, sym, ◌∙◌, arith, eq-eqb, ne_eqb, Some, None}
 use Rattle.kinds.specs.Limits.{most_tasks}
 use Rattle.policy.specs.declared.Weights.{Weights}
 use Rattle.policy.specs.Weighed.{weighed_at}
@@ -37,7 +36,7 @@ module _ (w : Weights) (springs : ℕ → Spring) (n : ℕ) where
     once : after.looks ≡ 1
     once = omega (arith, o.count)
 
-    pub first_passes : after.passed ≡ true → SearchEnds (weighed_at w springs n) (saturations springs) n (record { step = At 0; looks = after.looks })
+    pub first_passes : after.passed ≡ true → SearchEnds (weighed_at w springs n) (saturations springs) n (record { step = Some 0; looks = after.looks })
     first_passes t = ends-at-zero w springs n after.looks once (sym (rw at_zero at o.tested) ∙ t)
 
     pub first-fails : (due : ℕ) → after.passed ≡ false → due ≡ next_to (saturations springs) 0 n → Standing w springs n after due
@@ -49,7 +48,7 @@ module _ (w : Weights) (springs : ℕ → Spring) (n : ℕ) where
 
   -- no further look is due
   pub none-due : (s : Search) (due : ℕ) → Standing w springs n s due → due ≡ 0
-      → SearchEnds (weighed_at w springs n) (saturations springs) n (record { step = Nothing; looks = s.looks })
+      → SearchEnds (weighed_at w springs n) (saturations springs) n (record { step = None; looks = s.looks })
   none-due s due k z = ends_nowhere w springs n s.step s.looks k.failed (next-none (saturations springs) s.step n (sym k.next ∙ z))
 
   module _ (before : Search) (due : ℕ) (k : Standing w springs n before due) (h : due ≡ 0 → ⊥) where
@@ -78,7 +77,7 @@ module _ (w : Weights) (springs : ℕ → Spring) (n : ℕ) where
       stretch = rw (o.from, at-due) ahead
 
       pub next-passes : (step : ℕ) → after.passed ≡ true → step ≡ divided w springs n after.from after.step
-          → SearchEnds (weighed_at w springs n) (saturations springs) n (record { step = At step; looks = after.looks })
+          → SearchEnds (weighed_at w springs n) (saturations springs) n (record { step = Some step; looks = after.looks })
       next-passes step t e =
           rw (e, o.from, at-due, o.count)
           (ends-divided w springs n before.step before.looks k.failed due ahead (sym (rw at-due at o.tested) ∙ t))

@@ -1,12 +1,10 @@
 -- The search on the springs of a table is the search that demand 2 asks for, under each policy that is weighed and each edition.
 -- Assumes nothing.
-use Rattle.ground.proofs.Kit.{ℕ, ◌≤◌, min, true, false, List, ◌≡◌, refl, sym, ◌∙◌, ap, arith, length}
-use Rattle.ground.specs.declared.Step.{Step}
-use Rattle.ground.specs.declared.Step.TheVariants.{Nothing}
+use Rattle.ground.proofs.Kit.{ℕ, ◌≤◌, min, true, false, List, ◌≡◌, refl, sym, ◌∙◌, ap, arith, length, Ok, Err, None}
 use Rattle.ground.specs.declared.Ended.{Ended}
 use Rattle.ground.specs.Folds.{max_to}
 use Rattle.ground.specs.Halving.{tests_made}
-use Rattle.ground.specs.Least.{least_up_to}
+use Rattle.ground.specs.Least.{least_up_to, Step}
 use Rattle.ground.proofs.Cases.{by_bool}
 use Rattle.ground.proofs.Folds.{max-cong}
 use Rattle.ground.proofs.Halving.{made-cong}
@@ -15,9 +13,7 @@ use Rattle.kinds.specs.declared.Task.{Task}
 use Rattle.kinds.specs.declared.Policy.{Policy}
 use Rattle.kinds.specs.declared.Settings.{Settings}
 use Rattle.kinds.specs.declared.Refusal.{Refusal}
-use Rattle.kinds.specs.declared.Verdict as verdict
-use Rattle.kinds.specs.declared.Answer.{Answer}
-use Rattle.kinds.specs.Answer.{handed}
+use Rattle.kinds.specs.Answer.{handed, Verdict, Answer}
 use Rattle.kinds.specs.Policy.{is_weighed, meant}
 use Rattle.kinds.specs.Settings.{tests_charge}
 use Rattle.kinds.specs.Task.{at}
@@ -115,18 +111,18 @@ module _ (s : Settings) (rows : List Task) (n : ℕ) (block : List ℕ) (w : Spr
   least-found r h = by_bool (tests_charge s) (λ e. second-found r e (h.second e)) (λ e. first_found r e (h.first e))
 
 -- the looks of a call, as the code has them
-module _ (s : Settings) (rows : List Task) (n room : ℕ) (a : verdict.Verdict) (is : a ≡ admission false s rows n room) where
-  pub no-looks : {r : _} → a ≡ verdict.TheVariants.Refused r → 0 ≡ looks s rows n room
+module _ (s : Settings) (rows : List Task) (n room : ℕ) (a : Verdict) (is : a ≡ admission false s rows n room) where
+  pub no-looks : {r : _} → a ≡ Err r → 0 ≡ looks s rows n room
   unfolding looks
   no-looks e = rw (← is, e)
 
-  pub some_looks : (k : ℕ) → a ≡ verdict.TheVariants.Accepted → k ≡ looks_under s rows n → k ≡ looks s rows n room
+  pub some_looks : (k : ℕ) → a ≡ (Ok tt) → k ≡ looks_under s rows n → k ≡ looks s rows n room
   unfolding looks
   some_looks k e q = rw (← is, e) q
 
 -- a refused call makes no look, and leaves the outputs as they are
-pub refused-looked : (s : Settings) (rows : List Task) (n room : ℕ) (a : verdict.Verdict) {r : Refusal} → a ≡ admission false s rows n room
-    → a ≡ verdict.TheVariants.Refused r → (looked : Looked) → (handed looked.answer ≡ decided a Nothing) × (looked.looks ≡ 0)
+pub refused-looked : (s : Settings) (rows : List Task) (n room : ℕ) (a : Verdict) {r : Refusal} → a ≡ admission false s rows n room
+    → a ≡ Err r → (looked : Looked) → (handed looked.answer ≡ decided a None) × (looked.looks ≡ 0)
     → (periods processors : List ℕ) → room ≡ min (length periods) (length processors)
     → MeetsLooked s rows n periods processors looked periods processors
 refused-looked s rows n room a {r} is refused looked e periods processors shorter =
@@ -137,8 +133,8 @@ refused-looked s rows n room a {r} is refused looked e periods processors shorte
     }
 
 -- an admitted one's answer and looks are those of demand 3, and of an acceptance the springs still stand there
-pub found-looked : (s : Settings) (rows : List Task) (n room : ℕ) (a : verdict.Verdict) (old new : List ℕ) → AdmittedSprung false s rows n room a old
-    → a ≡ verdict.TheVariants.Accepted → (r : Ended) → SearchUnder s old n r × Beside old new → (answer : Answer) → handed answer ≡ decided a r.step
+pub found-looked : (s : Settings) (rows : List Task) (n room : ℕ) (a : Verdict) (old new : List ℕ) → AdmittedSprung false s rows n room a old
+    → a ≡ (Ok tt) → (r : Ended) → SearchUnder s old n r × Beside old new → (answer : Answer) → handed answer ≡ decided a r.step
     → LookedSprung s rows n room answer r.looks new
 found-looked s rows n room a old new x admits r h answer e =
     let passed = (opened false s rows n room a old x admits).ready.passed in
@@ -149,9 +145,9 @@ found-looked s rows n room a old new x admits r h answer e =
     }
 
 -- demand 3: at most tasks + 1; Ask 10: "never over 20" under edition 2
-after-few : (a : verdict.Verdict) (k most : ℕ) → (a ≡ verdict.TheVariants.Accepted → k ≤ most) → looks_after a k ≤ most
-after-few verdict.TheVariants.Accepted k most h = h refl
-after-few (verdict.TheVariants.Refused r) k most h = omega arith
+after-few : (a : Verdict) (k most : ℕ) → (a ≡ (Ok tt) → k ≤ most) → looks_after a k ≤ most
+after-few (Ok _) k most h = h refl
+after-few (Err r) k most h = omega arith
 
 pub looks-few : (s : Settings) (rows : List Task) (n room : ℕ) → looks s rows n room ≤ most_looks s n
 unfolding looks

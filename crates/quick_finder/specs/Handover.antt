@@ -1,12 +1,12 @@
 -- What the functions of the quick finder hand each other.
 -- Assumes nothing.
+use Rattle.kinds.specs.Answer.{Answer}
 use Rattle.std.specs.Prelude.{ℕ, Bool, true, false, List, ◌≡◌}
 use Rattle.ground.specs.declared.Ended.{Ended}
 use Rattle.ground.specs.Folds.{max_to}
 use Rattle.ground.specs.Least.{least_up_to}
 use Rattle.kinds.specs.declared.Task.{Task}
 use Rattle.kinds.specs.declared.Settings.{Settings}
-use Rattle.kinds.specs.declared.Answer.{Answer}
 use Rattle.kinds.specs.Policy.{meant}
 use Rattle.kinds.specs.Settings.{tests_charge}
 use Rattle.springs.specs.Spring.{saturations}

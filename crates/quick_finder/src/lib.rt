@@ -17,15 +17,15 @@ ghost use Rattle.outcome.specs.Handover.{Searchable};
 ghost use Rattle.quick_finder.specs.Handover.{SearchEnds, SearchUnder};
 ghost use Rattle.quick_finder.specs.Looked.{MeetsLooked};
 
-use ground::{Ended, Step};
-use kinds::{Answer, Settings, Table, Verdict};
+use ground::Ended;
+use kinds::{Refusal, Settings, Table};
 use policy::Weights;
 use springs::Columns;
 
 // What the quick finder answers, and the looks that it made.
 #[derive(Clone, Copy)]
 pub struct Looked {
-    pub answer: Answer,
+    pub answer: Result<u32, Refusal>,
     pub looks: u32,
 }
 
@@ -49,12 +49,12 @@ pub fn find(table: Table, settings: Settings, periods: &mut [u32], processors: &
     let room = ground::shorter(periods.len(), processors.len());
     let mut block = [0u32; Columns::ROOM];
     let gate = admission::gate_of(settings, false, n, room);
-    let Verdict::Accepted = gate else {
+    let Ok(()) = gate else {
         return refused(gate);
     };
     let bad = springs::springs_of(table, settings.swap, settings.notch, &mut block);
     let admission = admission::judge(bad, n);
-    let Verdict::Accepted = admission else {
+    let Ok(()) = admission else {
         return refused(admission);
     };
     let ended = search_under(settings, &mut block, n);
@@ -68,19 +68,19 @@ pub fn find(table: Table, settings: Settings, periods: &mut [u32], processors: &
 }
 
 // The answer, for outputs of which the shorter has so much room.
-pub fn decide(table: Table, settings: Settings, room: usize) -> Answer
+pub fn decide(table: Table, settings: Settings, room: usize) -> Result<u32, Refusal>
     ensures { handed result ≡ found false settings table.rows table.n room }
 {
     let n = table.n;
     let mut block = [0u32; Columns::ROOM];
     let gate = admission::gate_of(settings, false, n, room);
-    let Verdict::Accepted = gate else {
-        return outcome::decide(gate, Step::Nothing);
+    let Ok(()) = gate else {
+        return outcome::decide(gate, None);
     };
     let bad = springs::springs_of(table, settings.swap, settings.notch, &mut block);
     let admission = admission::judge(bad, n);
-    let Verdict::Accepted = admission else {
-        return outcome::decide(admission, Step::Nothing);
+    let Ok(()) = admission else {
+        return outcome::decide(admission, None);
     };
     let ended = search_under(settings, &mut block, n);
     let step = ended.step;
@@ -88,12 +88,12 @@ pub fn decide(table: Table, settings: Settings, room: usize) -> Answer
 }
 
 // What a verdict that refuses the call comes to. No look is made.
-fn refused(verdict: Verdict) -> Looked
-    ensures { (handed result.answer ≡ decided verdict Step.Nothing) × (result.looks ≡ 0) }
+fn refused(verdict: Result<(), Refusal>) -> Looked
+    ensures { (handed result.answer ≡ decided verdict None) × (result.looks ≡ 0) }
 {
     let looks = 0;
     Looked {
-        answer: outcome::decide(verdict, Step::Nothing),
+        answer: outcome::decide(verdict, None),
         looks,
     }
 }
@@ -144,7 +144,7 @@ fn search_columns(w: Weights, block: &[u32; Columns::ROOM], n: usize) -> Ended
     let mut search = look(w, block, n, start, 0);
     if search.passed {
         return Ended {
-            step: Step::At(0),
+            step: Some(0),
             looks: search.looks,
         };
     }
@@ -155,14 +155,14 @@ fn search_columns(w: Weights, block: &[u32; Columns::ROOM], n: usize) -> Ended
         if search.passed {
             let step = division::divide(w, block, n, search.from, search.step, sum);
             return Ended {
-                step: Step::At(step),
+                step: Some(step),
                 looks: search.looks,
             };
         }
         due = division::next_due(block, n, search.step);
     }
     Ended {
-        step: Step::Nothing,
+        step: None,
         looks: search.looks,
     }
 }

@@ -2,7 +2,7 @@
 -- `nothing-told`; each refusal is given exactly when its sentence holds, `relief-exactly`; no second answer fits, `no-second-relief`; and the
 -- call depends on the first n records only, `relieved-same`.
 -- Assumes nothing.
-use Rattle.ground.proofs.Kit.{ℕ, ◌-◌, ◌≤◌, ◌<◌, Bool, true, false, not, List, [], ◌∷◌, ◌++◌, ◌≡◌, refl, sym, ◌∙◌, ap, arith, ltb}
+use Rattle.ground.proofs.Kit.{ℕ, ◌-◌, ◌≤◌, ◌<◌, Bool, true, false, not, List, [], ◌∷◌, ◌++◌, ◌≡◌, refl, sym, ◌∙◌, ap, arith, ltb, Ok, Err}
 use Rattle.ground.proofs.Kit.{length, get_or, drop}
 use Rattle.ground.specs.Choice.{both}
 use Rattle.ground.specs.Folds.{list_to}
@@ -13,10 +13,7 @@ use Rattle.kinds.specs.declared.Task.{Task}
 use Rattle.kinds.specs.declared.Settings.{Settings}
 use Rattle.kinds.specs.declared.Refusal.{Refusal}
 use Rattle.kinds.specs.declared.Refusal.TheVariants.{TooManyTasks, PolicyNotServed, OutputTooShort}
-use Rattle.kinds.specs.declared.Answer.{Answer}
-use Rattle.kinds.specs.declared.Verdict.{Verdict}
-use Rattle.kinds.specs.declared.Verdict.TheVariants.{Accepted, Refused}
-use Rattle.kinds.specs.Answer.{handed, handed_verdict}
+use Rattle.kinds.specs.Answer.{handed, handed_verdict, Answer, Verdict}
 use Rattle.kinds.specs.Chain.{Check, ◌when◌, first_of, Exactly, numbers_given}
 use Rattle.kinds.specs.Limits.{most_tasks, most_processors}
 use Rattle.kinds.specs.Policy.{meant, is_first_fit, is_one_core}
@@ -48,8 +45,8 @@ served-never false = refl
 
 -- number and place are those of the verdict
 verdict-handed : (v : Verdict) (least more : ℕ) (front : List ℕ) (n : ℕ) (old : List ℕ) → (told_with v least more front n old).handed ≡ handed_verdict v
-verdict-handed Accepted least more front n old = refl
-verdict-handed (Refused r) least more front n old = refl
+verdict-handed (Ok _) least more front n old = refl
+verdict-handed (Err r) least more front n old = refl
 
 module _ (s : Settings) (rows : List Task) (n : ℕ) (old : List ℕ) where
   pub relief-handed : (relieved s rows n old).handed ≡ handed_verdict (admission true s rows n (length old))
@@ -73,7 +70,7 @@ module _ (s : Settings) (rows : List Task) (n : ℕ) (old : List ℕ) where
       let before : List Check = settings_chain s ++ (TooManyTasks n when ltb most_tasks n ∷ []) in
       let four = PolicyNotServed when both first (not true) in
       let after : List Check = OutputTooShort n when ltb (length old) n ∷ record_check s rows n ∷ [] in
-      admission-chain true s rows n (length old) ∙ first-without Refused Accepted before four after (served-never first)
+      admission-chain true s rows n (length old) ∙ first-without Err (Ok tt) before four after (served-never first)
 
   -- 1, 15, 2, 3, 5 and 6 are given exactly when their sentences hold, the earlier first
   pub relief-exactly : (r : Relief) (xs : List ℕ) → MeetsRelief (relieved s rows n old) r xs
@@ -87,13 +84,13 @@ module _ (s : Settings) (rows : List Task) (n : ℕ) (old : List ℕ) where
   relief-numbers = refl
 
   -- a refusal tells nothing and writes nothing
-  pub nothing-told : (r : Refusal) → admission true s rows n (length old) ≡ Refused r
+  pub nothing-told : (r : Refusal) → admission true s rows n (length old) ≡ Err r
       → ((relieved s rows n old).least ≡ 0) × ((relieved s rows n old).more ≡ 0) × ((relieved s rows n old).without ≡ old)
   unfolding relieved
   nothing-told r e = (rw e, rw e, rw e)
 
   -- an admitted call tells the least step, that with one processor more, and for each task that without it, and nothing past them moves
-  module _ (admits : admission true s rows n (length old) ≡ Accepted) where
+  module _ (admits : admission true s rows n (length old) ≡ (Ok tt)) where
     pub least-is : (relieved s rows n old).least ≡ least_told s rows n
     unfolding relieved
     least-is = rw admits
@@ -114,7 +111,7 @@ module _ (s : Settings) (rows : List Task) (n : ℕ) (old : List ℕ) where
     ready = admitted true s rows n (length old) admits
 
     -- the table as it stands, whatever the room
-    roomy : admission true s rows n n ≡ Accepted
+    roomy : admission true s rows n n ≡ (Ok tt)
     roomy = ready-admitted true s rows n n enough
       where
         enough : Ready true s rows n n
@@ -206,15 +203,15 @@ module _ (s : Settings) (rows : List Task) (n : ℕ) (old : List ℕ) (answer : 
     verdict-is : verdict ≡ admission true s rows n (length old)
     verdict-is = v ∙ admitted-is s rows n (length old) answer is
 
-    pub untold : (r : Refusal) → verdict ≡ Refused r → MeetsRelief (relieved s rows n old) (record { verdict = verdict; least = 0; more = 0 }) old
+    pub untold : (r : Refusal) → verdict ≡ Err r → MeetsRelief (relieved s rows n old) (record { verdict = verdict; least = 0; more = 0 }) old
     unfolding relieved
     untold r e =
         let a = sym verdict-is ∙ e in
         record { answers = rw (a, e); least-told = rw a; more-told = rw a; leaves = rw a }
 
     -- what the telling relies on
-    module _ (e : verdict ≡ Accepted) where
-      admits : admission true s rows n (length old) ≡ Accepted
+    module _ (e : verdict ≡ (Ok tt)) where
+      admits : admission true s rows n (length old) ≡ (Ok tt)
       admits = sym verdict-is ∙ e
 
       pub may-tell : (s.m ≤ most_processors) × (n ≤ most_tasks) × (n ≤ length old)

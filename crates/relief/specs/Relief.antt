@@ -1,16 +1,12 @@
 -- What would relieve a table: the least step as it stands, with one processor more, and with one task fewer, each by demand 2's own definition.
 -- Assumes nothing.
-use Rattle.std.specs.Prelude.{ℕ, ◌+◌, ◌-◌, true, List, ◌++◌, ◌≡◌, eqb, length, drop}
+use Rattle.std.specs.Prelude.{ℕ, ◌+◌, ◌-◌, true, List, ◌++◌, ◌≡◌, eqb, length, drop, Ok, Err}
 use Rattle.ground.specs.Choice.{pick}
 use Rattle.ground.specs.Folds.{list_to}
 use Rattle.kinds.specs.declared.Task.{Task}
 use Rattle.kinds.specs.declared.Settings.{Settings}
 use Rattle.kinds.specs.declared.Refusal.TheVariants.{NoStepPasses}
-use Rattle.kinds.specs.declared.Answer.{Answer}
-use Rattle.kinds.specs.declared.Answer.TheVariants as answer
-use Rattle.kinds.specs.declared.Verdict.{Verdict}
-use Rattle.kinds.specs.declared.Verdict.TheVariants.{Accepted, Refused}
-use Rattle.kinds.specs.Answer.{Handed, NumberAndPlace, accepted, refused, handed_verdict}
+use Rattle.kinds.specs.Answer.{Handed, NumberAndPlace, accepted, refused, handed_verdict, Answer, Verdict}
 use Rattle.kinds.specs.Refusal.{number_of}
 use Rattle.kinds.specs.Settings.{settings}
 use Rattle.admission.specs.Admission.{admission}
@@ -40,8 +36,8 @@ least_without s rows n i = least_told s (left_rows rows n i) (n - 1)
 
 -- whether a finder's answer comes of an admitted table: a step, or that none passes
 abbrev pub admitted_by : Answer → Verdict
-admitted_by (answer.Accepted step) = Accepted
-admitted_by (answer.Refused r) = pick (eqb (number_of r) (number_of NoStepPasses)) Accepted (Refused r)
+admitted_by (Ok step) = (Ok tt)
+admitted_by (Err r) = pick (eqb (number_of r) (number_of NoStepPasses)) (Ok tt) (Err r)
 
 -- number and place, the least step as the table stands and with one processor more, and the lent output as the call leaves it
 pub record Relieved : Type 0 where
@@ -52,8 +48,8 @@ pub record Relieved : Type 0 where
 
 -- an admitted call tells both and writes the rest; a refusal tells nothing, and "lent buffers keep their bytes" in it
 abbrev pub told_with : Verdict → ℕ → ℕ → List ℕ → ℕ → List ℕ → Relieved
-told_with Accepted least more front n old = record { handed = accepted tt; least = least; more = more; without = front ++ drop n old }
-told_with (Refused r) least more front n old = record { handed = refused tt r; least = 0; more = 0; without = old }
+told_with (Ok _) least more front n old = record { handed = accepted tt; least = least; more = more; without = front ++ drop n old }
+told_with (Err r) least more front n old = record { handed = refused tt r; least = 0; more = 0; without = old }
 
 -- the plain finder's admission, refusals 1 to 6, and where it admits the least steps
 unfoldable pub relieved : Settings → List Task → ℕ → List ℕ → Relieved

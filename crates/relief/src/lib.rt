@@ -9,18 +9,18 @@ ghost use Rattle.kinds.specs.Limits.{most_tasks, most_processors};
 ghost use Rattle.outcome.specs.Plan.{found};
 ghost use Rattle.relief.specs.Relief.{told_step, least_told, one_more, least_without, admitted_by, relieved, MeetsRelief};
 
-use kinds::{Answer, Refusal, Settings, Table, Verdict};
+use kinds::{Refusal, Settings, Table};
 
 // Whether the table is admitted, and where it is its least step and that with one processor more, told as numbers: 0 for none, else the step + 1.
 #[derive(Clone, Copy)]
 pub struct Relief {
-    pub verdict: Verdict,
+    pub verdict: Result<(), Refusal>,
     pub least: u32,
     pub more: u32,
 }
 
 // What the plain finder answers for an output with so much room, by the quick finder's search wherever that serves the policy.
-fn decide(table: Table, settings: Settings, room: usize) -> Answer
+fn decide(table: Table, settings: Settings, room: usize) -> Result<u32, Refusal>
     ensures { handed result ≡ found true settings table.rows table.n room }
 {
     let asked = settings.policy;
@@ -32,13 +32,13 @@ fn decide(table: Table, settings: Settings, room: usize) -> Answer
 }
 
 // The step of an answer as a number: 0 for a refusal, else the step + 1.
-fn tell(answer: Answer) -> u32
+fn tell(answer: Result<u32, Refusal>) -> u32
     requires { step_of answer < 4294967295 }
     ensures { result ≡ told_step (handed answer) }
 {
     match answer {
-        Answer::Accepted(step) => step + 1,
-        Answer::Refused(_) => 0,
+        Ok(step) => step + 1,
+        Err(_) => 0,
     }
 }
 
@@ -85,17 +85,17 @@ fn write_without(table: Table, settings: Settings, out: &mut [u32])
 }
 
 // Whether an answer comes of an admitted table: that no step passes is said of such a one only.
-fn admitted(answer: Answer) -> Verdict
+fn admitted(answer: Result<u32, Refusal>) -> Result<(), Refusal>
     ensures { result ≡ admitted_by answer }
 {
-    let Answer::Refused(refusal) = answer else {
-        return Verdict::Accepted;
+    let Err(refusal) = answer else {
+        return Ok(());
     };
     let seven = Refusal::NoStepPasses;
     if refusal.number() == seven.number() {
-        return Verdict::Accepted;
+        return Ok(());
     }
-    Verdict::Refused(refusal)
+    Err(refusal)
 }
 
 // The least step of a table, that with one processor more, and for each task that without it, which is written to the lent output; or the
@@ -105,7 +105,7 @@ pub fn relief_of(table: Table, settings: Settings, without: &mut [u32]) -> Relie
 {
     let answer = decide(table, settings, without.len());
     let verdict = admitted(answer);
-    let Verdict::Accepted = verdict else {
+    let Ok(()) = verdict else {
         let told = 0;
         return Relief {
             verdict,

@@ -11,12 +11,12 @@ ghost use Rattle.sheet.specs.Reading.{no_sheet, read_rows, read_sheet, handed_re
 ghost use Rattle.sheet.specs.Handover.{Begins, HeadTells, head_refused, head_alone, SettingsFew, place_after, RestDue};
 
 use field::{Field16, Field32};
-use kinds::{Granted, Refusal, Results, Settings, Sheet, Table, Task, Verdict};
+use kinds::{Granted, Refusal, Results, Settings, Sheet, Table, Task};
 
 // A verdict, and the sheet: that of zeros where it was refused.
 #[derive(Clone, Copy)]
 pub struct Reading {
-    pub verdict: Verdict,
+    pub verdict: Result<(), Refusal>,
     pub sheet: Sheet,
 }
 
@@ -246,7 +246,7 @@ fn refusing(refusal: Refusal) -> Reading
     ensures { handed_reading result ≡ refused no_sheet refusal }
 {
     let sheet = no_sheet();
-    let verdict = Verdict::Refused(refusal);
+    let verdict = Err(refusal);
     Reading { verdict, sheet }
 }
 
@@ -325,7 +325,7 @@ fn read_rows(s: &[u8], count: usize, settings: Settings, n: usize, from: usize) 
         table,
         results,
     };
-    let verdict = Verdict::Accepted;
+    let verdict = Ok(());
     Reading { verdict, sheet }
 }
 
@@ -347,7 +347,7 @@ fn so_far(head: Head) -> Reading
         Head::Refused(refusal) => refusing(refusal),
         Head::Value(_, _, _) => {
             let sheet = no_sheet();
-            let verdict = Verdict::Accepted;
+            let verdict = Ok(());
             Reading { verdict, sheet }
         }
     }

@@ -6,7 +6,7 @@ ghost use Rattle.std.specs.Prelude.{◌≤◌};
 ghost use Rattle.kinds.specs.Limits.{most_processors};
 ghost use Rattle.fit.specs.Handover.{Loads};
 
-use kinds::{Policy, Settings, Share, Table, Verdict};
+use kinds::{Policy, Settings, Share, Table};
 use springs::Columns;
 use task_names::ROOM;
 
@@ -57,7 +57,7 @@ fn sides_at(table: Table, settings: Settings, step: u32) -> Sides {
     let policy = settings.policy;
     let mut block = [0u32; Columns::ROOM];
     let admission = proposal::admit(table, settings, step, n, m as usize, &mut block);
-    let Verdict::Accepted = admission else {
+    let Ok(()) = admission else {
         let processors = [0u16; Table::MOST_TASKS];
         return Sides {
             asked: 0,

@@ -8,14 +8,14 @@ ghost use Rattle.kinds.specs.Answer.{handed_count, refused};
 ghost use Rattle.tidy.specs.Tidied.{strict, Tidies};
 ghost use Rattle.tidy.specs.Handover.{HandsOn};
 
-use kinds::{Counted, Refusal, Table};
+use kinds::{Refusal, Table};
 use loosen::Loosened;
 
 // How many bytes a text may have that is not the strict import's.
 pub const LONGEST: usize = loosen::LONGEST;
 
 // What the strict import says of a text.
-fn asked(text: &[u8]) -> Counted
+fn asked(text: &[u8]) -> Result<usize, Refusal>
     ensures { handed_count result ≡ strict text.now }
 {
     let imported = office::import(text, Table::MOST_TASKS);
@@ -23,42 +23,42 @@ fn asked(text: &[u8]) -> Counted
 }
 
 // Writes a text that the strict import takes, and nothing of another.
-fn hand_on(text: &[u8], out: &mut [u8; office::LONGEST]) -> Counted
+fn hand_on(text: &[u8], out: &mut [u8; office::LONGEST]) -> Result<usize, Refusal>
     ensures { HandsOn text.now out.old result out.new }
 {
     let answer = asked(text);
-    if let Counted::Refused(refusal) = answer {
-        return Counted::Refused(refusal);
+    if let Err(refusal) = answer {
+        return Err(refusal);
     }
-    Counted::Count(refusal_line::put_bytes(out, 0, text))
+    Ok(refusal_line::put_bytes(out, 0, text))
 }
 
 // Writes what is made of a text that the strict import refuses, where it takes that.
-fn hand_on_candidate(text: &[u8], refusal: Refusal, out: &mut [u8; office::LONGEST]) -> Counted
+fn hand_on_candidate(text: &[u8], refusal: Refusal, out: &mut [u8; office::LONGEST]) -> Result<usize, Refusal>
     requires { strict text.now ≡ refused 0 refusal }
     ensures { Tidies text.now out.old result out.new }
 {
     if LONGEST < text.len() {
-        return Counted::Refused(refusal);
+        return Err(refusal);
     }
     let mut candidate = [0u8; office::LONGEST];
     let Loosened::Text(found) = loosen::loosen(text, &mut candidate) else {
-        return Counted::Refused(refusal);
+        return Err(refusal);
     };
     let n = ground::shorter(found, office::LONGEST);
     let handed = hand_on(&candidate[..n], out);
-    let Counted::Count(_) = handed else {
-        return Counted::Refused(refusal);
+    let Ok(_) = handed else {
+        return Err(refusal);
     };
     handed
 }
 
 // Writes the text that is handed on; a refused call, with the strict import's refusal of the text, writes nothing.
-pub fn tidied(text: &[u8], out: &mut [u8; office::LONGEST]) -> Counted
+pub fn tidied(text: &[u8], out: &mut [u8; office::LONGEST]) -> Result<usize, Refusal>
     ensures { Tidies text.now out.old result out.new }
 {
     let through = hand_on(text, out);
-    if let Counted::Refused(refusal) = through {
+    if let Err(refusal) = through {
         return hand_on_candidate(text, refusal, out);
     }
     through

@@ -3,9 +3,7 @@
 #![tactic(auto)]
 
 use fill::SheetPlan;
-use kinds::{
-    Answer, Margin, Policy, Refusal, Results, Settings, Share, Sheet, Table, Task, Verdict,
-};
+use kinds::{Policy, Refusal, Results, Settings, Share, Sheet, Table, Task};
 use task_names::ROOM;
 
 // Room for every view: 32 tasks, 16 processors and 16 lines besides, of 80 columns and a name's further bytes.
@@ -50,10 +48,10 @@ fn positive(x: i64) -> u64 {
 }
 
 // The parts that a margin leaves free.
-fn free(margin: Margin) -> u64 {
+fn free(margin: Result<i64, Refusal>) -> u64 {
     match margin {
-        Margin::Is(parts) => positive(parts),
-        Margin::Refused(_) => 0,
+        Ok(parts) => positive(parts),
+        Err(_) => 0,
     }
 }
 
@@ -108,7 +106,7 @@ fn put_room(out: &mut [u8], at: usize, x: Sheet, step: u32) -> usize {
     let processors = processors_of(x.results);
     let mut loads = [0u32; MOST_LOADS];
     let verdict = proposal::check(table, settings, step, &processors, &mut loads);
-    let Verdict::Accepted = verdict else {
+    let Ok(()) = verdict else {
         return at;
     };
     put_loads(out, at, settings.m, &loads)
@@ -178,14 +176,14 @@ pub fn put_plan(plan: SheetPlan, names: &[u8; ROOM], out: &mut [u8]) -> usize {
     let answer = plan.answer;
     let x = plan.sheet;
     match answer {
-        Answer::Refused(refusal) => put_refused(out, refusal, x, names),
-        Answer::Accepted(step) => put_accepted(out, step, x, names),
+        Err(refusal) => put_refused(out, refusal, x, names),
+        Ok(step) => put_accepted(out, step, x, names),
     }
 }
 
 // Whether the results that stand in a sheet are ours; nothing of one that is refused before that is asked.
-fn put_stored(out: &mut [u8], at: usize, verdict: Verdict) -> usize {
-    let Verdict::Refused(refusal) = verdict else {
+fn put_stored(out: &mut [u8], at: usize, verdict: Result<(), Refusal>) -> usize {
+    let Err(refusal) = verdict else {
         return text::words(out, at, b"stored results: ours\n");
     };
     if let Refusal::NoResults = refusal {
@@ -209,7 +207,7 @@ pub fn put_line(refusal: Refusal, out: &mut [u8]) -> usize {
 pub fn view(input: &[u8], out: &mut [u8]) -> usize {
     let reading = sheet::read(input);
     let verdict = reading.verdict;
-    if let Verdict::Refused(refusal) = verdict {
+    if let Err(refusal) = verdict {
         return put_line(refusal, out);
     }
     let x = reading.sheet;

@@ -1,16 +1,12 @@
 -- What an accepted answer has passed, so that its plan may be written.
 -- Assumes nothing.
-use Rattle.ground.proofs.Kit.{ℕ, ◌≤◌, min, List, ◌≡◌, refl, arith, ltb, length, ltb-false}
+use Rattle.ground.specs.Least.{Step}
+use Rattle.ground.proofs.Kit.{ℕ, ◌≤◌, min, List, ◌≡◌, refl, arith, ltb, length, ltb-false, Ok, Err, Some, None}
 use lib.Dec.{lit≤}
-use Rattle.ground.specs.declared.Step.{Step}
-use Rattle.ground.specs.declared.Step.TheVariants.{At, Nothing}
 use Rattle.ground.proofs.Cases.{true-false}
-use Rattle.kinds.specs.declared.Answer.{Answer}
-use Rattle.kinds.specs.declared.Answer.TheVariants.{Accepted, Refused}
 use Rattle.kinds.specs.declared.Refusal.{Refusal}
 use Rattle.kinds.specs.declared.Refusal.TheVariants.{BadRecord}
-use Rattle.kinds.specs.Answer.{accepted, handed}
-use Rattle.kinds.specs.declared.Verdict as verdict
+use Rattle.kinds.specs.Answer.{accepted, handed, Answer, Verdict}
 use Rattle.admission.specs.Admission.{and_then, misset, gate, roomy}
 use Rattle.admission.proofs.Chain.{Few, Unlike, unchecked, gate-passed, roomy-passed, then-admitted, check-unlike, then-unlike, gate-unlike, roomy-unlike}
 use Rattle.outcome.specs.Plan.{decided, Meets}
@@ -29,7 +25,7 @@ pub record Ready (m : ℕ) (rows : List WideTask) (n room : ℕ) : Type 0 where
   pub roomy : n ≤ room
   pub none-bad : n ≤ first_bad rows n
 
-pub admitted : (m : ℕ) (rows : List WideTask) (n room : ℕ) → admission m rows n room ≡ verdict.TheVariants.Accepted → Ready m rows n room
+pub admitted : (m : ℕ) (rows : List WideTask) (n room : ℕ) → admission m rows n room ≡ (Ok tt) → Ready m rows n room
 unfolding admission
 admitted m rows n room e =
     let a = then-admitted _ _ e in
@@ -43,16 +39,16 @@ admission-unlike m rows n room =
     let bad = first_bad rows n in
     then-unlike 7 (and_then (gate (misset m) n) (roomy n room)) (records_good rows n)
     (then-unlike 7 (gate (misset m) n) (roomy n room) (gate-unlike (misset m) n 7 (lit≤ tt)) (roomy-unlike n room 7 (lit≤ tt)))
-    (check-unlike 7 (ltb bad n) (BadRecord bad) verdict.TheVariants.Accepted (λ e. omega arith) (λ e. omega arith))
+    (check-unlike 7 (ltb bad n) (BadRecord bad) (Ok tt) (λ e. omega arith) (λ e. omega arith))
 
 pub refused-seven : (m : ℕ) (rows : List WideTask) (n room : ℕ) → (found m rows n room).number ≡ 7
-    → (admission m rows n room ≡ verdict.TheVariants.Accepted) × (least_step m rows n ≡ Nothing)
+    → (admission m rows n room ≡ (Ok tt)) × (least_step m rows n ≡ None)
 unfolding found
 refused-seven m rows n room e = decided-seven _ _ (admission-unlike m rows n room) e
 
 pub record Accepting (m : ℕ) (rows : List WideTask) (n room k : ℕ) : Type 0 where
   pub ready : Ready m rows n room
-  pub step : least_step m rows n ≡ At k
+  pub step : least_step m rows n ≡ Some k
 
 pub accepting : (m : ℕ) (rows : List WideTask) (n room k : ℕ) → accepted k ≡ found m rows n room → Accepting m rows n room k
 unfolding found
@@ -61,8 +57,8 @@ accepting m rows n room k e =
     record { ready = admitted m rows n room d.0; step = d.1 }
 
 pub may-grant : (m : ℕ) (answer : Answer) (t : WideTable) (a b : ℕ) → handed answer ≡ found m t.rows t.n (min a b) → MayGrant answer t a b
-may-grant m (Refused r) t a b e x = true-false x refl
-may-grant m (Accepted k) t a b e x =
+may-grant m (Err r) t a b e x = true-false x refl
+may-grant m (Ok k) t a b e x =
     let g = accepting m t.rows t.n (min a b) k e in
     let p = g.ready.passed in
     record {
@@ -73,8 +69,8 @@ may-grant m (Accepted k) t a b e x =
     }
 
 -- as the finder works it out: without a step where the admission refuses, else with the least one
-module _ (m : ℕ) (rows : List WideTask) (n room : ℕ) (a : verdict.Verdict) (is : a ≡ admission m rows n room) where
-  pub refused-found : (r : Refusal) (step : Step) → a ≡ verdict.TheVariants.Refused r → decided a step ≡ found m rows n room
+module _ (m : ℕ) (rows : List WideTask) (n room : ℕ) (a : Verdict) (is : a ≡ admission m rows n room) where
+  pub refused-found : (r : Refusal) (step : Step) → a ≡ Err r → decided a step ≡ found m rows n room
   unfolding found
   refused-found r step e = rw (← is, e)
 

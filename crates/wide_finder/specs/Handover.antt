@@ -2,8 +2,7 @@
 -- Assumes nothing.
 use Rattle.std.specs.Prelude.{ℕ, ◌≤◌, ◌<◌, true, List, ◌≡◌}
 use Rattle.ground.specs.Folds.{AddedUp}
-use Rattle.kinds.specs.declared.Answer.{Answer}
-use Rattle.kinds.specs.Answer.{Handed, is_accepted, step_of}
+use Rattle.kinds.specs.Answer.{Handed, is_accepted, step_of, Answer}
 use Rattle.kinds.specs.Limits.{most_tasks, most_processors}
 use Rattle.outcome.specs.Handover.{Written}
 use Rattle.wide_task.specs.declared.WideTask.{WideTask}

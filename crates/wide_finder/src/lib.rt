@@ -11,8 +11,7 @@ ghost use Rattle.wide_finder.specs.Table.{full_compression, first_bad, cores_sum
 ghost use Rattle.wide_finder.specs.Wide.{admission, found, outcome};
 ghost use Rattle.wide_finder.specs.Handover.{GoodTable, SumIs, MayGrant, Leaves};
 
-use ground::Step;
-use kinds::{Answer, Refusal, Verdict};
+use kinds::Refusal;
 use wide_task::WideTable;
 
 // Document 01: "Full compression K: the greatest saturation step, 0 if there is none."
@@ -64,7 +63,7 @@ fn passes_at(m: u16, table: WideTable, k: u32) -> bool
 }
 
 // The least step from 0 to full compression that passes. Passing stays, so the range is halved; full compression + 1 stands for none.
-fn least_step(m: u16, table: WideTable) -> Step
+fn least_step(m: u16, table: WideTable) -> Option<u32>
     requires { GoodTable table }
     ensures { result ≡ least_step m table.rows table.n }
 {
@@ -80,35 +79,35 @@ fn least_step(m: u16, table: WideTable) -> Step
         }
     }
     if from <= full {
-        return Step::At(from);
+        return Some(from);
     }
-    Step::Nothing
+    None
 }
 
 // Refusals 2, 3, 5 and 6, for outputs of which the shorter has so much room.
-fn admit(table: WideTable, m: u16, room: usize) -> Verdict
+fn admit(table: WideTable, m: u16, room: usize) -> Result<(), Refusal>
     ensures { result ≡ admission m table.rows table.n room }
 {
     let n = table.n;
     let few = admission::gate(admission::misset(m), n);
     let gate = admission::and_then(few, admission::roomy(n, room));
-    let Verdict::Accepted = gate else {
+    let Ok(()) = gate else {
         return gate;
     };
     let bad = first_bad(table);
     if bad < n {
-        return Verdict::Refused(Refusal::BadRecord(bad));
+        return Err(Refusal::BadRecord(bad));
     }
-    Verdict::Accepted
+    Ok(())
 }
 
 // The answer, for outputs of which the shorter has so much room.
-pub fn decide(table: WideTable, m: u16, room: usize) -> Answer
+pub fn decide(table: WideTable, m: u16, room: usize) -> Result<u32, Refusal>
     ensures { handed result ≡ found m table.rows table.n room }
 {
     let admission = admit(table, m, room);
-    let Verdict::Accepted = admission else {
-        return outcome::decide(admission, Step::Nothing);
+    let Ok(()) = admission else {
+        return outcome::decide(admission, None);
     };
     let step = least_step(m, table);
     outcome::decide(admission, step)
@@ -137,19 +136,19 @@ fn write_cores(table: WideTable, k: u32, out: &mut [u16])
 }
 
 // Writes what an answer grants to the two lent outputs: the periods and core counts of an accepted step, or nothing.
-fn grant(answer: Answer, table: WideTable, periods: &mut [u32], cores: &mut [u16])
+fn grant(answer: Result<u32, Refusal>, table: WideTable, periods: &mut [u32], cores: &mut [u16])
     requires { MayGrant answer table (length periods.old) (length cores.old) }
     ensures { Leaves (handed answer) table.rows table.n periods.old cores.old periods.new cores.new }
 {
-    if answer.accepted() {
-        let k = answer.step();
+    if answer.is_ok() {
+        let k = answer.unwrap_or(0);
         write_periods(table, k, periods);
         write_cores(table, k, cores);
     }
 }
 
 // The periods and core counts of the least passing step, written to the two lent outputs, or the refusal, which writes nothing.
-pub fn find(table: WideTable, m: u16, periods: &mut [u32], cores: &mut [u16]) -> Answer
+pub fn find(table: WideTable, m: u16, periods: &mut [u32], cores: &mut [u16]) -> Result<u32, Refusal>
     ensures { Meets (outcome m table.rows table.n periods.old cores.old) result periods.new cores.new }
 {
     let answer = decide(table, m, ground::shorter(periods.len(), cores.len()));

@@ -10,7 +10,7 @@ ghost use Rattle.writer.specs.Encode.{task_bytes, granted_bytes, numbers_bytes, 
 ghost use Rattle.writer.specs.Writing.{Writes};
 ghost use Rattle.writer.specs.Canonical.{SheetStorable};
 
-use kinds::{Counted, Granted, Refusal, Settings, Sheet, Table, Task};
+use kinds::{Granted, Refusal, Settings, Sheet, Table, Task};
 
 // Stores a task record at a place; returns the place after it.
 fn put_task(out: &mut [u8], at: usize, task: Task) -> usize
@@ -106,7 +106,7 @@ pub fn storable(x: Sheet)
 }
 
 // Writes a station sheet into a lent buffer.
-pub fn write(x: Sheet, out: &mut [u8]) -> Counted
+pub fn write(x: Sheet, out: &mut [u8]) -> Result<usize, Refusal>
     ensures { Writes x out.old result out.new }
 {
     let count = x.count;
@@ -116,19 +116,19 @@ pub fn write(x: Sheet, out: &mut [u8]) -> Counted
     let r = results.n;
     let taken = sheet::settings_fit(count);
     if !taken {
-        return Counted::Refused(Refusal::WrongSettingsCount);
+        return Err(Refusal::WrongSettingsCount);
     }
     if Table::MOST_TASKS < n {
-        return Counted::Refused(Refusal::TooManyTasks(n));
+        return Err(Refusal::TooManyTasks(n));
     }
     let fit = sheet::results_fit(r, n);
     if !fit {
-        return Counted::Refused(Refusal::WrongResultCount(0));
+        return Err(Refusal::WrongResultCount(0));
     }
     let needed = sheet::end_place(count, n, r);
     if out.len() < needed {
-        return Counted::Refused(Refusal::OutputTooShort(needed));
+        return Err(Refusal::OutputTooShort(needed));
     }
     let written = put_sheet(out, x);
-    Counted::Count(written)
+    Ok(written)
 }

@@ -21,12 +21,12 @@ write_front-requires c =
     let args = c.args in
     let room : length c.propose-planned.result ≡ most_tasks = search rules in
     let checked = rw c.shorter-entries.ensures at c.check-verdict.ensures in
-    let accepted = rw c.in-Accepted.is at checked in
+    let accepted = rw c.in-Ok.is at checked in
     accepted-fits args.settings args.table.rows args.table.n args.step args.proposal.now args.loads.now c.propose-planned.result room _ accepted
 
 pub returns : goal.returns
 returns c =
     let room : length c.propose-planned.result ≡ most_tasks = search rules in
     let checked = rw c.shorter-entries.ensures at c.check-verdict.ensures in
-    let accepted = rw c.in-Accepted.is at checked in
+    let accepted = rw c.in-Ok.is at checked in
     hands-accepted _ _ _ _ _ _ _ room _ accepted _ c.write_front.ensures

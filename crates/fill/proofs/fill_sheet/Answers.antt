@@ -3,9 +3,9 @@ use Rattle.ground.proofs.Kit.{refl}
 use Rattle.fill.proofs.Plans.{plan-refused, plan-few, plan-filled}
 use Rattle.fill.proofs.fill_sheet.Goals as goal
 
-pub returns-in-Refused : goal.returns-in-Refused
-returns-in-Refused c =
-    plan-refused c.args.x _ _ _ _ refl refl c.find-answer.result c.find-answer.ensures _ c.in-Refused.is
+pub returns-in-Err : goal.returns-in-Err
+returns-in-Err c =
+    plan-refused c.args.x _ _ _ _ refl refl c.find-answer.result c.find-answer.ensures _ c.in-Err.is
 
 pub results_of-results-requires : goal.results_of-results-requires
 results_of-results-requires c =

@@ -2,8 +2,8 @@
 use Rattle.filled_sheet.proofs.Compared.{plan-refuses, without-results, one-differs, all-agree}
 use Rattle.filled_sheet.proofs.check_plan.Goals as goal
 
-pub returns-in-Refused : goal.returns-in-Refused
-returns-in-Refused c = plan-refuses _ _ _ c.in-Refused.is
+pub returns-in-Err : goal.returns-in-Err
+returns-in-Err c = plan-refuses _ _ _ c.in-Err.is
 
 pub returns-then-results-n : goal.returns-then-results-n
 returns-then-results-n c = without-results _ _ _ c.in_default.is c.if-results-n.true

@@ -4,10 +4,10 @@ use Rattle.refusal_line.proofs.Fronts.{put-fronts}
 use Rattle.filled_sheet.proofs.Lines.{accepted-line, refused-line}
 use Rattle.filled_sheet.proofs.tell.Goals as goal
 
-pub returns-in-Refused : goal.returns-in-Refused
-returns-in-Refused c =
-    rw (refused-line _ _ c.check-verdict.ensures _ c.in-Refused.is) c.put_refusal.ensures
+pub returns-in-Err : goal.returns-in-Err
+returns-in-Err c =
+    rw (refused-line _ _ c.check-verdict.ensures _ c.in-Err.is) c.put_refusal.ensures
 
-pub returns-in-Accepted : goal.returns-in-Accepted
-returns-in-Accepted c =
-    rw (accepted-line _ _ c.check-verdict.ensures c.in-Accepted.is) (put-fronts (search rules) c.put_bytes.ensures)
+pub returns-in-Ok : goal.returns-in-Ok
+returns-in-Ok c =
+    rw (accepted-line _ _ c.check-verdict.ensures c.in-Ok.is) (put-fronts (search rules) c.put_bytes.ensures)

@@ -12,10 +12,10 @@ use Rattle.admission.proofs.Opened.{Opened, opened, may-walk, admitted-sprung, r
 use Rattle.margin.specs.Margin.{margin_handed}
 use Rattle.margin.proofs.margin_at.Goals as goal
 
-pub returns-in-Refused : goal.returns-in-Refused
+pub returns-in-Err : goal.returns-in-Err
 unfolding margin_handed
-returns-in-Refused c =
-    let refused = c.in-Refused.is in
+returns-in-Err c =
+    let refused = c.in-Err.is in
     let args = c.args in
     rw (← refused-gate false args.settings args.table.rows args.table.n args.table.n _ (sym c.gate_of-gate.ensures ∙ refused))
 
@@ -84,4 +84,4 @@ returns c =
     ) =
     admitted-sprung false c.args.settings _ _ _ _ _ _ c.gate_of-gate.ensures c.in_default.is c.judge-admission.ensures
     c.springs_of-bad.ensures in
-    rw (← admitted.is, c.in-Refused-admission.is)
+    rw (← admitted.is, c.in-Err-admission.is)

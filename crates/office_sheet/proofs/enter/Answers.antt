@@ -12,11 +12,11 @@ returns-in_default-setting_of c =
     let m = sym c.setting_of-2.ensures ∙ c.in_default-setting_of.is in
     rw (processors-bad _ _ _ _ policy-is m) c.put_refusal-in_default-setting_of.ensures
 
-pub returns-in-Refused : goal.returns-in-Refused
-returns-in-Refused c =
+pub returns-in-Err : goal.returns-in-Err
+returns-in-Err c =
     let policy-is = sym c.setting_of.ensures ∙ c.in-Is.is in
     let m = sym c.setting_of-2.ensures ∙ c.in-Is-setting_of.is in
-    rw (text-entered _ _ _ _ policy-is _ m ∙ text-refused _ _ _ _ c.import-imported.ensures _ c.in-Refused.is) c.put_refusal-in-Refused.ensures
+    rw (text-entered _ _ _ _ policy-is _ m ∙ text-refused _ _ _ _ c.import-imported.ensures _ c.in-Err.is) c.put_refusal-in-Err.ensures
 
 pub put_unfilled-requires : goal.put_unfilled-requires
 put_unfilled-requires c = (table-few 0 0 _ _ c.import-imported.ensures, search rules)

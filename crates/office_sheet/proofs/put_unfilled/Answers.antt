@@ -10,4 +10,4 @@ returns-in_default c =
 pub returns : goal.returns
 returns c =
     sheet-fronts c.args.policy c.args.m c.args.table c.requires.0 _ _ c.requires.1 _
-    (rw (c.new-settings.ensures, c.of.ensures, c.in-Count.is) at c.write.ensures)
+    (rw (c.new-settings.ensures, c.of.ensures, c.in-Ok.is) at c.write.ensures)

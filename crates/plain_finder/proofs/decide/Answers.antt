@@ -10,7 +10,7 @@ use Rattle.plain_finder.proofs.decide.Goals.{After-judge-admission}
 admitted : (c : After-judge-admission) → let args = c.args in
     AdmittedSprung true args.settings args.table.rows args.table.n args.room c.judge-admission.result c.springs_of-bad.new.block
 admitted c =
-    admitted-sprung true c.args.settings _ _ _ _ _ _ c.gate_of-gate.ensures c.in-Accepted.is c.judge-admission.ensures
+    admitted-sprung true c.args.settings _ _ _ _ _ _ c.gate_of-gate.ensures c.in-Ok.is c.judge-admission.ensures
     c.springs_of-bad.ensures
 
 pub returns-in_default : goal.returns-in_default
@@ -23,7 +23,7 @@ returns-in_default c =
 pub springs_of-bad-requires : goal.springs_of-bad-requires
 springs_of-bad-requires c =
     let args = c.args in
-    let walk = may-walk true args.settings args.table.n args.room c.gate_of-gate.ensures c.in-Accepted.is in
+    let walk = may-walk true args.settings args.table.n args.room c.gate_of-gate.ensures c.in-Ok.is in
     (walk.0, walk.1, refl)
 
 pub returns-in_default-admission : goal.returns-in_default-admission
@@ -32,7 +32,7 @@ returns-in_default-admission c =
     let args = c.args in
     AdmittedSprung true args.settings args.table.rows args.table.n args.room c.judge-admission.result c.springs_of-bad.new.block
     ) =
-    admitted-sprung true c.args.settings _ _ _ _ _ _ c.gate_of-gate.ensures c.in-Accepted.is c.judge-admission.ensures
+    admitted-sprung true c.args.settings _ _ _ _ _ _ c.gate_of-gate.ensures c.in-Ok.is c.judge-admission.ensures
     c.springs_of-bad.ensures in
     found-refused true _ _ _ _ _ _ admitted.is c.in_default-admission.is c.decide-in_default-admission.result c.decide-in_default-admission.ensures
 
@@ -42,9 +42,9 @@ least_step-requires c =
     let args = c.args in
     AdmittedSprung true args.settings args.table.rows args.table.n args.room c.judge-admission.result c.springs_of-bad.new.block
     ) =
-    admitted-sprung true c.args.settings _ _ _ _ _ _ c.gate_of-gate.ensures c.in-Accepted.is c.judge-admission.ensures
+    admitted-sprung true c.args.settings _ _ _ _ _ _ c.gate_of-gate.ensures c.in-Ok.is c.judge-admission.ensures
     c.springs_of-bad.ensures in
-    may-search true _ _ _ _ _ _ admitted c.in-Accepted-admission.is
+    may-search true _ _ _ _ _ _ admitted c.in-Ok-admission.is
 
 pub returns : goal.returns
 returns c =
@@ -52,10 +52,10 @@ returns c =
     let args = c.args in
     AdmittedSprung true args.settings args.table.rows args.table.n args.room c.judge-admission.result c.springs_of-bad.new.block
     ) =
-    admitted-sprung true c.args.settings _ _ _ _ _ _ c.gate_of-gate.ensures c.in-Accepted.is c.judge-admission.ensures
+    admitted-sprung true c.args.settings _ _ _ _ _ _ c.gate_of-gate.ensures c.in-Ok.is c.judge-admission.ensures
     c.springs_of-bad.ensures in
     let walked = admitted in
-    let admits = c.in-Accepted-admission.is in
+    let admits = c.in-Ok-admission.is in
     let args = c.args in
     let step = step-found args.settings args.table.rows args.table.n _ _ (walked.sprung admits) _ c.least_step.ensures in
     (found-sprung true _ _ _ _ _ _ walked admits _ c.least_step.ensures.beside _ step c.decide-2.result c.decide-2.ensures).answers

@@ -1,6 +1,5 @@
 -- `plain_finder::find` meets its contract. Assumes nothing.
-use Rattle.ground.proofs.Kit.{min, true, ◌≡◌, refl, length}
-use Rattle.kinds.specs.declared.Verdict.TheVariants.{Accepted}
+use Rattle.ground.proofs.Kit.{min, true, ◌≡◌, refl, length, Ok}
 use Rattle.admission.specs.Handover.{AdmittedSprung}
 use Rattle.admission.proofs.Opened.{may-walk, admitted-sprung}
 use Rattle.outcome.specs.Handover.{FoundSprung}
@@ -19,7 +18,7 @@ returns-in_default c =
 pub springs_of-bad-requires : goal.springs_of-bad-requires
 springs_of-bad-requires c =
     let args = c.args in
-    let walk = may-walk true args.settings args.table.n c.shorter-room.result c.gate_of-gate.ensures c.in-Accepted.is in
+    let walk = may-walk true args.settings args.table.n c.shorter-room.result c.gate_of-gate.ensures c.in-Ok.is in
     (walk.0, walk.1, refl)
 
 pub returns-in_default-admission : goal.returns-in_default-admission
@@ -29,7 +28,7 @@ returns-in_default-admission c =
     AdmittedSprung true args.settings args.table.rows args.table.n c.shorter-room.result c.judge-admission.result
     c.springs_of-bad.new.block
     ) =
-    admitted-sprung true c.args.settings _ _ _ _ _ _ c.gate_of-gate.ensures c.in-Accepted.is
+    admitted-sprung true c.args.settings _ _ _ _ _ _ c.gate_of-gate.ensures c.in-Ok.is
     c.judge-admission.ensures c.springs_of-bad.ensures in
     refused-meets true _ _ _ _ _ _ admitted.is c.in_default-admission.is c.decide-in_default-admission.result c.decide-in_default-admission.ensures _ _
     c.shorter-room.ensures
@@ -41,9 +40,9 @@ least_step-step-requires c =
     AdmittedSprung true args.settings args.table.rows args.table.n c.shorter-room.result c.judge-admission.result
     c.springs_of-bad.new.block
     ) =
-    admitted-sprung true c.args.settings _ _ _ _ _ _ c.gate_of-gate.ensures c.in-Accepted.is
+    admitted-sprung true c.args.settings _ _ _ _ _ _ c.gate_of-gate.ensures c.in-Ok.is
     c.judge-admission.ensures c.springs_of-bad.ensures in
-    may-search true _ _ _ _ _ _ admitted c.in-Accepted-admission.is
+    may-search true _ _ _ _ _ _ admitted c.in-Ok-admission.is
 
 pub grant-requires : goal.grant-requires
 grant-requires c =
@@ -52,7 +51,7 @@ grant-requires c =
     AdmittedSprung true args.settings args.table.rows args.table.n c.shorter-room.result c.judge-admission.result
     c.springs_of-bad.new.block
     ) =
-    admitted-sprung true c.args.settings _ _ _ _ _ _ c.gate_of-gate.ensures c.in-Accepted.is
+    admitted-sprung true c.args.settings _ _ _ _ _ _ c.gate_of-gate.ensures c.in-Ok.is
     c.judge-admission.ensures c.springs_of-bad.ensures in
     let answered : (
     let args = c.args in
@@ -61,7 +60,7 @@ grant-requires c =
     ) =
     let walked = admitted in
     let args = c.args in
-    let admits : c.judge-admission.result ≡ Accepted = c.in-Accepted-admission.is in
+    let admits : c.judge-admission.result ≡ (Ok tt) = c.in-Ok-admission.is in
     let step = step-found args.settings args.table.rows args.table.n _ _ (walked.sprung admits) _ c.least_step-step.ensures in
     let found = found-sprung true _ _ _ _ _ _ walked admits _ c.least_step-step.ensures.beside _ step c.decide-answer.result c.decide-answer.ensures in
     rw c.shorter-room.ensures at found in
@@ -74,7 +73,7 @@ returns c =
     AdmittedSprung true args.settings args.table.rows args.table.n c.shorter-room.result c.judge-admission.result
     c.springs_of-bad.new.block
     ) =
-    admitted-sprung true c.args.settings _ _ _ _ _ _ c.gate_of-gate.ensures c.in-Accepted.is
+    admitted-sprung true c.args.settings _ _ _ _ _ _ c.gate_of-gate.ensures c.in-Ok.is
     c.judge-admission.ensures c.springs_of-bad.ensures in
     let answered : (
     let args = c.args in
@@ -83,7 +82,7 @@ returns c =
     ) =
     let walked = admitted in
     let args = c.args in
-    let admits : c.judge-admission.result ≡ Accepted = c.in-Accepted-admission.is in
+    let admits : c.judge-admission.result ≡ (Ok tt) = c.in-Ok-admission.is in
     let step = step-found args.settings args.table.rows args.table.n _ _ (walked.sprung admits) _ c.least_step-step.ensures in
     let found = found-sprung true _ _ _ _ _ _ walked admits _ c.least_step-step.ensures.beside _ step c.decide-answer.result c.decide-answer.ensures in
     rw c.shorter-room.ensures at found in

@@ -1,6 +1,5 @@
 -- `proposal::admit` meets its contract. Assumes nothing.
-use Rattle.ground.proofs.Kit.{◌≡◌, sym, ◌∙◌, arith}
-use Rattle.kinds.specs.declared.Verdict.TheVariants.{Accepted}
+use Rattle.ground.proofs.Kit.{◌≡◌, sym, ◌∙◌, arith, Ok}
 use Rattle.springs.specs.Handover.{Sprung}
 use Rattle.springs.proofs.Blocks.{sprung-front}
 use Rattle.policy.specs.Under.{rows_under}
@@ -19,8 +18,8 @@ returns-in_default c =
 
 pub springs_of-bad-requires : goal.springs_of-bad-requires
 springs_of-bad-requires c =
-    let opens : (let args = c.args in gate_of args.settings args.table.n args.proposed args.room ≡ Accepted) =
-    sym c.gate_of-gate.ensures ∙ c.in-Accepted.is in
+    let opens : (let args = c.args in gate_of args.settings args.table.n args.proposed args.room ≡ (Ok tt)) =
+    sym c.gate_of-gate.ensures ∙ c.in-Ok.is in
     let args = c.args in
     let checked = gate-passed args.settings args.table.n args.proposed args.room opens in
     (checked.few.few, checked.notched, c.requires)
@@ -28,8 +27,8 @@ springs_of-bad-requires c =
 pub returns-in_default-judged : goal.returns-in_default-judged
 unfolding admission
 returns-in_default-judged c =
-    let opens : (let args = c.args in gate_of args.settings args.table.n args.proposed args.room ≡ Accepted) =
-    sym c.gate_of-gate.ensures ∙ c.in-Accepted.is in
+    let opens : (let args = c.args in gate_of args.settings args.table.n args.proposed args.room ≡ (Ok tt)) =
+    sym c.gate_of-gate.ensures ∙ c.in-Ok.is in
     let judged : (let args = c.args in c.judge-judged.result ≡ admission args.settings args.table.rows args.table.n args.proposed args.room) =
     rw (opens, ← c.springs_of-bad.ensures.first) c.judge-judged.ensures in
     record { is = judged; loads = λ e. not-admitted _ c.in_default-judged.is e }
@@ -37,12 +36,12 @@ returns-in_default-judged c =
 pub loads_at-requires : goal.loads_at-requires
 unfolding admission
 loads_at-requires c =
-    let opens : (let args = c.args in gate_of args.settings args.table.n args.proposed args.room ≡ Accepted) =
-    sym c.gate_of-gate.ensures ∙ c.in-Accepted.is in
+    let opens : (let args = c.args in gate_of args.settings args.table.n args.proposed args.room ≡ (Ok tt)) =
+    sym c.gate_of-gate.ensures ∙ c.in-Ok.is in
     let judged : (let args = c.args in c.judge-judged.result ≡ admission args.settings args.table.rows args.table.n args.proposed args.room) =
     rw (opens, ← c.springs_of-bad.ensures.first) c.judge-judged.ensures in
     let ready : (let args = c.args in Ready args.settings args.table.rows args.table.n args.proposed args.room) =
-    admitted _ _ _ _ _ (sym judged ∙ c.in-Accepted-judged.is) in
+    admitted _ _ _ _ _ (sym judged ∙ c.in-Ok-judged.is) in
     let sprung : (let args = c.args in Sprung (rows_under args.settings args.table.rows args.table.n) args.table.n c.springs_of-bad.new.block) =
     let walked = c.springs_of-bad.ensures in
     sprung-front _ _ _ _ (omega (arith, ready.none-bad, walked.first)) walked.sprung in
@@ -51,12 +50,12 @@ loads_at-requires c =
 pub returns : goal.returns
 unfolding admission
 returns c =
-    let opens : (let args = c.args in gate_of args.settings args.table.n args.proposed args.room ≡ Accepted) =
-    sym c.gate_of-gate.ensures ∙ c.in-Accepted.is in
+    let opens : (let args = c.args in gate_of args.settings args.table.n args.proposed args.room ≡ (Ok tt)) =
+    sym c.gate_of-gate.ensures ∙ c.in-Ok.is in
     let judged : (let args = c.args in c.judge-judged.result ≡ admission args.settings args.table.rows args.table.n args.proposed args.room) =
     rw (opens, ← c.springs_of-bad.ensures.first) c.judge-judged.ensures in
     let ready : (let args = c.args in Ready args.settings args.table.rows args.table.n args.proposed args.room) =
-    admitted _ _ _ _ _ (sym judged ∙ c.in-Accepted-judged.is) in
+    admitted _ _ _ _ _ (sym judged ∙ c.in-Ok-judged.is) in
     let sprung : (let args = c.args in Sprung (rows_under args.settings args.table.rows args.table.n) args.table.n c.springs_of-bad.new.block) =
     let walked = c.springs_of-bad.ensures in
     sprung-front _ _ _ _ (omega (arith, ready.none-bad, walked.first)) walked.sprung in

@@ -1,6 +1,5 @@
 -- `proposal::check` meets its contract. Assumes nothing.
-use Rattle.ground.proofs.Kit.{ℕ, ◌≤◌, List, ◌++◌, ◌≡◌, sym, ◌∙◌, ap, arith, length, drop}
-use Rattle.kinds.specs.declared.Verdict.TheVariants.{Accepted}
+use Rattle.ground.proofs.Kit.{ℕ, ◌≤◌, List, ◌++◌, ◌≡◌, sym, ◌∙◌, ap, arith, length, drop, Ok}
 use Rattle.policy.specs.Under.{loads_under}
 use Rattle.proposal.specs.Loads.{first_out_of_range, before_overfull}
 use Rattle.proposal.specs.Proposal.{place_in, admission}
@@ -17,9 +16,9 @@ pub first_out_of_range-first-requires : goal.first_out_of_range-first-requires
 first_out_of_range-first-requires c =
     let admits : (
     let args = c.args in
-    admission args.settings args.table.rows args.table.n (length args.proposal.now) (length args.loads.now) ≡ Accepted
+    admission args.settings args.table.rows args.table.n (length args.proposal.now) (length args.loads.now) ≡ (Ok tt)
     ) =
-    sym c.admit-admission.ensures.is ∙ c.in-Accepted.is in
+    sym c.admit-admission.ensures.is ∙ c.in-Ok.is in
     let passed : (let args = c.args in Passed args.settings args.table.n (length args.proposal.now) (length args.loads.now)) =
     (admitted _ _ _ _ _ admits).passed in
     passed.entries
@@ -28,22 +27,22 @@ pub returns-then-first-n : goal.returns-then-first-n
 returns-then-first-n c =
     let admits : (
     let args = c.args in
-    admission args.settings args.table.rows args.table.n (length args.proposal.now) (length args.loads.now) ≡ Accepted
+    admission args.settings args.table.rows args.table.n (length args.proposal.now) (length args.loads.now) ≡ (Ok tt)
     ) =
-    sym c.admit-admission.ensures.is ∙ c.in-Accepted.is in
+    sym c.admit-admission.ensures.is ∙ c.in-Ok.is in
     out-of-range-meets _ _ _ _ _ _ admits _ c.first_out_of_range-first.ensures c.if-first-n.true
 
 pub loads_of-held-requires : goal.loads_of-held-requires
 loads_of-held-requires c =
     let admits : (
     let args = c.args in
-    admission args.settings args.table.rows args.table.n (length args.proposal.now) (length args.loads.now) ≡ Accepted
+    admission args.settings args.table.rows args.table.n (length args.proposal.now) (length args.loads.now) ≡ (Ok tt)
     ) =
-    sym c.admit-admission.ensures.is ∙ c.in-Accepted.is in
+    sym c.admit-admission.ensures.is ∙ c.in-Ok.is in
     let passed : (let args = c.args in Passed args.settings args.table.n (length args.proposal.now) (length args.loads.now)) =
     (admitted _ _ _ _ _ admits).passed in
     let held : (let args = c.args in LoadsOf args.settings args.table.rows args.table.n args.step c.admit-admission.new.block) =
-    c.admit-admission.ensures.loads c.in-Accepted.is in
+    c.admit-admission.ensures.loads c.in-Ok.is in
     let each : (let args = c.args in args.table.n ≤ first_out_of_range args.settings.m (place_in args.proposal.now) args.table.n) =
     omega (arith, c.if-first-n.false, c.first_out_of_range-first.ensures) in
     may_load _ _ _ _ _ _ held passed.entries each
@@ -52,11 +51,11 @@ pub returns-then-below-processors : goal.returns-then-below-processors
 returns-then-below-processors c =
     let admits : (
     let args = c.args in
-    admission args.settings args.table.rows args.table.n (length args.proposal.now) (length args.loads.now) ≡ Accepted
+    admission args.settings args.table.rows args.table.n (length args.proposal.now) (length args.loads.now) ≡ (Ok tt)
     ) =
-    sym c.admit-admission.ensures.is ∙ c.in-Accepted.is in
+    sym c.admit-admission.ensures.is ∙ c.in-Ok.is in
     let held : (let args = c.args in LoadsOf args.settings args.table.rows args.table.n args.step c.admit-admission.new.block) =
-    c.admit-admission.ensures.loads c.in-Accepted.is in
+    c.admit-admission.ensures.loads c.in-Ok.is in
     let each : (let args = c.args in args.table.n ≤ first_out_of_range args.settings.m (place_in args.proposal.now) args.table.n) =
     omega (arith, c.if-first-n.false, c.first_out_of_range-first.ensures) in
     let lowest : (
@@ -72,24 +71,24 @@ pub write_front-requires : goal.write_front-requires
 write_front-requires c =
     let admits : (
     let args = c.args in
-    admission args.settings args.table.rows args.table.n (length args.proposal.now) (length args.loads.now) ≡ Accepted
+    admission args.settings args.table.rows args.table.n (length args.proposal.now) (length args.loads.now) ≡ (Ok tt)
     ) =
-    sym c.admit-admission.ensures.is ∙ c.in-Accepted.is in
+    sym c.admit-admission.ensures.is ∙ c.in-Ok.is in
     let passed : (let args = c.args in Passed args.settings args.table.n (length args.proposal.now) (length args.loads.now)) =
     (admitted _ _ _ _ _ admits).passed in
     let held : (let args = c.args in LoadsOf args.settings args.table.rows args.table.n args.step c.admit-admission.new.block) =
-    c.admit-admission.ensures.loads c.in-Accepted.is in
+    c.admit-admission.ensures.loads c.in-Ok.is in
     (held.m-most, passed.roomy)
 
 pub returns : goal.returns
 returns c =
     let admits : (
     let args = c.args in
-    admission args.settings args.table.rows args.table.n (length args.proposal.now) (length args.loads.now) ≡ Accepted
+    admission args.settings args.table.rows args.table.n (length args.proposal.now) (length args.loads.now) ≡ (Ok tt)
     ) =
-    sym c.admit-admission.ensures.is ∙ c.in-Accepted.is in
+    sym c.admit-admission.ensures.is ∙ c.in-Ok.is in
     let held : (let args = c.args in LoadsOf args.settings args.table.rows args.table.n args.step c.admit-admission.new.block) =
-    c.admit-admission.ensures.loads c.in-Accepted.is in
+    c.admit-admission.ensures.loads c.in-Ok.is in
     let each : (let args = c.args in args.table.n ≤ first_out_of_range args.settings.m (place_in args.proposal.now) args.table.n) =
     omega (arith, c.if-first-n.false, c.first_out_of_range-first.ensures) in
     let lowest : (

@@ -16,7 +16,7 @@ returns-in_default c =
 pub springs_of-bad-requires : goal.springs_of-bad-requires
 springs_of-bad-requires c =
     let args = c.args in
-    let walk = may-walk false args.settings args.table.n args.room c.gate_of-gate.ensures c.in-Accepted.is in
+    let walk = may-walk false args.settings args.table.n args.room c.gate_of-gate.ensures c.in-Ok.is in
     (walk.0, walk.1, refl)
 
 pub returns-in_default-admission : goal.returns-in_default-admission
@@ -25,7 +25,7 @@ returns-in_default-admission c =
     let args = c.args in
     AdmittedSprung false args.settings args.table.rows args.table.n args.room c.judge-admission.result c.springs_of-bad.new.block
     ) =
-    admitted-sprung false c.args.settings _ _ _ _ _ _ c.gate_of-gate.ensures c.in-Accepted.is c.judge-admission.ensures
+    admitted-sprung false c.args.settings _ _ _ _ _ _ c.gate_of-gate.ensures c.in-Ok.is c.judge-admission.ensures
     c.springs_of-bad.ensures in
     found-refused false _ _ _ _ _ _ admitted.is c.in_default-admission.is c.decide-in_default-admission.result c.decide-in_default-admission.ensures
 
@@ -35,9 +35,9 @@ search_under-ended-requires c =
     let args = c.args in
     AdmittedSprung false args.settings args.table.rows args.table.n args.room c.judge-admission.result c.springs_of-bad.new.block
     ) =
-    admitted-sprung false c.args.settings _ _ _ _ _ _ c.gate_of-gate.ensures c.in-Accepted.is c.judge-admission.ensures
+    admitted-sprung false c.args.settings _ _ _ _ _ _ c.gate_of-gate.ensures c.in-Ok.is c.judge-admission.ensures
     c.springs_of-bad.ensures in
-    may-search false _ _ _ _ _ _ admitted c.in-Accepted-admission.is
+    may-search false _ _ _ _ _ _ admitted c.in-Ok-admission.is
 
 pub returns : goal.returns
 returns c =
@@ -45,8 +45,8 @@ returns c =
     let args = c.args in
     AdmittedSprung false args.settings args.table.rows args.table.n args.room c.judge-admission.result c.springs_of-bad.new.block
     ) =
-    admitted-sprung false c.args.settings _ _ _ _ _ _ c.gate_of-gate.ensures c.in-Accepted.is c.judge-admission.ensures
+    admitted-sprung false c.args.settings _ _ _ _ _ _ c.gate_of-gate.ensures c.in-Ok.is c.judge-admission.ensures
     c.springs_of-bad.ensures in
-    let admits = c.in-Accepted-admission.is in
+    let admits = c.in-Ok-admission.is in
     (found-looked _ _ _ _ _ _ _ admitted admits c.search_under-ended.result c.search_under-ended.ensures c.decide-2.result
     c.decide-2.ensures).found.answers

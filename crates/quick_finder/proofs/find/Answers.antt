@@ -18,7 +18,7 @@ returns-in_default c =
 pub springs_of-bad-requires : goal.springs_of-bad-requires
 springs_of-bad-requires c =
     let args = c.args in
-    let walk = may-walk false args.settings args.table.n c.shorter-room.result c.gate_of-gate.ensures c.in-Accepted.is in
+    let walk = may-walk false args.settings args.table.n c.shorter-room.result c.gate_of-gate.ensures c.in-Ok.is in
     (walk.0, walk.1, refl)
 
 pub returns-in_default-admission : goal.returns-in_default-admission
@@ -28,7 +28,7 @@ returns-in_default-admission c =
     AdmittedSprung false args.settings args.table.rows args.table.n c.shorter-room.result c.judge-admission.result
     c.springs_of-bad.new.block
     ) =
-    admitted-sprung false c.args.settings _ _ _ _ _ _ c.gate_of-gate.ensures c.in-Accepted.is
+    admitted-sprung false c.args.settings _ _ _ _ _ _ c.gate_of-gate.ensures c.in-Ok.is
     c.judge-admission.ensures c.springs_of-bad.ensures in
     refused-looked _ _ _ _ _ admitted.is c.in_default-admission.is c.refused-in_default-admission.result c.refused-in_default-admission.ensures _ _
     c.shorter-room.ensures
@@ -40,9 +40,9 @@ search_under-ended-requires c =
     AdmittedSprung false args.settings args.table.rows args.table.n c.shorter-room.result c.judge-admission.result
     c.springs_of-bad.new.block
     ) =
-    admitted-sprung false c.args.settings _ _ _ _ _ _ c.gate_of-gate.ensures c.in-Accepted.is
+    admitted-sprung false c.args.settings _ _ _ _ _ _ c.gate_of-gate.ensures c.in-Ok.is
     c.judge-admission.ensures c.springs_of-bad.ensures in
-    may-search false _ _ _ _ _ _ admitted c.in-Accepted-admission.is
+    may-search false _ _ _ _ _ _ admitted c.in-Ok-admission.is
 
 pub grant-requires : goal.grant-requires
 grant-requires c =
@@ -51,14 +51,14 @@ grant-requires c =
     AdmittedSprung false args.settings args.table.rows args.table.n c.shorter-room.result c.judge-admission.result
     c.springs_of-bad.new.block
     ) =
-    admitted-sprung false c.args.settings _ _ _ _ _ _ c.gate_of-gate.ensures c.in-Accepted.is
+    admitted-sprung false c.args.settings _ _ _ _ _ _ c.gate_of-gate.ensures c.in-Ok.is
     c.judge-admission.ensures c.springs_of-bad.ensures in
     let answered : (
     let args = c.args in
     LookedSprung args.settings args.table.rows args.table.n (min (length args.periods.now) (length args.processors.now))
     c.decide-answer.result c.search_under-ended.result.looks c.search_under-ended.new.block
     ) =
-    let admits = c.in-Accepted-admission.is in
+    let admits = c.in-Ok-admission.is in
     let looked = found-looked _ _ _ _ _ _ _ admitted admits c.search_under-ended.result c.search_under-ended.ensures c.decide-answer.result c.decide-answer.ensures in
     rw c.shorter-room.ensures at looked in
     may-grant false _ _ c.args.table.rows _ _ _ _ answered.found
@@ -70,14 +70,14 @@ returns c =
     AdmittedSprung false args.settings args.table.rows args.table.n c.shorter-room.result c.judge-admission.result
     c.springs_of-bad.new.block
     ) =
-    admitted-sprung false c.args.settings _ _ _ _ _ _ c.gate_of-gate.ensures c.in-Accepted.is
+    admitted-sprung false c.args.settings _ _ _ _ _ _ c.gate_of-gate.ensures c.in-Ok.is
     c.judge-admission.ensures c.springs_of-bad.ensures in
     let answered : (
     let args = c.args in
     LookedSprung args.settings args.table.rows args.table.n (min (length args.periods.now) (length args.processors.now))
     c.decide-answer.result c.search_under-ended.result.looks c.search_under-ended.new.block
     ) =
-    let admits = c.in-Accepted-admission.is in
+    let admits = c.in-Ok-admission.is in
     let looked = found-looked _ _ _ _ _ _ _ admitted admits c.search_under-ended.result c.search_under-ended.ensures c.decide-answer.result c.decide-answer.ensures in
     rw c.shorter-room.ensures at looked in
     let args = c.args in

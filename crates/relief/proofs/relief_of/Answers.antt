@@ -20,7 +20,7 @@ one_more-requires c =
     let passed : (let args = c.args in (args.settings.m ≤ most_processors) × (args.table.n ≤ most_tasks) × (args.table.n ≤ length args.without.now)) =
     let args = c.args in
     may-tell args.settings args.table.rows args.table.n args.without.now c.decide-answer.result c.decide-answer.ensures
-    c.admitted-verdict.result c.admitted-verdict.ensures c.in-Accepted.is in
+    c.admitted-verdict.result c.admitted-verdict.ensures c.in-Ok.is in
     passed.0
 
 pub write_without-requires : goal.write_without-requires
@@ -28,12 +28,12 @@ write_without-requires c =
     let passed : (let args = c.args in (args.settings.m ≤ most_processors) × (args.table.n ≤ most_tasks) × (args.table.n ≤ length args.without.now)) =
     let args = c.args in
     may-tell args.settings args.table.rows args.table.n args.without.now c.decide-answer.result c.decide-answer.ensures
-    c.admitted-verdict.result c.admitted-verdict.ensures c.in-Accepted.is in
+    c.admitted-verdict.result c.admitted-verdict.ensures c.in-Ok.is in
     let fits = passed in (fits.1, fits.2)
 
 pub returns : goal.returns
 returns c =
     let args = c.args in
     let one = ap (λ (s : Settings). least_told s args.table.rows args.table.n) c.one_more.ensures in
-    all_told _ _ _ _ c.decide-answer.result c.decide-answer.ensures c.admitted-verdict.result c.admitted-verdict.ensures c.in-Accepted.is
+    all_told _ _ _ _ c.decide-answer.result c.decide-answer.ensures c.admitted-verdict.result c.admitted-verdict.ensures c.in-Ok.is
     _ c.tell-least.ensures _ (c.least_told-more.ensures ∙ one) _ c.write_without.ensures

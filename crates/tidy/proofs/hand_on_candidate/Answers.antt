@@ -16,4 +16,4 @@ returns-in_default-handed c =
 
 pub returns : goal.returns
 returns c =
-    tidies-candidate _ _ c.args.refusal c.requires (omega (arith, c.if-text-gt-LONGEST.false)) _ _ _ c.hand_on-handed.ensures _ c.in-Count.is
+    tidies-candidate _ _ c.args.refusal c.requires (omega (arith, c.if-text-gt-LONGEST.false)) _ _ _ c.hand_on-handed.ensures _ c.in-Ok.is

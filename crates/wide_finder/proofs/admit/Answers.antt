@@ -19,15 +19,15 @@ pub first_bad-bad-requires : goal.first_bad-bad-requires
 first_bad-bad-requires c =
     let args = c.args in
     let n = args.table.n in
-    let accepted = sym (gate-is c.before) ∙ c.in-Accepted.is in
+    let accepted = sym (gate-is c.before) ∙ c.in-Ok.is in
     (gate-passed args.m n (then-admitted (gate (misset args.m) n) (roomy n args.room) accepted).0).few
 
 pub returns-then-bad-n : goal.returns-then-bad-n
 unfolding admission
 returns-then-bad-n c =
-    rw (← gate-is c.before.before.before, c.in-Accepted.is, ← c.first_bad-bad.ensures, lt-ltb _ _ c.if-bad-n.true)
+    rw (← gate-is c.before.before.before, c.in-Ok.is, ← c.first_bad-bad.ensures, lt-ltb _ _ c.if-bad-n.true)
 
 pub returns : goal.returns
 unfolding admission
 returns c =
-    rw (← gate-is c.before.before.before, c.in-Accepted.is, ← c.first_bad-bad.ensures, le-ltb _ _ c.if-bad-n.false)
+    rw (← gate-is c.before.before.before, c.in-Ok.is, ← c.first_bad-bad.ensures, le-ltb _ _ c.if-bad-n.false)

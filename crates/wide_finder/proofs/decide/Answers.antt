@@ -9,7 +9,7 @@ returns-in_default c = c.decide.ensures ∙ refused-found _ _ _ _ _ c.admit-admi
 
 pub least_step-step-requires : goal.least_step-step-requires
 least_step-step-requires c =
-    let ready = admitted _ _ _ _ (sym c.admit-admission.ensures ∙ c.in-Accepted.is) in
+    let ready = admitted _ _ _ _ (sym c.admit-admission.ensures ∙ c.in-Ok.is) in
     good-table _ ready.passed.few ready.none-bad
 
 pub returns : goal.returns
