@@ -1,6 +1,6 @@
 -- A reading in numbers: its verdict's, and the sheet's.
 -- Assumes nothing.
-use Rattle.ground.proofs.Kit.{Ok, Err}
+use Rattle.std.specs.Prelude.{Ok, Err}
 use Prim.Native.Nat.{ℕ}
 use mathlib.Core.List.{List}
 use mathlib.Core.Path.{◌≡◌, refl, ap, ◌∙◌}

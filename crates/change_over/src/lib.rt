@@ -5,7 +5,6 @@ ghost use Rattle.std.specs.Prelude.{◌≡◌, ◌≤◌};
 ghost use Rattle.kinds.specs.Limits.{most_settings, most_tasks};
 ghost use Rattle.change_over.specs.ChangeOver.{section_of, tasks_part, change_over, IsPart};
 
-
 // The two lent sheets.
 #[derive(Clone, Copy)]
 pub enum Which {

@@ -67,8 +67,5 @@ pub fn least_step(w: Weights, notch: u16, block: &mut [u32; Columns::ROOM], n: u
         let step = Some(range.from);
         return Ended { step, looks };
     }
-    Ended {
-        step: None,
-        looks,
-    }
+    Ended { step: None, looks }
 }

@@ -18,7 +18,12 @@ use kinds::{Policy, Refusal, Settings, Table};
 use springs::Columns;
 
 // The periods and processors of the least passing step, written to the two lent outputs, or the refusal, which writes nothing.
-pub fn find(table: Table, settings: Settings, periods: &mut [u32], processors: &mut [u16]) -> Result<u32, Refusal>
+pub fn find(
+    table: Table,
+    settings: Settings,
+    periods: &mut [u32],
+    processors: &mut [u16],
+) -> Result<u32, Refusal>
     ensures { Meets (outcome true settings table.rows table.n periods.old processors.old) result
         periods.new processors.new }
 {

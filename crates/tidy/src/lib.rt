@@ -34,7 +34,11 @@ fn hand_on(text: &[u8], out: &mut [u8; office::LONGEST]) -> Result<usize, Refusa
 }
 
 // Writes what is made of a text that the strict import refuses, where it takes that.
-fn hand_on_candidate(text: &[u8], refusal: Refusal, out: &mut [u8; office::LONGEST]) -> Result<usize, Refusal>
+fn hand_on_candidate(
+    text: &[u8],
+    refusal: Refusal,
+    out: &mut [u8; office::LONGEST],
+) -> Result<usize, Refusal>
     requires { strict text.now ≡ refused 0 refusal }
     ensures { Tidies text.now out.old result out.new }
 {

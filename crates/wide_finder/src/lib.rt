@@ -148,7 +148,12 @@ fn grant(answer: Result<u32, Refusal>, table: WideTable, periods: &mut [u32], co
 }
 
 // The periods and core counts of the least passing step, written to the two lent outputs, or the refusal, which writes nothing.
-pub fn find(table: WideTable, m: u16, periods: &mut [u32], cores: &mut [u16]) -> Result<u32, Refusal>
+pub fn find(
+    table: WideTable,
+    m: u16,
+    periods: &mut [u32],
+    cores: &mut [u16],
+) -> Result<u32, Refusal>
     ensures { Meets (outcome m table.rows table.n periods.old cores.old) result periods.new cores.new }
 {
     let answer = decide(table, m, ground::shorter(periods.len(), cores.len()));
