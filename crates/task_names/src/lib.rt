@@ -45,15 +45,26 @@ impl Names {
         text::columns(name)
     }
 
-    // Puts the same at the left of a column.
-    pub fn put(&self, page: &mut Page, task: usize, width: usize) {
+    // Puts the name of a task, or its number where it has none.
+    pub fn put(&self, page: &mut Page, task: usize) {
         let name = self.of(task);
         if name.is_empty() {
+            write!(page, "{task}");
+        } else {
+            page.put(name);
+        }
+    }
+
+    // Puts the same at the left of a column, and the number where the column does not hold the name.
+    pub fn put_in(&self, page: &mut Page, task: usize, width: usize) {
+        let name = self.of(task);
+        let columns = text::columns(name);
+        if name.is_empty() || width < columns {
             write!(page, "{task:<width$}");
             return;
         }
+        let blank = width - columns;
         page.put(name);
-        let blank = width.saturating_sub(text::columns(name));
         write!(page, "{:blank$}", "");
     }
 }
