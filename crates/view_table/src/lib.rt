@@ -123,7 +123,8 @@ fn widths_of(x: Sheet, apart: bool) -> [usize; NUMBERS] {
 impl Layout {
     // The layout for so wide names, with the thousands set apart or not.
     fn laid_out(x: Sheet, planned: bool, name: usize, apart: bool) -> Layout {
-        let asked = x.settings.policy.meant();
+        let policy = x.settings.policy;
+        let asked = policy.meant();
         Layout {
             name,
             numbers: widths_of(x, apart),
