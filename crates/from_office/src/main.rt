@@ -5,7 +5,7 @@
 
 ghost use Rattle.std.specs.Prelude.{◌≡◌, ◌≤◌, length, take};
 
-use loosen::fields;
+use loosen::fields::Kind;
 use std::io;
 
 // The sheet of a text, or the line of its refusal.
@@ -26,7 +26,7 @@ fn main(rt: HostRuntime) -> io::Result<()> {
     let m = lent_input::word(&rt, 2, &mut processors);
     let mut given = [0u8; tidy::LONGEST + 1];
     let n = lent_input::read_full(&mut rt.stdin(), &mut given)?;
-    tidy_words::tell(&mut rt.stderr(), &given[..n], fields::OF_TASK);
+    tidy_words::tell(&mut rt.stderr(), &given[..n], Kind::Task);
     let mut out = [0u8; sheet::LONGEST];
     let k = enter(&policy[..p], &processors[..m], &given[..n], &mut out);
     rt.write_all(&out[..k])

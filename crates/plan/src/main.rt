@@ -5,7 +5,7 @@
 
 use fill::SheetPlan;
 use kinds::{Granted, Refusal, Results, Settings, Sheet, Table};
-use loosen::fields;
+use loosen::fields::Kind;
 use office_sheet::Setting;
 use std::io;
 use task_names::ROOM;
@@ -149,9 +149,8 @@ fn put_tidy_plan(rt: HostRuntime, given: &[u8], names: &[u8; ROOM], out: &mut [u
 fn main(rt: HostRuntime) -> io::Result<()> {
     let mut given = [0u8; tidy::LONGEST + 1];
     let n = lent_input::read_full(&mut rt.stdin(), &mut given)?;
-    tidy_words::tell(&mut rt.stderr(), &given[..n], fields::OF_TASK);
-    let mut names = [0u8; ROOM];
-    loosen::keep_names(&given[..n], &mut names);
+    tidy_words::tell(&mut rt.stderr(), &given[..n], Kind::Task);
+    let names = loosen::names_in(&given[..n]);
     let mut out = [0u8; view_text::LONGEST];
     let k = put_tidy_plan(rt, &given[..n], &names, &mut out);
     text::write(&mut rt.stdout(), &out, k)
