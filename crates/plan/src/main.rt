@@ -8,7 +8,8 @@ use kinds::{Granted, Refusal, Results, Settings, Sheet, Table};
 use loosen::fields::Kind;
 use office_sheet::Setting;
 use std::io;
-use task_names::ROOM;
+use task_names::Names;
+use text::Page;
 
 // The settings that the words name, or the refusal of one that is no number.
 #[derive(Clone, Copy)]
@@ -85,65 +86,53 @@ fn unfilled(settings: Settings, table: Table, count: usize) -> Sheet {
 
 // How many settings are given by the words behind the form.
 fn given(rt: HostRuntime) -> usize {
-    let words = ground::less_or_zero(lent_input::word_count(&rt) as u64, 2);
-    ground::shorter(words as usize, Settings::MOST)
+    let words = lent_input::word_count(&rt).saturating_sub(2);
+    words.min(Settings::MOST)
 }
 
 // Puts the filled sheet.
-fn put_sheet(x: Sheet, out: &mut [u8]) -> usize {
-    let written = writer::write(x, out);
-    match written {
-        Ok(k) => k,
-        Err(_) => 0,
+fn put_sheet(page: &mut Page, x: Sheet) {
+    let mut bytes = [0u8; sheet::LONGEST];
+    if let Ok(k) = writer::write(x, &mut bytes) {
+        page.put(bytes.get(..k).unwrap_or(&[]));
     }
 }
 
 // Puts a plan as it is asked for; why there is none is put for people to read.
-fn put_planned(plan: SheetPlan, form: Form, names: &[u8; ROOM], out: &mut [u8]) -> usize {
-    let answer = plan.answer;
-    if let Err(_) = answer {
-        return view_text::put_plan(plan, names, out);
-    }
+fn put_planned(page: &mut Page, plan: SheetPlan, form: Form, names: &Names) {
     match form {
-        Form::Text => view_text::put_plan(plan, names, out),
-        Form::Sheet => put_sheet(plan.sheet, out),
-        Form::Csv => view_table::put_csv(out, plan.sheet, names),
+        Form::Sheet if plan.answer.is_ok() => put_sheet(page, plan.sheet),
+        Form::Csv if plan.answer.is_ok() => view_table::put_csv(page, plan.sheet, names),
+        _ => view_text::put_plan(page, plan, names),
     }
 }
 
 // Puts what an exact text comes to under these settings.
-fn put_table(
-    rt: HostRuntime,
-    exact: &[u8],
-    settings: Settings,
-    names: &[u8; ROOM],
-    out: &mut [u8],
-) -> usize {
+fn put_table(rt: HostRuntime, page: &mut Page, exact: &[u8], settings: Settings, names: &Names) {
     let imported = office::import(exact, Table::MOST_TASKS);
-    let answer = imported.answer;
-    if let Err(refusal) = answer {
-        return view_text::put_line(refusal, out);
+    if let Err(refusal) = imported.answer {
+        return view_text::put_line(page, refusal);
     }
     let plan = fill::fill_sheet(unfilled(settings, imported.table, given(rt)));
-    put_planned(plan, form_asked(rt), names, out)
+    put_planned(page, plan, form_asked(rt), names)
 }
 
 // Puts what an exact text and the words come to.
-fn put_asked(rt: HostRuntime, exact: &[u8], names: &[u8; ROOM], out: &mut [u8]) -> usize {
+fn put_asked(rt: HostRuntime, page: &mut Page, exact: &[u8], names: &Names) {
     let asked = settings_asked(rt);
     match asked {
-        Asked::Refused(refusal) => view_text::put_line(refusal, out),
-        Asked::Is(settings) => put_table(rt, exact, settings, names, out),
+        Asked::Refused(refusal) => view_text::put_line(page, refusal),
+        Asked::Is(settings) => put_table(rt, page, exact, settings, names),
     }
 }
 
 // Puts what a text comes to as it was given: through its exact text, or by itself where it has none.
-fn put_tidy_plan(rt: HostRuntime, given: &[u8], names: &[u8; ROOM], out: &mut [u8]) -> usize {
+fn put_tidy_plan(rt: HostRuntime, page: &mut Page, given: &[u8], names: &Names) {
     let mut exact = [0u8; office::LONGEST];
-    let Ok(k) = tidy::tidied(given, &mut exact) else {
-        return put_asked(rt, given, names, out);
-    };
-    put_asked(rt, &exact[..k], names, out)
+    match tidy::tidied(given, &mut exact) {
+        Ok(k) => put_asked(rt, page, &exact[..k], names),
+        Err(_) => put_asked(rt, page, given, names),
+    }
 }
 
 fn main(rt: HostRuntime) -> io::Result<()> {
@@ -151,7 +140,8 @@ fn main(rt: HostRuntime) -> io::Result<()> {
     let n = lent_input::read_full(&mut rt.stdin(), &mut given)?;
     tidy_words::tell(&mut rt.stderr(), &given[..n], Kind::Task);
     let names = loosen::names_in(&given[..n]);
-    let mut out = [0u8; view_text::LONGEST];
-    let k = put_tidy_plan(rt, &given[..n], &names, &mut out);
-    text::write(&mut rt.stdout(), &out, k)
+    let mut room = [0u8; view_text::LONGEST];
+    let mut page = Page::new(&mut room);
+    put_tidy_plan(rt, &mut page, &given[..n], &names);
+    page.write_to(&mut rt.stdout())
 }
