@@ -3,7 +3,7 @@
 use Rattle.ground.proofs.Kit.{ℕ, ◌+◌, ◌≤◌, ◌<◌, List, ◌≡◌, sym, ◌∙◌, ap, length, le-leb, lt-leb, Option, Some, None}
 use Rattle.ground.proofs.Cases.{by_le}
 use Rattle.std.proofs.lemmas.Option.{same_Some, none-some}
-use Rattle.field.specs.Field.{front_by, field_by}
+use Rattle.field.specs.Field.{front_by, field_by, Got}
 use Rattle.field.specs.Number.{number_at}
 
 -- a number at the front: there, or not, and how an answer tells them
@@ -25,12 +25,6 @@ module _ {A : Type 0} (size : ℕ) (of : ℕ → A) (s : List ℕ) where
   pub front-missed : None ≡ front_by size of s → length s < size
   front-missed e = by_le size (length s) (λ h. absurd (none-some _ (e ∙ front-there h))) (λ h. h)
 
--- a field that was read lies within; its value and the place after it are those
-pub record Got {A : Type 0} (s : List ℕ) (at size : ℕ) (value_at : List ℕ → ℕ → A) (v : A) (next : ℕ) : Type 0 where
-  pub within : at + size ≤ length s
-  pub is : v ≡ value_at s at
-  pub next-is : next ≡ at + size
-
 some-pair : {A : Type 0} {v w : A} {m n : ℕ} → ◌≡◌ {A = Option (A × ℕ)} (Some (v, m)) (Some (w, n)) → (v ≡ w) × (m ≡ n)
 some-pair e = let p = same_Some _ _ e in (ap (λ x. x.0) p, ap (λ x. x.1) p)
 
@@ -44,12 +38,12 @@ module _ {A : Type 0} (size : ℕ) (value_at : List ℕ → ℕ → A) (s : List
   unfolding field_by
   missing h = rw (lt-leb (at + size) (length s) h)
 
-  pub got : (v : A) (next : ℕ) → field_by size value_at s at ≡ Some (v, next) → Got s at size value_at v next
+  pub got : (v : A) (next : ℕ) → Some (v, next) ≡ field_by size value_at s at → Got s at size value_at v next
   got v next e =
       by_le (at + size) (length s)
-      (λ h. let q = some-pair (sym e ∙ there h) in record { within = h; is = q.0; next-is = q.1 })
-      (λ h. absurd (none-some _ (sym (missing h) ∙ e)))
+      (λ h. let q = some-pair (e ∙ there h) in record { within = h; is = q.0; next-is = q.1 })
+      (λ h. absurd (none-some _ (sym (missing h) ∙ sym e)))
 
-  pub missed : field_by size value_at s at ≡ None → length s < at + size
+  pub missed : None ≡ field_by size value_at s at → length s < at + size
   missed e =
-      by_le (at + size) (length s) (λ h. absurd (none-some _ (sym e ∙ there h))) (λ h. h)
+      by_le (at + size) (length s) (λ h. absurd (none-some _ (e ∙ there h))) (λ h. h)

@@ -1,6 +1,6 @@
 -- A field that is due at a place of a sheet: there, or not.
 -- Assumes nothing.
-use Rattle.std.specs.Prelude.{ℕ, ◌+◌, List, Option, Some, None, leb, length}
+use Rattle.std.specs.Prelude.{ℕ, ◌+◌, ◌≤◌, List, Option, Some, None, ◌≡◌, leb, length}
 use Rattle.ground.specs.Choice.{pick}
 use Rattle.field.specs.Number.{number_at, u16_at, u32_at}
 
@@ -17,3 +17,9 @@ field16 s at = field_by 2 u16_at s at
 
 abbrev pub field32 : List ℕ → ℕ → Option (ℕ × ℕ)
 field32 s at = field_by 4 u32_at s at
+
+-- a field that was read lies within; its value and the place after it are those
+pub record Got {A : Type 0} (s : List ℕ) (at size : ℕ) (value_at : List ℕ → ℕ → A) (v : A) (next : ℕ) : Type 0 where
+  pub within : at + size ≤ length s
+  pub is : v ≡ value_at s at
+  pub next-is : next ≡ at + size
