@@ -20,31 +20,14 @@ pub struct Part {
     pub size: usize,
 }
 
-// How many settings and tasks a sheet has that reads and that the plain finder accepts.
-#[derive(Clone, Copy)]
-enum Section {
-    Tasks(usize, usize),
-    Nothing,
-}
-
-// Reads a sheet, and asks the plain finder for outputs that are just long enough.
-fn section_of(bytes: &[u8]) -> Section
+// How many settings and tasks a sheet has that reads and that the plain finder accepts, asked for outputs that are just long enough.
+fn section_of(bytes: &[u8]) -> Option<(usize, usize)>
     ensures { result ≡ section_of bytes.now }
 {
-    let reading = sheet::read(bytes);
-    let verdict = reading.verdict;
-    let Ok(()) = verdict else {
-        return Section::Nothing;
-    };
-    let x = reading.sheet;
-    let table = x.table;
-    let n = table.n;
-    let settings = x.settings;
-    let answer = plain_finder::decide(table, settings, n);
-    match answer {
-        Ok(_) => Section::Tasks(x.count, n),
-        Err(_) => Section::Nothing,
-    }
+    let x = sheet::read(bytes).accepted().ok()?;
+    let n = x.table.n;
+    plain_finder::decide(x.table, x.settings, n).ok()?;
+    Some((x.count, n))
 }
 
 // The task section of a sheet with so many settings and n tasks.
@@ -61,10 +44,10 @@ fn tasks_of(which: Which, settings: usize, n: usize) -> Part
 pub fn part_of(standing: &[u8], proposed: &[u8]) -> Part
     ensures { result ≡ change_over standing.now proposed.now }
 {
-    if let Section::Tasks(settings, n) = section_of(proposed) {
+    if let Some((settings, n)) = section_of(proposed) {
         return tasks_of(Which::Proposed, settings, n);
     }
-    if let Section::Tasks(settings, n) = section_of(standing) {
+    if let Some((settings, n)) = section_of(standing) {
         return tasks_of(Which::Standing, settings, n);
     }
     let which = Which::Standing;
