@@ -10,7 +10,6 @@ use Rattle.kinds.specs.Refusal.{number_of, place_of}
 use Rattle.kinds.specs.Answer.{Handed, handed_count, Counted}
 use Rattle.kinds.specs.Task.{table_of}
 use Rattle.kinds.proofs.Answers.{not-refused}
-use Rattle.numeral.specs.declared.Numeral.TheVariants as numeral
 use Rattle.numeral.specs.Scan.{numeral_in}
 use Rattle.sheet.specs.Sections.{longest_sheet, settings_fit, results_fit}
 use Rattle.writer.specs.Encode.{encode, length_of}
@@ -31,11 +30,11 @@ use Rattle.office_sheet.specs.Written.{greatest_setting, setting_of, handed_sett
 
 -- the cases of a setting
 module _ (argument : List ℕ) where
-  pub setting-bad : numeral_in argument ≡ numeral.Bad → setting_of argument ≡ Bad
+  pub setting-bad : numeral_in argument ≡ None → setting_of argument ≡ Bad
   unfolding setting_of
   setting-bad e = rw e
 
-  module _ (v next : ℕ) (e : numeral_in argument ≡ numeral.Is v next) where
+  module _ (v next : ℕ) (e : numeral_in argument ≡ Some (v, next)) where
     pub setting-large : greatest_setting < v → setting_of argument ≡ Bad
     unfolding setting_of
     setting-large h = rw (e, lt-ltb greatest_setting v h)

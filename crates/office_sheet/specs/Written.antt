@@ -11,8 +11,6 @@ use Rattle.kinds.specs.Policy.{policy_of}
 use Rattle.kinds.specs.Settings.{settings}
 use Rattle.kinds.specs.Answer.{Handed, accepted, refused}
 use Rattle.kinds.specs.Task.{table_of}
-use Rattle.numeral.specs.declared.Numeral.{Numeral}
-use Rattle.numeral.specs.declared.Numeral.TheVariants as numeral
 use Rattle.numeral.specs.Scan.{numeral_in}
 use Rattle.sheet.specs.Rows.{no_granted}
 use Rattle.sheet.specs.Reading.{read_sheet}
@@ -30,8 +28,8 @@ greatest_setting = 65535
 
 -- a number that such a field holds
 abbrev pub setting_by : Numeral → Setting
-setting_by (numeral.Is v next) = pick (ltb greatest_setting v) Bad (Is v)
-setting_by numeral.Bad = Bad
+setting_by (Some (v, next)) = pick (ltb greatest_setting v) Bad (Is v)
+setting_by None = Bad
 
 unfoldable pub setting_of : List ℕ → Setting
 setting_of argument = setting_by (numeral_in argument)
