@@ -3,8 +3,6 @@
 #![tactic(auto)]
 
 use kinds::{Settings, Sheet, Table};
-use numeral::Numeral;
-use office_sheet::Setting;
 use std::io;
 
 // The words before the first processor: the program's own name, and the step.
@@ -14,7 +12,7 @@ const BEFORE: u64 = 2;
 fn step_asked(rt: HostRuntime) -> u32 {
     let mut word = [0u8; 16];
     let n = lent_input::word(&rt, 1, &mut word);
-    let Numeral::Is(step, _) = numeral::numeral_in(&word[..n]) else {
+    let Some((step, _)) = numeral::numeral_in(&word[..n]) else {
         return 0;
     };
     step
@@ -24,10 +22,7 @@ fn step_asked(rt: HostRuntime) -> u32 {
 fn processor_asked(rt: HostRuntime, i: usize) -> u16 {
     let mut word = [0u8; 16];
     let n = lent_input::word(&rt, i, &mut word);
-    let Setting::Is(processor) = office_sheet::setting_of(&word[..n]) else {
-        return 0;
-    };
-    processor
+    office_sheet::setting_of(&word[..n]).unwrap_or(0)
 }
 
 // The processors that the words name, and zeros where there are no more.

@@ -1,7 +1,7 @@
 -- The front of a long input tells all: one byte past the longest text settles the reading of a text, and one past the longest sheet that of
 -- a sheet.
 -- Assumes nothing.
-use Rattle.ground.proofs.Kit.{ℕ, zero, suc, ◌+◌, ◌-◌, ◌≤◌, ◌<◌, List, [], ◌∷◌, ◌++◌, append-nil, append_assoc, ◌≡◌, refl, sym, ◌∙◌, ap, ⊎_elim, arith}
+use Rattle.ground.proofs.Kit.{ℕ, Some, None, Ok, Err, zero, suc, ◌+◌, ◌-◌, ◌≤◌, ◌<◌, List, [], ◌∷◌, ◌++◌, append-nil, append_assoc, ◌≡◌, refl, sym, ◌∙◌, ap, ⊎_elim, arith}
 use Rattle.ground.proofs.Kit.{length, take, drop, length-append, length-drop, take-append-drop, length-take-le}
 use lib.Seq.{take_all, drop_at}
 use Rattle.ground.proofs.Cases.{by_le}
@@ -14,7 +14,7 @@ use Rattle.kinds.specs.Answer.{Handed}
 use Rattle.sheet.specs.Sections.{longest_sheet}
 use Rattle.sheet.proofs.Beyond.{front_reads}
 use Rattle.office.specs.Text.{line_of, text_of, AllFit, longest_text}
-use Rattle.office.specs.Reading.{line_at, Reading, read_from, read_text}
+use Rattle.office.specs.Reading.{Line, line_at, Reading, read_from, read_text}
 use Rattle.office.specs.Carrying.{import_handed}
 use Rattle.office.proofs.Lines.{from-many, from-bad, from_more}
 use Rattle.office.proofs.LinesBack.{line-got, line-back, line-rest, line-starts, no_line}

@@ -6,7 +6,6 @@
 use fill::SheetPlan;
 use kinds::{Granted, Refusal, Results, Settings, Sheet, Table};
 use loosen::fields;
-use office_sheet::Setting;
 use std::io;
 use task_names::ROOM;
 
@@ -40,9 +39,9 @@ fn form_asked(rt: HostRuntime) -> Form {
 }
 
 // The setting that a word names, or what is filled in where there is none.
-fn setting(rt: HostRuntime, i: usize, fill_in: u16) -> Setting {
+fn setting(rt: HostRuntime, i: usize, fill_in: u16) -> Option<u16> {
     if lent_input::word_count(&rt) <= i {
-        return Setting::Is(fill_in);
+        return Some(fill_in);
     }
     let mut word = [0u8; 16];
     let n = lent_input::word(&rt, i, &mut word);
@@ -61,7 +60,7 @@ fn unset(i: usize) -> Refusal {
 fn settings_asked(rt: HostRuntime) -> Asked {
     let mut numbers = Settings::FILL_INS;
     for i in 0..Settings::MOST {
-        let Setting::Is(number) = setting(rt, i + 2, numbers[i]) else {
+        let Some(number) = setting(rt, i + 2, numbers[i]) else {
             return Asked::Refused(unset(i));
         };
         numbers[i] = number;
@@ -119,13 +118,13 @@ fn put_table(
     names: &[u8; ROOM],
     out: &mut [u8],
 ) -> usize {
-    let imported = office::import(exact, Table::MOST_TASKS);
-    let answer = imported.answer;
-    if let Err(refusal) = answer {
-        return view_text::put_line(refusal, out);
+    match office::read(exact, Table::MOST_TASKS) {
+        Ok(table) => {
+            let plan = fill::fill_sheet(unfilled(settings, table, given(rt)));
+            put_planned(plan, form_asked(rt), names, out)
+        }
+        Err(refusal) => view_text::put_line(refusal, out),
     }
-    let plan = fill::fill_sheet(unfilled(settings, imported.table, given(rt)));
-    put_planned(plan, form_asked(rt), names, out)
 }
 
 // Puts what an exact text and the words come to.

@@ -16,3 +16,8 @@ pub record Fronts (bytes old : List ℕ) (k : ℕ) (new : List ℕ) : Type 0 whe
 abbrev pub CountOrLine : Result ℕ Refusal → List ℕ → ℕ → List ℕ → Type 0
 CountOrLine (Ok k) old r new = (r ≡ k) × (new ≡ old)
 CountOrLine (Err refusal) old r new = Fronts (refusal_line (number_of refusal) (place_of refusal)) old r new
+
+-- what a call writes that may refuse: its bytes stand at the front, or it has written nothing and they are the line of its refusal
+abbrev pub FrontsOrRefuses : List ℕ → List ℕ → Result ℕ Refusal → List ℕ → Type 0
+FrontsOrRefuses bytes old (Ok k) new = Fronts bytes old k new
+FrontsOrRefuses bytes old (Err refusal) new = (bytes ≡ refusal_line (number_of refusal) (place_of refusal)) × (new ≡ old)
