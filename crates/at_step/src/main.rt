@@ -3,8 +3,6 @@
 #![tactic(auto)]
 
 use kinds::{Sheet, Table};
-use numeral::Numeral;
-use office_sheet::Setting;
 use std::{array, io};
 use text::{Apart, Page};
 use view_text::MOST_LOADS;
@@ -16,7 +14,7 @@ const BEFORE: usize = 2;
 fn step_asked(rt: HostRuntime) -> u32 {
     let mut word = [0u8; 16];
     let n = lent_input::word(&rt, 1, &mut word);
-    let Numeral::Is(step, _) = numeral::numeral_in(&word[..n]) else {
+    let Some((step, _)) = numeral::numeral_in(&word[..n]) else {
         return 0;
     };
     step
@@ -26,10 +24,7 @@ fn step_asked(rt: HostRuntime) -> u32 {
 fn processor_asked(rt: HostRuntime, i: usize) -> u16 {
     let mut word = [0u8; 16];
     let n = lent_input::word(&rt, i, &mut word);
-    let Setting::Is(processor) = office_sheet::setting_of(&word[..n]) else {
-        return 0;
-    };
-    processor
+    office_sheet::setting_of(&word[..n]).unwrap_or(0)
 }
 
 // Both sides of the policy's test at a step, or why there is no margin.

@@ -8,7 +8,7 @@ use Rattle.kinds.specs.Answer.{Handed, refused, Counted}
 use Rattle.kinds.proofs.Refusals.{refusal-numbered}
 use Rattle.kinds.proofs.Answers.{count-one}
 use Rattle.refusal_line.specs.Line.{refusal_line}
-use Rattle.refusal_line.specs.Fronts.{Fronts}
+use Rattle.refusal_line.specs.Fronts.{Fronts, FrontsOrRefuses}
 use Rattle.refusal_line.proofs.Fronts.{fronts}
 use Rattle.fill.specs.Fill.{planned, filled, Fills}
 
@@ -23,7 +23,7 @@ fills_one h old r q new other a b = (count-one r q (a.answer ∙ sym b.answer), 
 
 module _ (s old new : List ℕ) where
   -- the filled sheet is what the program writes
-  pub tells-sheet : (k : ℕ) → Fills (planned s) old (Ok k) new → Fronts (filled s) old k new
+  tells-sheet : (k : ℕ) → Fills (planned s) old (Ok k) new → Fronts (filled s) old k new
   unfolding filled
   tells-sheet k p =
       let bytes = (planned s).value in
@@ -41,11 +41,16 @@ module _ (s old new : List ℕ) where
     not-accepted = ne_eqb (planned s).number 0 (λ z. omega (arith, number-told, refusal-numbered q))
 
     -- of a refusal it writes the line
-    pub tells-line : filled s ≡ refusal_line (number_of q) (place_of q)
+    tells-line : filled s ≡ refusal_line (number_of q) (place_of q)
     unfolding filled
     tells-line =
         let place : (planned s).place ≡ place_of q = sym (ap (λ (h : Handed ℕ). h.place) p.answer) in
         rw (not-accepted, number-told, place)
 
-    pub kept : new ≡ old
+    kept : new ≡ old
     kept = rw not-accepted at p.output
+
+  -- what the program writes, as the call hands it on that fills in
+  pub tells : (r : Counted) → Fills (planned s) old r new → FrontsOrRefuses (filled s) old r new
+  tells (Ok k) p = tells-sheet k p
+  tells (Err q) p = (tells-line q p, kept q p)

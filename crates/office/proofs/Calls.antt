@@ -1,6 +1,6 @@
 -- The round trips as a caller of export and import sees them: from what the calls hand back and the outputs that they leave.
 -- Assumes nothing.
-use Rattle.ground.proofs.Kit.{ℕ, ◌≤◌, List, ◌++◌, ◌≡◌, refl, sym, ◌∙◌, ap, arith, ltb, length, take, drop, le-ltb, ltb-false, Ok}
+use Rattle.ground.proofs.Kit.{ℕ, ◌≤◌, List, ◌++◌, ◌≡◌, refl, sym, ◌∙◌, ap, arith, ltb, length, take, drop, le-ltb, ltb-false, Ok, Err}
 use lib.Seq.{take_at}
 use Rattle.ground.proofs.Cases.{by_bool}
 use Rattle.kinds.specs.declared.Task.{Task}
@@ -9,7 +9,7 @@ use Rattle.kinds.specs.Answer.{Handed, accepted}
 use Rattle.kinds.specs.declared.Refusal.TheVariants.{TooManyTasks, OutputTooShort}
 use Rattle.kinds.proofs.Answers.{not-refused}
 use Rattle.office.specs.Text.{text_of, AllFit}
-use Rattle.office.specs.Reading.{Reading, Rows, Not, read_text, rows_of}
+use Rattle.office.specs.Reading.{Reading, read_text, rows_of}
 use Rattle.office.specs.Carrying.{carry, carry_rows, import_handed, export_handed, after_carry, Imports, Exports}
 use Rattle.office.proofs.RoundTrip.{import-of-export, export-of-import}
 
@@ -33,7 +33,7 @@ exported rows room k e =
 
 -- import after export gives the table back: the bytes that an accepted export wrote read as the rows
 pub import-after-export : (rows : List Task) (old new : List ℕ) (k : ℕ) → AllFit rows → Exports rows (length rows) old (Ok k) new
-    → read_text (take k new) ≡ Rows rows
+    → read_text (take k new) ≡ Ok rows
 import-after-export rows old new k m x =
     let w = exported rows (length old) k (sym x.answer) in
     let n : new ≡ text_of rows ++ drop k old = x.output ∙ ap (λ (h : Handed ℕ). after_carry h (text_of rows) old) (sym x.answer) in
@@ -42,12 +42,12 @@ import-after-export rows old new k m x =
 
 -- an accepted import: the text reads as rows, and their count
 pub record Imported (reading : Reading) (n : ℕ) : Type 0 where
-  pub is : reading ≡ Rows (rows_of reading)
+  pub is : reading ≡ Ok (rows_of reading)
   pub count : n ≡ length (rows_of reading)
 
 imported : (reading : Reading) (room n : ℕ) → carry_rows reading room ≡ accepted n → Imported reading n
-imported (Rows rows) room n e = record { is = refl; count = (carried (length rows) room n e).0 }
-imported (Not refusal) room n e = not-refused n 0 refusal (sym e)
+imported (Ok rows) room n e = record { is = refl; count = (carried (length rows) room n e).0 }
+imported (Err refusal) room n e = not-refused n 0 refusal (sym e)
 
 imported-of : (text : List ℕ) (room n : ℕ) → import_handed text room ≡ accepted n → Imported (read_text text) n
 unfolding import_handed

@@ -5,7 +5,7 @@ use Rattle.kinds.specs.declared.Refusal.{Refusal}
 use Rattle.kinds.specs.declared.Sheet.{Sheet}
 use Rattle.kinds.specs.declared.Table.{Table}
 use Rattle.kinds.specs.Refusal.{number_of, place_of}
-use Rattle.kinds.specs.Answer.{Handed, accepted, refused}
+use Rattle.kinds.specs.Answer.{Handed, accepted, refused, Counted}
 use Rattle.sheet.specs.declared.Reading.{Reading}
 use Rattle.sheet.specs.Reading.{read_sheet, handed_reading}
 use Rattle.sheet.proofs.Handed.{handed-as}
@@ -13,7 +13,7 @@ use Rattle.office.specs.Text.{text_to, longest_text}
 use Rattle.office.specs.Carrying.{export_handed, after_carry, Exports}
 use Rattle.office.proofs.Answers.{after-refused, export-fits}
 use Rattle.refusal_line.specs.Line.{refusal_line, or_line}
-use Rattle.refusal_line.specs.Fronts.{Fronts}
+use Rattle.refusal_line.specs.Fronts.{FrontsOrRefuses}
 use Rattle.refusal_line.proofs.Fronts.{fronts}
 use Rattle.refusal_line.proofs.Lines.{line_of}
 use Rattle.office_sheet.specs.Written.{taken_table, taken_out}
@@ -25,16 +25,12 @@ module _ (t : Table) (old : List ℕ) (room : length old ≡ longest_text) where
   handed h e =
       sym (ap (λ (k : Handed ℕ). or_line k (λ n. text_to t.rows t.n)) (e ∙ ap (export_handed t.rows t.n) room))
 
-  pub table-refused : (q : Refusal) (mid new : List ℕ) (k : ℕ) → Exports t.rows t.n old (Err q) mid
-      → Fronts (refusal_line (number_of q) (place_of q)) mid k new → Fronts (taken_table t) old k new
-  table-refused q mid new k x f =
-      let same : mid ≡ old =
-      x.output ∙ (ap (λ (h : Handed ℕ). after_carry h (text_to t.rows t.n) old) (sym x.answer) ∙ after-refused q (text_to t.rows t.n) old) in
-      let says = handed (refused 0 q) x.answer ∙ line_of {A = ℕ} 0 q (λ n. text_to t.rows t.n) in
-      rw (says, ← same) f
-
-  pub table_taken : (k : ℕ) (new : List ℕ) → Exports t.rows t.n old (Ok k) new → Fronts (taken_table t) old k new
-  table_taken k new x =
+  pub table_taken : (r : Counted) (new : List ℕ) → Exports t.rows t.n old r new → FrontsOrRefuses (taken_table t) old r new
+  table_taken (Err q) new x = (
+    handed (refused 0 q) x.answer ∙ line_of {A = ℕ} 0 q (λ n. text_to t.rows t.n),
+    x.output ∙ (ap (λ (h : Handed ℕ). after_carry h (text_to t.rows t.n) old) (sym x.answer) ∙ after-refused q (text_to t.rows t.n) old),
+  )
+  table_taken (Ok k) new x =
       let text = text_to t.rows t.n in
       let a = export-fits t.rows t.n (length old) k (sym x.answer) in
       rw (handed (accepted k) x.answer)

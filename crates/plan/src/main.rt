@@ -6,17 +6,9 @@
 use fill::SheetPlan;
 use kinds::{Granted, Refusal, Results, Settings, Sheet, Table};
 use loosen::fields::Kind;
-use office_sheet::Setting;
 use std::io;
 use task_names::Names;
 use text::Page;
-
-// The settings that the words name, or the refusal of one that is no number.
-#[derive(Clone, Copy)]
-enum Asked {
-    Is(Settings),
-    Refused(Refusal),
-}
 
 // How a plan is put.
 #[derive(Clone, Copy)]
@@ -41,9 +33,9 @@ fn form_asked(rt: HostRuntime) -> Form {
 }
 
 // The setting that a word names, or what is filled in where there is none.
-fn setting(rt: HostRuntime, i: usize, fill_in: u16) -> Setting {
+fn setting(rt: HostRuntime, i: usize, fill_in: u16) -> Option<u16> {
     if lent_input::word_count(&rt) <= i {
-        return Setting::Is(fill_in);
+        return Some(fill_in);
     }
     let mut word = [0u8; 16];
     let n = lent_input::word(&rt, i, &mut word);
@@ -58,16 +50,13 @@ fn unset(i: usize) -> Refusal {
     Refusal::Misset
 }
 
-// The settings by the words behind the form.
-fn settings_asked(rt: HostRuntime) -> Asked {
+// The settings by the words behind the form, or the refusal of one that is no number.
+fn settings_asked(rt: HostRuntime) -> Result<Settings, Refusal> {
     let mut numbers = Settings::FILL_INS;
-    for i in 0..Settings::MOST {
-        let Setting::Is(number) = setting(rt, i + 2, numbers[i]) else {
-            return Asked::Refused(unset(i));
-        };
-        numbers[i] = number;
+    for (i, number) in numbers.iter_mut().enumerate() {
+        *number = setting(rt, i + 2, *number).ok_or(unset(i))?;
     }
-    Asked::Is(Settings::of(numbers))
+    Ok(Settings::from(numbers))
 }
 
 // The unfilled sheet of a table, with as many settings as words are given.
@@ -107,22 +96,18 @@ fn put_planned(page: &mut Page, plan: SheetPlan, form: Form, names: &Names) {
     }
 }
 
-// Puts what an exact text comes to under these settings.
-fn put_table(rt: HostRuntime, page: &mut Page, exact: &[u8], settings: Settings, names: &Names) {
-    let imported = office::import(exact, Table::MOST_TASKS);
-    if let Err(refusal) = imported.answer {
-        return view_text::put_line(page, refusal);
-    }
-    let plan = fill::fill_sheet(unfilled(settings, imported.table, given(rt)));
-    put_planned(page, plan, form_asked(rt), names)
+// The plan of an exact text under the settings that the words name, or the first refusal of either.
+fn plan_asked(rt: HostRuntime, exact: &[u8]) -> Result<SheetPlan, Refusal> {
+    let settings = settings_asked(rt)?;
+    let table = office::read(exact, Table::MOST_TASKS)?;
+    Ok(fill::fill_sheet(unfilled(settings, table, given(rt))))
 }
 
 // Puts what an exact text and the words come to.
 fn put_asked(rt: HostRuntime, page: &mut Page, exact: &[u8], names: &Names) {
-    let asked = settings_asked(rt);
-    match asked {
-        Asked::Refused(refusal) => view_text::put_line(page, refusal),
-        Asked::Is(settings) => put_table(rt, page, exact, settings, names),
+    match plan_asked(rt, exact) {
+        Ok(plan) => put_planned(page, plan, form_asked(rt), names),
+        Err(refusal) => view_text::put_line(page, refusal),
     }
 }
 

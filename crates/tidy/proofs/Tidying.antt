@@ -13,7 +13,7 @@ use Rattle.kinds.proofs.Answers.{not-refused, count-one}
 use Rattle.field.specs.Handover.{Put}
 use Rattle.field.proofs.Stores.{stored-front}
 use Rattle.office.specs.Text.{longest_text}
-use Rattle.office.specs.Reading.{Reading, Rows, Not, read_text, rows_of}
+use Rattle.office.specs.Reading.{Reading, read_text, rows_of}
 use Rattle.office.specs.Carrying.{after_carry}
 use Rattle.office.proofs.Answers.{after-refused, import-not}
 use Rattle.office.proofs.Longest.{taken-most}
@@ -28,17 +28,17 @@ module _ (s : List ℕ) where
   untaken-by : (r : Refusal) → strict s ≡ refused 0 r → is_taken s ≡ false
   untaken-by r e = rw e (ne_eqb (number_of r) 0 (λ z. omega (arith, refusal-numbered r)))
 
-  strict-not : (r : Refusal) → read_text s ≡ Not r → strict s ≡ refused 0 r
+  strict-not : (r : Refusal) → read_text s ≡ Err r → strict s ≡ refused 0 r
   unfolding strict
   strict-not r e = import-not s most_tasks r e
 
   -- what is taken reads as rows
-  pub taken-reads : is_taken s ≡ true → read_text s ≡ Rows (rows_of (read_text s))
+  pub taken-reads : is_taken s ≡ true → read_text s ≡ Ok (rows_of (read_text s))
   taken-reads t = by (read_text s) refl
     where
-      by : (reading : Reading) → read_text s ≡ reading → read_text s ≡ Rows (rows_of (read_text s))
-      by (Rows rows) e = rw e
-      by (Not r) e =
+      by : (reading : Reading) → read_text s ≡ reading → read_text s ≡ Ok (rows_of (read_text s))
+      by (Ok rows) e = rw e
+      by (Err r) e =
           let none = ap (λ (h : Handed ℕ). h.number) (strict-not r e) in
           absurd (omega (arith, refusal-numbered r, eqb-true (strict s).number 0 t))
 
