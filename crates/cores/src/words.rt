@@ -160,7 +160,7 @@ fn put_reason(out: &mut [u8], at: usize, refusal: Refusal, table: WideTable) -> 
         return at;
     }
     let reason = reason::wide_reason_of(table.rows[place]);
-    refusal_words::wide_reason(out, at, reason.number())
+    refusal_words::wide_reason(out, at, reason.map_or(0, |reason| reason.number()))
 }
 
 // The line of a refusal, and one sentence on what to look at, without an end.
