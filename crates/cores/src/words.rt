@@ -100,7 +100,7 @@ fn enough(table: WideTable, m: u16) -> Option<u16> {
 
 // Puts a refusal of the finder in words, and how many cores would be enough for a table that fits at no step.
 pub(crate) fn put_refused(page: &mut Page, refusal: Refusal, table: WideTable, m: u16) {
-    let because = |job| WideBecause(reason::wide_reason_of(job));
+    let because = |job| reason::wide_reason_of(job).map(WideBecause);
     writeln!(page, "{}", Line::of(refusal, &table.rows, because));
     if refusal != Refusal::NoStepPasses {
         return;

@@ -29,3 +29,7 @@ IsLeast test K None = (j : ℕ) → j ≤ K → test j ≡ false
 -- a step that passes is followed by steps that pass
 abbrev pub Rising : (ℕ → Bool) → Type 0
 Rising test = (j k : ℕ) → j ≤ k → test j ≡ true → test k ≡ true
+
+-- a function whose possible results at a step are these answers as the test does, at each step from 0 to K
+abbrev pub Answers : (ℕ → Bool → Type 0) → (ℕ → Bool) → ℕ → Type 0
+Answers results test K = (k : ℕ) (passed : Bool) → k ≤ K → results k passed → passed ≡ test k

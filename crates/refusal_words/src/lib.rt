@@ -16,11 +16,11 @@ pub struct Line<B> {
 
 impl<B> Line<B> {
     // The line of a refusal of a table; the reason is that of the record which it says is not good.
-    pub fn of<R: Copy, F: Fn(R) -> B>(refusal: Refusal, rows: &[R], because: F) -> Line<B>
+    pub fn of<R: Copy, F: Fn(R) -> Option<B>>(refusal: Refusal, rows: &[R], because: F) -> Line<B>
         requires { (row : R) → F.pre because row }
     {
         let reason = match refusal {
-            Refusal::BadRecord(place) => rows.get(place).map(|row| because(*row)),
+            Refusal::BadRecord(place) => rows.get(place).and_then(|row| because(*row)),
             _ => None,
         };
         Line { refusal, reason }

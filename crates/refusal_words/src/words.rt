@@ -68,14 +68,13 @@ impl fmt::Display for Sentence {
     }
 }
 
-// Why a record is not good, behind a colon; nothing of a good one.
+// Why a record is not good, behind a colon.
 #[derive(Clone, Copy)]
 pub struct Because(pub Reason);
 
 impl fmt::Display for Because {
     fn fmt<W: fmt::Write>(&self, f: &mut fmt::Formatter<W>) -> fmt::Result {
         match self.0 {
-            Reason::Good => Ok(()),
             Reason::NoCost => write!(f, ": C is 0"),
             Reason::CostAboveTmin => write!(f, ": C + 2w is above Tmin"),
             Reason::TminAboveTmax => write!(f, ": Tmin is above Tmax"),
@@ -88,14 +87,13 @@ impl fmt::Display for Because {
     }
 }
 
-// Why a job that needs several cores is not good, behind a colon; nothing of a good one.
+// Why a job that needs several cores is not good, behind a colon.
 #[derive(Clone, Copy)]
 pub struct WideBecause(pub WideReason);
 
 impl fmt::Display for WideBecause {
     fn fmt<W: fmt::Write>(&self, f: &mut fmt::Formatter<W>) -> fmt::Result {
         match self.0 {
-            WideReason::Good => Ok(()),
             WideReason::NoSpan => write!(f, ": L is 0"),
             WideReason::SpanNotBelowTmin => write!(f, ": L is not below Tmin"),
             WideReason::SpanNotBelowCost => write!(f, ": L is not below C"),

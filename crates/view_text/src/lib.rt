@@ -74,7 +74,7 @@ fn put_room(page: &mut Page, x: Sheet, step: u32) {
 fn put_refused(page: &mut Page, refusal: Refusal, x: Sheet, names: &Names) {
     let Settings { swap, notch, .. } = x.settings;
     let line = Line::of(refusal, &x.table.rows, |task| {
-        Because(reason::reason_of(task, swap, notch))
+        reason::reason_of(task, swap, notch).map(Because)
     });
     writeln!(page, "{line}");
     if refusal == Refusal::NoStepPasses {
