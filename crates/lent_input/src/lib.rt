@@ -4,6 +4,7 @@
 ghost use Rattle.std.specs.Prelude.{◌≡◌, ◌<◌, ◌≤◌, length, take, IfOk};
 ghost use Rattle.std.specs.Io.KnownBytes.{Consumes, IsAtEnd};
 
+use std::convert::AsSlice;
 use std::env::{Env, FillError};
 use std::io;
 use std::io::Read;
@@ -44,4 +45,22 @@ pub fn word_count<E: Env>(given: &E) -> usize {
         }
     }
     usize::MAX
+}
+
+// A program's whole run: reads standard input to the front of a lent buffer, and writes what a step puts at the front of the other one, as
+// many bytes as it answers.
+pub fn run<O: AsSlice<u8>, F: FnOnce(&[u8], &mut O) -> usize>(
+    rt: HostRuntime,
+    input: &mut [u8],
+    out: &mut O,
+    step: F,
+) -> io::Result<()>
+    requires { F.IsAlwaysCallable step }
+{
+    let n = read_full(&mut rt.stdin(), input)?;
+    let k = step(&input[..n], out);
+    match out.as_slice().get(..k) {
+        Some(bytes) => rt.write_all(bytes),
+        None => Ok(()),
+    }
 }
