@@ -1,2 +1,0 @@
-pub mod Springs
-pub mod Blocks
