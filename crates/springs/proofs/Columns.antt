@@ -1,9 +1,9 @@
 -- Columns: the walks that write loads and take springs in, and what the springs then say of a table.
 -- Assumes nothing.
-use Rattle.ground.proofs.Kit.{ℕ, suc, ◌+◌, ◌≤◌, ◌<◌, true, false, List, ◌≡◌, refl, sym, ◌∙◌, ap, arith, length, get_or, set, replicate, length-set}
+use Rattle.ground.proofs.Kit.{ℕ, suc, ◌+◌, ◌≤◌, ◌<◌, true, false, List, ◌≡◌, refl, sym, ◌∙◌, ap, arith, length, get_or, set, take, replicate, length-take-le, length-set}
 use Rattle.ground.proofs.Kit.{get_or-set_same, get_or-set_other, get_or-replicate, length-replicate, lt-ltb, le-ltb, Ok, Err}
 use mathlib.Core.Path.{fun_ext}
-use Rattle.std.proofs.lemmas.List.{get_or_past}
+use Rattle.std.proofs.lemmas.List.{get_or_past, get_or-take}
 use Rattle.ground.specs.Folds.{list_to, sum_to, AddedUp}
 use Rattle.ground.proofs.Buffer.{list-cong}
 use Rattle.ground.proofs.Cases.{by-eq, by_bool, by_le}
@@ -27,6 +27,16 @@ use Rattle.springs.proofs.Shares.{share-on, saturation-on, share-most, saturatio
 pub allowed-in : (s : Springs) (i : ℕ) → i < s.n → Allowed s.notch (spring_in s i)
 unfolding spring_in
 allowed-in s i l = s.allowed i l
+
+-- a walk over the first n numbers of a column
+module _ (n i : ℕ) (column : List ℕ) (long : n ≤ length column) where
+  pub column_read : i < length (take n column) → (i < n) × (get_or (take n column) i 0 ≡ get_or column i 0)
+  column_read l =
+      let below : i < n = omega (arith, length-take-le n column long) in
+      (below, get_or-take {A = ℕ} n column i 0 below)
+
+  pub column_end : length (take n column) ≤ i → i ≤ length (take n column) → i ≡ n
+  column_end h g = omega (arith, length-take-le n column long)
 
 -- a column with one number set
 pub at-most-set : (most i v : ℕ) (column : List ℕ) → i < length column → v ≤ most → AllAtMost most column → AllAtMost most (set column i v)

@@ -1,7 +1,7 @@
--- `policy::weights_of` meets its contract. Assumes nothing.
+-- `policy::Weights::of` meets its contract. Assumes nothing.
 use Rattle.ground.proofs.Kit.{refl, arith}
 use Rattle.bound.proofs.Bounds.{bound-high}
-use Rattle.policy.proofs.weights_of.Goals as goal
+use Rattle.policy.proofs.Weights.of.Goals as goal
 
 pub returns-in-OneCoreRm : goal.returns-in-OneCoreRm
 returns-in-OneCoreRm c =

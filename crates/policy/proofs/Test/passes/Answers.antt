@@ -1,7 +1,7 @@
--- `policy::passes` meets its contract. Assumes nothing.
+-- `policy::Test::passes` meets its contract. Assumes nothing.
 use Rattle.ground.proofs.Kit.{refl, sym, ◌∙◌}
 use Rattle.policy.proofs.Tests.{passes-worked-out, first-fit-passes}
-use Rattle.policy.proofs.passes.Goals as goal
+use Rattle.policy.proofs.Test.passes.Goals as goal
 
 pub returns-then-is_first_fit : goal.returns-then-is_first_fit
 returns-then-is_first_fit c =
@@ -9,5 +9,5 @@ returns-then-is_first_fit c =
 
 pub returns : goal.returns
 returns c =
-    let served = c.requires.3 (sym c.is_first_fit.ensures ∙ c.if-is_first_fit.false) in
-    c.weighs.ensures ∙ passes-worked-out _ _ _ _ _ _ _ _ served c.weights_of-w.ensures.0 c.total_of.ensures refl
+    let served = c.args.self.served (sym c.is_first_fit.ensures ∙ c.if-is_first_fit.false) in
+    c.hold.ensures ∙ passes-worked-out _ _ _ _ _ _ _ _ served c.weights.ensures.0 c.of.ensures refl
