@@ -232,3 +232,8 @@ loads-most settings s same k i l =
 pub full-low : (s : Springs) → full_in s s.n ≤ 999999
 full-low s =
     max-to-le (λ i. (spring_in s i).saturation) s.n 999999 (λ i l. let a = allowed-in s i l in saturation-low (spring_in s i) a.within a.some)
+
+-- the saturation step that stands in the column
+pub saturation-in : (s : Springs) (i : ℕ) → i < s.n → get_or s.saturation i 0 ≡ saturation_on (spring_in s i)
+unfolding spring_in
+saturation-in s i l = (allowed-in s i l).within.saturated
