@@ -1,7 +1,7 @@
 -- Columns: the walks that write loads and take springs in, and what the springs then say of a table.
 -- Assumes nothing.
 use Rattle.ground.proofs.Kit.{ℕ, suc, ◌+◌, ◌≤◌, ◌<◌, true, false, List, ◌≡◌, refl, sym, ◌∙◌, ap, arith, length, get_or, set, take, replicate, length-take-le, length-set}
-use Rattle.ground.proofs.Kit.{get_or-set_same, get_or-set_other, get_or-replicate, length-replicate, lt-ltb, le-ltb, Ok, Err}
+use Rattle.ground.proofs.Kit.{get_or-set_same, get_or-set_other, get_or-replicate, length-replicate, lt-ltb, le-ltb, Ok, Err, Result}
 use mathlib.Core.Path.{fun_ext}
 use Rattle.std.proofs.lemmas.List.{get_or_past, get_or-take}
 use Rattle.ground.specs.Folds.{list_to, sum_to, AddedUp}
@@ -15,6 +15,7 @@ use Rattle.kinds.specs.Settings.{tests_charge}
 use Rattle.kinds.specs.Task.{at}
 use Rattle.share.specs.Share.{share_at, saturation_at, period_at, charge_at, load_at}
 use Rattle.share.specs.Table.{first_bad, priced_rows, periods_at}
+use Rattle.share.proofs.Tables.{first-bad-is}
 use Rattle.springs.specs.declared.Spring.{Spring}
 use Rattle.springs.specs.declared.Springs.{Springs}
 use Rattle.springs.specs.Spring.{spring_of, share_on, saturation_on, shares_on, periods_on, charges_on, loads_on}
@@ -232,6 +233,30 @@ loads-most settings s same k i l =
 pub full-low : (s : Springs) → full_in s s.n ≤ 999999
 full-low s =
     max-to-le (λ i. (spring_in s i).saturation) s.n 999999 (λ i l. let a = allowed-in s i l in saturation-low (spring_in s i) a.within a.some)
+
+-- what taking in comes to
+found-all : (r n : ℕ) → found_bad r n ≡ Ok tt → n ≤ r
+found-all r n e = by_le n r (λ h. h) (λ h. let bad = rw (lt-ltb r n h) at e in absurd cc)
+
+found-one : (r n i : ℕ) → found_bad r n ≡ Err i → (i ≡ r) × (r < n)
+found-one r n i e =
+    by_le n r
+    (λ h. let all = rw (le-ltb r n h) at e in absurd cc)
+    (λ h. let bad = rw (lt-ltb r n h) at e in (cc, h))
+
+module _ (w q : ℕ) (rows : List Task) (n : ℕ) (r : Result (Unit {0}) ℕ) (old now : Springs) (notch : old.notch ≡ q) (t : TakenIn w rows n r old now) where
+  -- all of the records are good, and the springs are theirs
+  pub taken-good : r ≡ Ok tt → (n ≤ first_bad w q rows n) × Sprung (priced_rows w rows n) n now
+  taken-good e =
+      let all : n ≤ first_bad w old.notch rows n = found-all _ n (sym t.is ∙ e) in
+      let end : first_bad w old.notch rows n ≡ n = omega (arith, (first-bad-is w old.notch rows n).last) in
+      (rw notch at all, rw end at t.sprung)
+
+  -- or one is not
+  pub taken-bad : (i : ℕ) → r ≡ Err i → (i ≡ first_bad w q rows n) × (i < n)
+  taken-bad i e =
+      let one = found-one (first_bad w old.notch rows n) n i (sym t.is ∙ e) in
+      (rw notch at one.0, omega (arith, one.0, one.1))
 
 -- the saturation step that stands in the column
 pub saturation-in : (s : Springs) (i : ℕ) → i < s.n → get_or s.saturation i 0 ≡ saturation_on (spring_in s i)

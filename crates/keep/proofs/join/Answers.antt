@@ -3,7 +3,7 @@ use Rattle.ground.proofs.Kit.{◌+◌, ◌≤◌, ◌∙◌, ap, arith, rules}
 use Rattle.kinds.specs.declared.Table.{Table}
 use Rattle.springs.specs.Handover.{SprungUntil}
 use Rattle.keep.specs.Keep.{joined_rows}
-use Rattle.keep.proofs.Blocks.{joined-indexable, joined-index}
+use Rattle.keep.proofs.Springs.{joined-indexable, joined-index}
 use Rattle.keep.proofs.Changes.{fresh-is, join-zero, join-many, join-bad, join-made}
 use Rattle.keep.proofs.join.Goals as goal
 

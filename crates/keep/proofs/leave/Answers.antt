@@ -1,7 +1,7 @@
 -- `keep::leave` meets its contract. Assumes nothing.
 use Rattle.ground.proofs.Kit.{◌∙◌}
 use Rattle.keep.specs.Keep.{left_rows}
-use Rattle.keep.proofs.Blocks.{left-indexable, left-index}
+use Rattle.keep.proofs.Springs.{left-indexable, left-index}
 use Rattle.keep.proofs.Changes.{fresh-is, leave-zero, leave-many, leave-bad, leave-missing, leave-made}
 use Rattle.keep.proofs.leave.Goals as goal
 
