@@ -29,7 +29,7 @@ pub fn find(
 {
     let room = periods.len().min(processors.len());
     let mut block = [0u32; Columns::ROOM];
-    let step = search(table, settings, room, &mut block)?;
+    let step = find_step(table, settings, room, &mut block)?;
     outcome::grant(step, settings, &mut block, table.n, periods, processors);
     Ok(step)
 }
@@ -39,11 +39,11 @@ pub fn decide(table: Table, settings: Settings, room: usize) -> Result<u32, Refu
     ensures { handed result ≡ found true settings table.rows table.n room }
 {
     let mut block = [0u32; Columns::ROOM];
-    search(table, settings, room, &mut block)
+    find_step(table, settings, room, &mut block)
 }
 
 // The least passing step, with the springs of the table left in the lent block, or the refusal.
-fn search(
+fn find_step(
     table: Table,
     settings: Settings,
     room: usize,

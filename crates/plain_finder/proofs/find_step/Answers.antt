@@ -1,8 +1,8 @@
--- `plain_finder::search` meets its contract. Assumes nothing.
+-- `plain_finder::find_step` meets its contract. Assumes nothing.
 use Rattle.ground.proofs.Kit.{true, ◌≡◌, rules, Err}
 use Rattle.outcome.proofs.Searches.{refused-sprung, may-search, found-sprung}
 use Rattle.plain_finder.proofs.Stepping.{step-found}
-use Rattle.plain_finder.proofs.search.Goals as goal
+use Rattle.plain_finder.proofs.find_step.Goals as goal
 
 pub returns-in_err-admit : goal.returns-in_err-admit
 returns-in_err-admit c =
