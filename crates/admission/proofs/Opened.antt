@@ -1,7 +1,7 @@
 -- What every call on a table has in hand once it is admitted.
 -- Assumes nothing.
 use Rattle.kinds.specs.Answer.{Verdict}
-use Rattle.ground.proofs.Kit.{ℕ, ◌≤◌, Bool, List, ◌≡◌, sym, ◌∙◌, lt-ltb, Ok, Err}
+use Rattle.ground.proofs.Kit.{ℕ, ◌≤◌, Bool, List, ◌≡◌, refl, sym, ◌∙◌, lt-ltb, Ok, Err}
 use Rattle.ground.proofs.Cases.{by_le}
 use Rattle.kinds.specs.declared.Task.{Task}
 use Rattle.kinds.specs.declared.Settings.{Settings}
@@ -37,6 +37,12 @@ pub refused-gate : (serves : Bool) (s : Settings) (rows : List Task) (n room : �
     → Err r ≡ admission serves s rows n room
 unfolding admission
 refused-gate serves s rows n room r g = rw g
+
+-- and hands on no springs
+pub refused-sprung : (serves : Bool) (s : Settings) (rows : List Task) (n room : ℕ) (r : Refusal) (block : List ℕ) → gate_of serves s n room ≡ Err r
+    → AdmittedSprung serves s rows n room (Err r) block
+refused-sprung serves s rows n room r block g =
+    record { is = refused-gate serves s rows n room r g; sprung = λ e. not-admitted (Err r) refl e }
 
 -- every check has passed, and the block holds the springs of the records with their swaps paid for, which may be charged
 pub record Opened (serves : Bool) (s : Settings) (rows : List Task) (n room : ℕ) (block : List ℕ) : Type 0 where

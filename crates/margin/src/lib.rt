@@ -14,16 +14,8 @@ pub fn margin_at(table: Table, settings: Settings, step: u32) -> Result<i64, Ref
 {
     let n = table.n;
     let mut block = [0u32; Columns::ROOM];
-    let gate = admission::gate_of(settings, false, n, n);
-    if let Err(refusal) = gate {
-        return Err(refusal);
-    }
-    let bad = springs::springs_of(table, settings.swap, settings.notch, &mut block);
-    let admission = admission::judge(bad, n);
-    let Err(refusal) = admission else {
-        let asked = settings.policy;
-        springs::loads_at(settings, &mut block, n, step);
-        return Ok(policy::margin_of(asked.meant(), settings.m, &block, n));
-    };
-    Err(refusal)
+    admission::admit(table, settings, false, n, &mut block)?;
+    springs::loads_at(settings, &mut block, n, step);
+    let asked = settings.policy;
+    Ok(policy::margin_of(asked.meant(), settings.m, &block, n))
 }

@@ -22,7 +22,7 @@ use Rattle.admission.specs.Admission.{gate_of, admission}
 use Rattle.admission.proofs.Opened.{refused-gate}
 use Rattle.admission.proofs.Chain.{Ready, admitted, not-admitted, Unlike, admission-unlike}
 use Rattle.outcome.specs.Plan.{processor_on, processors_at, periods_under, processors_under, decided, periods_after, processors_after, found, outcome, Meets}
-use Rattle.outcome.specs.Handover.{FoundSprung, Leaves, MayGrant}
+use Rattle.outcome.specs.Handover.{FoundSprung, Leaves, Grantable}
 use Rattle.outcome.proofs.Processors.{processors-same}
 use Rattle.outcome.proofs.Writing.{written-kept, written_same}
 
@@ -67,10 +67,9 @@ accepting serves s rows n room k e =
     record { ready = admitted serves s rows n room d.0; step = d.1 }
 
 -- what the writing of a plan relies on, for outputs of which the shorter has the room
-pub may-grant : (serves : Bool) (answer : Answer) (s : Settings) (rows : List Task) (n a b : ℕ) (block : List ℕ)
-    → FoundSprung serves s rows n (min a b) answer block → MayGrant answer s block n a b
-may-grant serves (Err r) s rows n a b block f t = true-false t refl
-may-grant serves (Ok k) s rows n a b block f t =
+pub may-grant : (serves : Bool) (s : Settings) (rows : List Task) (n a b k : ℕ) (block : List ℕ)
+    → FoundSprung serves s rows n (min a b) (Ok k) block → Grantable s block n k a b
+may-grant serves s rows n a b k block f =
     let g = accepting serves s rows n (min a b) k f.answers in
     let p = g.ready.passed in
     let paid = rows_under s rows n in
@@ -82,9 +81,9 @@ may-grant serves (Ok k) s rows n a b block f t =
       processors-roomy = omega (arith, p.roomy);
       placeable =
           record {
-            chargeable = sprung-chargeable paid n block (f.sprung t) p.few good s.notch on;
+            chargeable = sprung-chargeable paid n block (f.sprung refl) p.few good s.notch on;
             m-most = p.m-most;
-            passing = passes_same (meant s.policy) s.m _ (loads_under s rows n k) n (loads-are paid n block (f.sprung t) s k) ∙ passing;
+            passing = passes_same (meant s.policy) s.m _ (loads_under s rows n k) n (loads-are paid n block (f.sprung refl) s k) ∙ passing;
           };
     }
 

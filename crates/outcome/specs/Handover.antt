@@ -4,7 +4,7 @@ use Rattle.std.specs.Prelude.{ℕ, ◌≤◌, Bool, true, List, ◌≡◌}
 use Rattle.ground.specs.Folds.{list_to}
 use Rattle.kinds.specs.declared.Task.{Task}
 use Rattle.kinds.specs.declared.Settings.{Settings}
-use Rattle.kinds.specs.Answer.{Handed, after, handed, is_accepted, step_of, Answer}
+use Rattle.kinds.specs.Answer.{Handed, after, handed, is_accepted, Answer}
 use Rattle.kinds.specs.Limits.{most_processors}
 use Rattle.kinds.specs.Policy.{meant, Served}
 use Rattle.springs.specs.declared.Spring.{Spring}
@@ -38,9 +38,6 @@ pub record Grantable (s : Settings) (block : List ℕ) (n k periods processors :
   pub periods-roomy : n ≤ periods
   pub processors-roomy : n ≤ processors
   pub placeable : Placeable s block n k
-
-abbrev pub MayGrant : Answer → Settings → List ℕ → ℕ → ℕ → ℕ → Type 0
-MayGrant answer s block n periods processors = is_accepted answer ≡ true → Grantable s block n (step_of answer) periods processors
 
 -- two outputs as a call leaves them that hands back h, where a step grants these entries
 pub record Written (h : Handed ℕ) (granted placed : ℕ → List ℕ) (n : ℕ) (old_periods old_processors periods processors : List ℕ) : Type 0 where

@@ -4,14 +4,13 @@
 
 ghost use Rattle.std.specs.Prelude.{◌++◌, ◌≡◌, ℕ, ◌≤◌, length, get_or, drop};
 ghost use Rattle.ground.specs.Folds.{list_to};
-ghost use Rattle.kinds.specs.Answer.{handed};
-ghost use Rattle.kinds.specs.Limits.{most_tasks};
+ghost use Rattle.kinds.specs.Answer.{handed, accepted};
 ghost use Rattle.kinds.specs.Policy.{meant};
 ghost use Rattle.springs.specs.Spring.{periods_on, loads_on};
 ghost use Rattle.springs.specs.Columns.{spring_in};
 ghost use Rattle.springs.specs.Handover.{Chargeable};
 ghost use Rattle.outcome.specs.Plan.{decided, processor_on};
-ghost use Rattle.outcome.specs.Handover.{Placeable, MayGrant, Leaves};
+ghost use Rattle.outcome.specs.Handover.{Placeable, Grantable, Leaves};
 
 use kinds::{Refusal, Settings, Table};
 use springs::Columns;
@@ -20,20 +19,8 @@ use springs::Columns;
 pub fn decide(admission: Result<(), Refusal>, step: Option<u32>) -> Result<u32, Refusal>
     ensures { handed result ≡ decided admission step }
 {
-    let Err(refusal) = admission else {
-        return stepped(step);
-    };
-    Err(refusal)
-}
-
-// The answer of an admitted call.
-fn stepped(step: Option<u32>) -> Result<u32, Refusal>
-    ensures { handed result ≡ decided (Ok tt) step }
-{
-    match step {
-        Some(k) => Ok(k),
-        None => Err(Refusal::NoStepPasses),
-    }
+    admission?;
+    step.ok_or(Refusal::NoStepPasses)
 }
 
 // Writes the period of step k of each of n tasks, and nothing past them.
@@ -43,16 +30,6 @@ fn write_periods(notch: u16, block: &[u32; Columns::ROOM], n: usize, k: u32, out
 {
     for i in 0..n {
         out[i] = springs::period_at(notch, springs::spring_in(block, i), k);
-    }
-}
-
-// Writes the first n of some processors, and nothing past them.
-pub fn write_front(from: [u16; Table::MOST_TASKS], n: usize, out: &mut [u16])
-    requires { (n ≤ most_tasks) × (n ≤ length out.old) }
-    ensures { out.new ≡ list_to (λ (i : ℕ). get_or from i 0) n ++ drop n out.old }
-{
-    for j in 0..n {
-        out[j] = from[j];
     }
 }
 
@@ -77,22 +54,20 @@ fn processors_at(
     [0u16; Table::MOST_TASKS]
 }
 
-// Writes what an answer grants to the two lent outputs: an accepted plan, worked out of the springs in the block, or nothing.
+// Writes what an accepted step grants to the two lent outputs, worked out of the springs in the block, and nothing past the tasks.
 pub fn grant(
-    answer: Result<u32, Refusal>,
+    step: u32,
     settings: Settings,
     block: &mut [u32; Columns::ROOM],
     n: usize,
     periods: &mut [u32],
     processors: &mut [u16],
 )
-    requires { MayGrant answer settings block.old n (length periods.old) (length processors.old) }
-    ensures { Leaves (handed answer) settings (spring_in block.old) n periods.old processors.old
+    requires { Grantable settings block.old n step (length periods.old) (length processors.old) }
+    ensures { Leaves (accepted step) settings (spring_in block.old) n periods.old processors.old
         periods.new processors.new }
 {
-    if let Ok(k) = answer {
-        write_periods(settings.notch, block, n, k, periods);
-        let placed = processors_at(settings, block, n, k);
-        write_front(placed, n, processors);
-    }
+    write_periods(settings.notch, block, n, step, periods);
+    let placed = processors_at(settings, block, n, step);
+    processors[..n].copy_from_slice(&placed[..n]);
 }

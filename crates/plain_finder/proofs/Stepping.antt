@@ -2,7 +2,7 @@
 -- search that demand 2 asks for.
 -- Assumes nothing.
 use Rattle.ground.specs.Least.{Step}
-use Rattle.ground.proofs.Kit.{ℕ, ◌+◌, ◌≤◌, ◌<◌, Bool, true, false, List, ◌≡◌, refl, sym, ◌∙◌, ap, arith, get_or, Some, None}
+use Rattle.ground.proofs.Kit.{ℕ, ◌+◌, ◌≤◌, ◌<◌, Bool, true, false, List, ◌≡◌, sym, ◌∙◌, ap, arith, get_or, Some, None}
 use Rattle.ground.specs.Folds.{sum_to}
 use Rattle.ground.proofs.First.{first_more}
 use Rattle.ground.proofs.Folds.{max-cong}
@@ -19,7 +19,7 @@ use Rattle.share.specs.Table.{full_compression}
 use Rattle.springs.specs.declared.Spring.{Spring}
 use Rattle.springs.specs.Spring.{share_on, let_down, shares_on, charges_on, loads_on}
 use Rattle.springs.specs.Columns.{spring_in, full_in}
-use Rattle.springs.specs.Handover.{Springy, Summed, Beside, Sprung}
+use Rattle.springs.specs.Handover.{Springy, Loaded, Summed, Beside, Sprung}
 use Rattle.springs.proofs.Springs.{carried, share-most}
 use Rattle.springs.proofs.Blocks.{loaded-beside, loaded-springs, beside_same, beside-more, springs-beside, springy-beside, sum-loaded, loads-are}
 use Rattle.fit.specs.Fit.{load_in}
@@ -52,6 +52,10 @@ stepped-none p m old n block sum few w =
 pub full-beside : (first old : List ℕ) → Beside first old → (n : ℕ) {full : ℕ} → full ≡ full_in first n → full ≡ full_in old n
 full-beside first old b n e = rw (springs-beside first old b) e
 
+-- the springs still stand there
+pub springy-loaded : (load : ℕ → ℕ) (n : ℕ) (old new : List ℕ) → Springy old n → Loaded load n old new → Springy new n
+springy-loaded load n old new s w = springy-beside old new (loaded-beside load n old new s.few w) n s
+
 -- and what it then finds is found on the block as it came
 pub searched-from : (p : Policy) (m n : ℕ) (r : Step) (first old new : List ℕ) → Beside first old
     → Searched p m (shares_on (spring_in old)) n r old new → Searched p m (shares_on (spring_in first)) n r first new
@@ -68,6 +72,11 @@ module _ (p : Policy) (m : ℕ) (old : List ℕ) (n : ℕ) (s : Springy old n) w
     pub stepped-springy : Springy block n
     stepped-springy = springy-beside old block w.beside n s
 
+    -- no step to full compression passes
+    pub stepped-past : full_in old n < k → Searched p m (shares_on (spring_in old)) n None old block
+    unfolding least_step
+    stepped-past h = record { least = least-none (passes_at p m (shares_on (spring_in old)) n) _ k w.before (omega arith); beside = w.beside }
+
     -- the test on the block is the test of step k
     tested : (b : Bool) → b ≡ passing.passes p m (load_in block) n → b ≡ passes_at p m (shares_on (spring_in old)) n k
     tested b e = e ∙ passes_same p m (load_in block) (shares_on (spring_in old) k) n w.are
@@ -81,10 +90,6 @@ module _ (p : Policy) (m : ℕ) (old : List ℕ) (n : ℕ) (s : Springy old n) w
         -- no step up to k passes
         failed : (j : ℕ) → j < k + 1 → passes_at p m (shares_on (spring_in old)) n j ≡ false
         failed = first_more (passes_at p m (shares_on (spring_in old)) n) 0 k w.before (sym (tested b e) ∙ t)
-
-        pub stepped-end : full_in old n ≤ k → Searched p m (shares_on (spring_in old)) n None old block
-        unfolding least_step
-        stepped-end h = record { least = least-none (passes_at p m (shares_on (spring_in old)) n) _ (k + 1) failed (omega arith); beside = w.beside }
 
         pub stepped-more : (next : List ℕ) (added : ℕ) → Summed (λ i. let_down (spring_in block i) (get_or block i 0)) n block next added
             → Stepped p m n (k + 1) added old next

@@ -9,9 +9,9 @@ ghost use Rattle.kinds.specs.Limits.{most_processors};
 ghost use Rattle.kinds.specs.Policy.{meant, Served};
 ghost use Rattle.springs.specs.Spring.{shares_on, charges_on, loads_on};
 ghost use Rattle.springs.specs.Columns.{spring_in};
-ghost use Rattle.springs.specs.Handover.{Springy, Chargeable};
+ghost use Rattle.springs.specs.Handover.{Roomy, Springy, Chargeable};
 ghost use Rattle.outcome.specs.Plan.{found, outcome, Meets};
-ghost use Rattle.outcome.specs.Handover.{Searchable};
+ghost use Rattle.outcome.specs.Handover.{Searchable, FoundSprung};
 ghost use Rattle.plain_finder.specs.Handover.{Searched};
 
 use kinds::{Policy, Refusal, Settings, Table};
@@ -27,40 +27,33 @@ pub fn find(
     ensures { Meets (outcome true settings table.rows table.n periods.old processors.old) result
         periods.new processors.new }
 {
-    let n = table.n;
-    let room = ground::shorter(periods.len(), processors.len());
+    let room = periods.len().min(processors.len());
     let mut block = [0u32; Columns::ROOM];
-    let gate = admission::gate_of(settings, true, n, room);
-    let Ok(()) = gate else {
-        return outcome::decide(gate, None);
-    };
-    let bad = springs::springs_of(table, settings.swap, settings.notch, &mut block);
-    let admission = admission::judge(bad, n);
-    let Ok(()) = admission else {
-        return outcome::decide(admission, None);
-    };
-    let step = least_step(settings, &mut block, n);
-    let answer = outcome::decide(admission, step);
-    outcome::grant(answer, settings, &mut block, n, periods, processors);
-    answer
+    let step = find_step(table, settings, room, &mut block)?;
+    outcome::grant(step, settings, &mut block, table.n, periods, processors);
+    Ok(step)
 }
 
 // The answer, for outputs of which the shorter has so much room.
 pub fn decide(table: Table, settings: Settings, room: usize) -> Result<u32, Refusal>
     ensures { handed result ≡ found true settings table.rows table.n room }
 {
-    let n = table.n;
     let mut block = [0u32; Columns::ROOM];
-    let gate = admission::gate_of(settings, true, n, room);
-    let Ok(()) = gate else {
-        return outcome::decide(gate, None);
-    };
-    let bad = springs::springs_of(table, settings.swap, settings.notch, &mut block);
-    let admission = admission::judge(bad, n);
-    let Ok(()) = admission else {
-        return outcome::decide(admission, None);
-    };
-    outcome::decide(admission, least_step(settings, &mut block, n))
+    find_step(table, settings, room, &mut block)
+}
+
+// The least passing step, with the springs of the table left in the lent block, or the refusal.
+fn find_step(
+    table: Table,
+    settings: Settings,
+    room: usize,
+    block: &mut [u32; Columns::ROOM],
+) -> Result<u32, Refusal>
+    requires { Roomy block.old }
+    ensures { FoundSprung true settings table.rows table.n room result block.new }
+{
+    admission::admit(table, settings, true, room, block)?;
+    least_step(settings, block, table.n).ok_or(Refusal::NoStepPasses)
 }
 
 // The least step from 0 to full compression that passes on the loads of the settings' edition.
@@ -88,17 +81,13 @@ fn least_charged(
     requires { Chargeable notch block.old n × (1 ≤ m) × (m ≤ most_processors) × Served policy }
     ensures { Searched policy m (charges_on notch (spring_in block.old)) n result block.old block.new }
 {
-    let last = springs::full_compression(block, n);
-    let mut step: u32 = 0;
-    loop {
+    let full = springs::full_compression(block, n);
+    for step in 0..=full {
         if policy::passes_charged(policy, m, notch, block, n, step) {
             return Some(step);
         }
-        if last <= step {
-            return None;
-        }
-        step += 1;
     }
+    None
 }
 
 // Edition 1: the least step that passes on the shares, which are let down from step to step.
@@ -109,15 +98,11 @@ fn least_shared(policy: Policy, m: u16, block: &mut [u32; Columns::ROOM], n: usi
     let full = springs::full_compression(block, n);
     let most = policy::most_sum(policy, m, n);
     let mut sum = springs::shares_at(block, n, 0);
-    let mut k: u32 = 0;
-    loop {
+    for k in 0..=full {
         if policy::passes_summed(policy, m, block, n, sum, most) {
             return Some(k);
         }
-        if full <= k {
-            return None;
-        }
         sum = springs::next_shares(block, n);
-        k += 1;
     }
+    None
 }

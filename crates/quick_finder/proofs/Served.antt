@@ -1,6 +1,7 @@
 -- The search on the springs of a table is the search that demand 2 asks for, under each policy that is weighed and each edition.
 -- Assumes nothing.
-use Rattle.ground.proofs.Kit.{ℕ, ◌≤◌, min, true, false, List, ◌≡◌, refl, sym, ◌∙◌, ap, arith, length, Ok, Err, None}
+use Rattle.ground.proofs.Kit.{ℕ, ◌≤◌, min, true, false, List, ◌≡◌, refl, sym, ◌∙◌, ap, arith, length, Ok, Err}
+use Rattle.std.specs.Option.{ok_or}
 use Rattle.ground.specs.declared.Ended.{Ended}
 use Rattle.ground.specs.Folds.{max_to}
 use Rattle.ground.specs.Halving.{tests_made}
@@ -13,7 +14,8 @@ use Rattle.kinds.specs.declared.Task.{Task}
 use Rattle.kinds.specs.declared.Policy.{Policy}
 use Rattle.kinds.specs.declared.Settings.{Settings}
 use Rattle.kinds.specs.declared.Refusal.{Refusal}
-use Rattle.kinds.specs.Answer.{handed, Verdict, Answer}
+use Rattle.kinds.specs.declared.Refusal.TheVariants.{NoStepPasses}
+use Rattle.kinds.specs.Answer.{accepted, Verdict, Answer}
 use Rattle.kinds.specs.Policy.{is_weighed, meant}
 use Rattle.kinds.specs.Settings.{tests_charge}
 use Rattle.kinds.specs.Task.{at}
@@ -38,8 +40,10 @@ use Rattle.admission.specs.Admission.{admission}
 use Rattle.admission.specs.Handover.{AdmittedSprung}
 use Rattle.admission.proofs.Chain.{admitted, passed-weighed}
 use Rattle.admission.proofs.Opened.{opened}
-use Rattle.outcome.specs.Plan.{decided}
-use Rattle.outcome.proofs.Searches.{refused-meets, found-sprung}
+use Rattle.outcome.specs.Plan.{outcome, Meets}
+use Rattle.outcome.specs.Handover.{Leaves}
+use Rattle.outcome.proofs.Found.{meets}
+use Rattle.outcome.proofs.Searches.{refused-sprung, refused-meets, found-sprung}
 use Rattle.halve.specs.Halves.{HalvingEnds}
 use Rattle.quick_finder.specs.declared.Looked.{Looked}
 use Rattle.quick_finder.specs.Looked.{looks_after, looks, MeetsLooked}
@@ -120,21 +124,15 @@ module _ (s : Settings) (rows : List Task) (n room : ℕ) (a : Verdict) (is : a 
   unfolding looks
   some_looks k e q = rw (← is, e) q
 
--- a refused call makes no look, and leaves the outputs as they are
-pub refused-looked : (s : Settings) (rows : List Task) (n room : ℕ) (a : Verdict) {r : Refusal} → a ≡ admission false s rows n room
-    → a ≡ Err r → (looked : Looked) → (handed looked.answer ≡ decided a None) × (looked.looks ≡ 0)
-    → (periods processors : List ℕ) → room ≡ min (length periods) (length processors)
-    → MeetsLooked s rows n periods processors looked periods processors
-refused-looked s rows n room a {r} is refused looked e periods processors shorter =
-    record {
-      meets = refused-meets false s rows n room a r is refused looked.answer e.0 periods processors shorter;
-      count = e.1 ∙ (no-looks s rows n room a is refused ∙ ap (looks s rows n) shorter);
-      few = omega (arith, e.1);
-    }
+-- a refused call makes no look
+pub refused-looked : (s : Settings) (rows : List Task) (n room : ℕ) (r : Refusal) (block : List ℕ) → AdmittedSprung false s rows n room (Err r) block
+    → LookedSprung s rows n room (Err r) 0 block
+refused-looked s rows n room r block x =
+    record { found = refused-sprung false s rows n room r block x; counted = no-looks s rows n room (Err r) x.is refl }
 
 -- an admitted one's answer and looks are those of demand 3, and of an acceptance the springs still stand there
 pub found-looked : (s : Settings) (rows : List Task) (n room : ℕ) (a : Verdict) (old new : List ℕ) → AdmittedSprung false s rows n room a old
-    → a ≡ (Ok tt) → (r : Ended) → SearchUnder s old n r × Beside old new → (answer : Answer) → handed answer ≡ decided a r.step
+    → a ≡ (Ok tt) → (r : Ended) → SearchUnder s old n r × Beside old new → (answer : Answer) → answer ≡ ok_or r.step NoStepPasses
     → LookedSprung s rows n room answer r.looks new
 found-looked s rows n room a old new x admits r h answer e =
     let passed = (opened false s rows n room a old x admits).ready.passed in
@@ -156,3 +154,20 @@ looks-few s rows n room =
     (λ e.
     let r = admitted false s rows n room e in
     under.looks-few s rows n (all-good s.swap s.notch rows n r.none-bad) (all-on s.swap s.notch rows n r.none-bad r.notched))
+
+-- the whole promise, of a call that is refused and of one that is granted
+module _ (s : Settings) (rows : List Task) (n : ℕ) (periods processors : List ℕ) (r : Looked) (block : List ℕ)
+    (x : LookedSprung s rows n (min (length periods) (length processors)) r.answer r.looks block) where
+  promised : (new-periods new-processors : List ℕ) → Meets (outcome false s rows n periods processors) r.answer new-periods new-processors
+      → MeetsLooked s rows n periods processors r new-periods new-processors
+  promised new-periods new-processors m = record { meets = m; count = x.counted; few = rw x.counted (looks-few s rows n _) }
+
+  pub looked-refused : (refusal : Refusal) → r.answer ≡ Err refusal → MeetsLooked s rows n periods processors r periods processors
+  looked-refused refusal e =
+      promised periods processors (rw e (refused-meets false s rows n _ refusal block (rw e at x.found) periods processors refl))
+
+  pub looked-granted : (step : ℕ) → r.answer ≡ Ok step → (new-periods new-processors : List ℕ)
+      → Leaves (accepted step) s (spring_in block) n periods processors new-periods new-processors
+      → MeetsLooked s rows n periods processors r new-periods new-processors
+  looked-granted step e new-periods new-processors l =
+      promised new-periods new-processors (rw e (meets false (Ok step) s rows n block periods processors (rw e at x.found) new-periods new-processors l))

@@ -8,13 +8,13 @@ ghost use Rattle.kinds.specs.Answer.{handed};
 ghost use Rattle.kinds.specs.Limits.{most_tasks};
 ghost use Rattle.springs.specs.Spring.{saturations};
 ghost use Rattle.springs.specs.Columns.{spring_in};
-ghost use Rattle.springs.specs.Handover.{SumIs, Springy, Beside};
+ghost use Rattle.springs.specs.Handover.{Roomy, SumIs, Springy, Beside};
 ghost use Rattle.policy.specs.Weighed.{weighed_at};
 ghost use Rattle.policy.specs.Handover.{Light};
 ghost use Rattle.quick_finder.specs.Search.{due_after, OneLook};
-ghost use Rattle.outcome.specs.Plan.{decided, found};
+ghost use Rattle.outcome.specs.Plan.{found};
 ghost use Rattle.outcome.specs.Handover.{Searchable};
-ghost use Rattle.quick_finder.specs.Handover.{SearchEnds, SearchUnder};
+ghost use Rattle.quick_finder.specs.Handover.{SearchEnds, SearchUnder, LookedSprung};
 ghost use Rattle.quick_finder.specs.Looked.{MeetsLooked};
 
 use ground::Ended;
@@ -45,56 +45,43 @@ pub fn find(table: Table, settings: Settings, periods: &mut [u32], processors: &
     ensures { MeetsLooked settings table.rows table.n periods.old processors.old result
         periods.new processors.new }
 {
-    let n = table.n;
-    let room = ground::shorter(periods.len(), processors.len());
+    let room = periods.len().min(processors.len());
     let mut block = [0u32; Columns::ROOM];
-    let gate = admission::gate_of(settings, false, n, room);
-    let Ok(()) = gate else {
-        return refused(gate);
-    };
-    let bad = springs::springs_of(table, settings.swap, settings.notch, &mut block);
-    let admission = admission::judge(bad, n);
-    let Ok(()) = admission else {
-        return refused(admission);
-    };
-    let ended = search_under(settings, &mut block, n);
-    let step = ended.step;
-    let answer = outcome::decide(admission, step);
-    outcome::grant(answer, settings, &mut block, n, periods, processors);
-    Looked {
-        answer,
-        looks: ended.looks,
+    let looked = find_step(table, settings, room, &mut block);
+    if let Ok(step) = looked.answer {
+        outcome::grant(step, settings, &mut block, table.n, periods, processors);
     }
+    looked
 }
 
 // The answer, for outputs of which the shorter has so much room.
 pub fn decide(table: Table, settings: Settings, room: usize) -> Result<u32, Refusal>
     ensures { handed result ≡ found false settings table.rows table.n room }
 {
-    let n = table.n;
     let mut block = [0u32; Columns::ROOM];
-    let gate = admission::gate_of(settings, false, n, room);
-    let Ok(()) = gate else {
-        return outcome::decide(gate, None);
-    };
-    let bad = springs::springs_of(table, settings.swap, settings.notch, &mut block);
-    let admission = admission::judge(bad, n);
-    let Ok(()) = admission else {
-        return outcome::decide(admission, None);
-    };
-    let ended = search_under(settings, &mut block, n);
-    let step = ended.step;
-    outcome::decide(admission, step)
+    find_step(table, settings, room, &mut block).answer
 }
 
-// What a verdict that refuses the call comes to. No look is made.
-fn refused(verdict: Result<(), Refusal>) -> Looked
-    ensures { (handed result.answer ≡ decided verdict None) × (result.looks ≡ 0) }
+// The answer and its looks, with the springs of the table left in the lent block. No look is made of a table that is not admitted.
+fn find_step(
+    table: Table,
+    settings: Settings,
+    room: usize,
+    block: &mut [u32; Columns::ROOM],
+) -> Looked
+    requires { Roomy block.old }
+    ensures { LookedSprung settings table.rows table.n room result.answer result.looks block.new }
 {
-    let looks = 0;
+    if let Err(refusal) = admission::admit(table, settings, false, room, block) {
+        return Looked {
+            answer: Err(refusal),
+            looks: 0,
+        };
+    }
+    let ended = search_under(settings, block, table.n);
     Looked {
-        answer: outcome::decide(verdict, None),
-        looks,
+        answer: ended.step.ok_or(Refusal::NoStepPasses),
+        looks: ended.looks,
     }
 }
 

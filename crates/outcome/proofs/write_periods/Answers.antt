@@ -4,7 +4,6 @@ use Rattle.ground.proofs.Kit.{◌≡◌, ◌∙◌, ap, arith}
 use Rattle.ground.proofs.Buffer.{front-none, front-more}
 use Rattle.springs.specs.declared.Spring.{Spring}
 use Rattle.springs.specs.Spring.{share_on, period_for}
-use Rattle.springs.specs.Columns.{spring_in}
 use Rattle.outcome.proofs.write_periods.Goals as goal
 
 pub loop-i-init : goal.loop-i-init
