@@ -46,9 +46,5 @@ module _ (w : ℕ) (rows : List Task) (n : ℕ) (s : Springs) (sprung : Sprung (
     pub left-indexable : Indexable s place (n - 1)
     left-indexable = record { few = omega (arith, sprung.count); room = λ h. omega (arith, sprung.count) }
 
-    pub left-indexable : Indexable s place (n - 1)
-    left-indexable =
-        indexable (left_rows rows n place) place (n - 1) (λ i l. from_low place i n l) (left-priced rows n place few w) (omega arith) (λ h. omega arith)
-
     pub left-index : (x : Index) → x ≡ index_by (elastic_in s place) (step_in s place) (n - 1) → x ≡ index_under w (left_rows rows n place) (n - 1)
     left-index = index (left_rows rows n place) place (n - 1) (λ i l. from_low place i n l) (left-priced rows n place few w)
