@@ -18,10 +18,10 @@ use Rattle.share.specs.Share.{saturation_at}
 use Rattle.share.specs.Table.{full_compression}
 use Rattle.springs.specs.declared.Spring.{Spring}
 use Rattle.springs.specs.Spring.{share_on, let_down, shares_on, charges_on, loads_on}
-use Rattle.springs.specs.Columns.{spring_in, full_in}
+use Rattle.springs.specs.Springs.{spring_in, full_in}
 use Rattle.springs.specs.Handover.{Springy, Loaded, Summed, Beside, Sprung}
-use Rattle.springs.proofs.Springs.{carried, share-most}
-use Rattle.springs.proofs.Blocks.{loaded-beside, loaded-springs, beside_same, beside-more, springs-beside, springy-beside, sum-loaded, loads-are}
+use Rattle.springs.proofs.Shares.{carried, share-most}
+use Rattle.springs.proofs.Columns.{loaded-beside, loaded-springs, beside_same, beside-more, springs-beside, springy-beside, sum-loaded, loads-are}
 use Rattle.fit.specs.Fit.{load_in}
 use Rattle.fit.specs.Handover.{Loads}
 use Rattle.policy.specs.Passing.{passes_at, least_step}

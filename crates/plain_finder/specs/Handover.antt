@@ -3,7 +3,7 @@
 use Rattle.ground.specs.Least.{Step}
 use Rattle.std.specs.Prelude.{ℕ, List, ◌≡◌}
 use Rattle.kinds.specs.declared.Policy.{Policy}
-use Rattle.springs.specs.Columns.{full_in}
+use Rattle.springs.specs.Springs.{full_in}
 use Rattle.springs.specs.Handover.{Beside}
 use Rattle.policy.specs.Passing.{least_step}
 

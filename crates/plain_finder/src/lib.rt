@@ -8,7 +8,7 @@ ghost use Rattle.kinds.specs.Answer.{handed};
 ghost use Rattle.kinds.specs.Limits.{most_processors};
 ghost use Rattle.kinds.specs.Policy.{meant, Served};
 ghost use Rattle.springs.specs.Spring.{shares_on, charges_on, loads_on};
-ghost use Rattle.springs.specs.Columns.{spring_in};
+ghost use Rattle.springs.specs.Springs.{spring_in};
 ghost use Rattle.springs.specs.Handover.{Roomy, Springy, Chargeable};
 ghost use Rattle.outcome.specs.Plan.{found, outcome, Meets};
 ghost use Rattle.outcome.specs.Handover.{Searchable, FoundSprung};

@@ -6,9 +6,9 @@ use Rattle.kinds.specs.declared.Settings.{Settings}
 use Rattle.share.specs.Table.{first_bad}
 use Rattle.share.proofs.Tables.{all-good, all-on}
 use Rattle.springs.specs.Spring.{loads_on}
-use Rattle.springs.specs.Columns.{spring_in}
+use Rattle.springs.specs.Springs.{spring_in}
 use Rattle.springs.specs.Handover.{Chargeable, Loaded, Sprung}
-use Rattle.springs.proofs.Blocks.{loads-are, loads-most, sprung-chargeable}
+use Rattle.springs.proofs.Columns.{loads-are, loads-most, sprung-chargeable}
 use Rattle.policy.specs.Under.{rows_under}
 use Rattle.policy.proofs.Weighing.{loaded-loads}
 use Rattle.admission.specs.Admission.{and_then, misset_numbers, gate, roomy, records_good}

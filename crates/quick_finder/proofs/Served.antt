@@ -24,9 +24,9 @@ use Rattle.share.specs.Table.{shares, full_compression}
 use Rattle.share.proofs.Tables.{all-good, all-on}
 use Rattle.springs.specs.declared.Spring.{Spring}
 use Rattle.springs.specs.Spring.{shares_on, saturations, charges_on}
-use Rattle.springs.specs.Columns.{spring_in, full_in}
+use Rattle.springs.specs.Springs.{spring_in, full_in}
 use Rattle.springs.specs.Handover.{Beside, Sprung}
-use Rattle.springs.proofs.Blocks.{shares-are, saturations-are, loads-are}
+use Rattle.springs.proofs.Columns.{shares-are, saturations-are, loads-are}
 use Rattle.policy.specs.Sides.{weights_of}
 use Rattle.policy.specs.Looks.{looks_for, looks_of}
 use Rattle.policy.specs.Under.{rows_under, full_under, loads_under, least_under, looks_under, most_looks}

@@ -10,7 +10,7 @@ use Rattle.kinds.specs.declared.Settings.{Settings}
 use Rattle.kinds.specs.Policy.{meant}
 use Rattle.kinds.specs.Settings.{tests_charge}
 use Rattle.springs.specs.Spring.{saturations}
-use Rattle.springs.specs.Columns.{spring_in, full_in}
+use Rattle.springs.specs.Springs.{spring_in, full_in}
 use Rattle.policy.specs.Sides.{weights_of}
 use Rattle.policy.specs.Looks.{looks_for}
 use Rattle.policy.specs.Weighed.{weighed_at, charged_at}

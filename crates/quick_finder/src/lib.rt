@@ -7,7 +7,7 @@ ghost use Rattle.std.specs.Prelude.{false, ◌≡◌, ◌≤◌, ◌<◌};
 ghost use Rattle.kinds.specs.Answer.{handed};
 ghost use Rattle.kinds.specs.Limits.{most_tasks};
 ghost use Rattle.springs.specs.Spring.{saturations};
-ghost use Rattle.springs.specs.Columns.{spring_in};
+ghost use Rattle.springs.specs.Springs.{spring_in};
 ghost use Rattle.springs.specs.Handover.{Roomy, SumIs, Springy, Beside};
 ghost use Rattle.policy.specs.Weighed.{weighed_at};
 ghost use Rattle.policy.specs.Handover.{Light};

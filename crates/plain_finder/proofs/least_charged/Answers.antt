@@ -4,9 +4,9 @@ use Rattle.ground.proofs.First.{first_more}
 use Rattle.ground.proofs.Least.{least-here, least-none}
 use Rattle.kinds.specs.declared.Policy.{Policy}
 use Rattle.springs.specs.Spring.{charges_on}
-use Rattle.springs.specs.Columns.{spring_in}
+use Rattle.springs.specs.Springs.{spring_in}
 use Rattle.springs.specs.Handover.{Beside}
-use Rattle.springs.proofs.Blocks.{beside-more, springs-beside, chargeable-beside}
+use Rattle.springs.proofs.Columns.{beside-more, springs-beside, chargeable-beside}
 use Rattle.policy.specs.Passing.{passes_at, least_step}
 use Rattle.plain_finder.proofs.least_charged.Goals as goal
 use Rattle.plain_finder.proofs.least_charged.Goals.{After-passes_charged, Else-passes_charged}

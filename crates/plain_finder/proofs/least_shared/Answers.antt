@@ -1,7 +1,7 @@
 -- `plain_finder::least_shared` meets its contract. The loop: no step before k passes, and the block holds the shares of step k, with their sum beside
 -- it. Assumes nothing.
 use Rattle.ground.proofs.Kit.{arith}
-use Rattle.springs.proofs.Blocks.{loaded-beside}
+use Rattle.springs.proofs.Columns.{loaded-beside}
 use Rattle.plain_finder.proofs.Stepping.{stepped-none, stepped-most, stepped-loads, stepped-springy, stepped-here, stepped-past, stepped-more}
 use Rattle.plain_finder.proofs.Stepping.{springy-loaded, searched-from, full-beside}
 use Rattle.plain_finder.proofs.least_shared.Goals as goal

@@ -1,7 +1,7 @@
 -- `proposal::admit` meets its contract. Assumes nothing.
 use Rattle.ground.proofs.Kit.{◌≡◌, sym, ◌∙◌, arith, Ok}
 use Rattle.springs.specs.Handover.{Sprung}
-use Rattle.springs.proofs.Blocks.{sprung-front}
+use Rattle.springs.proofs.Columns.{sprung-front}
 use Rattle.policy.specs.Under.{rows_under}
 use Rattle.admission.proofs.Chain.{not-admitted}
 use Rattle.proposal.specs.Proposal.{gate_of, admission}

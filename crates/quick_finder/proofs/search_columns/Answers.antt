@@ -1,7 +1,7 @@
 -- `quick_finder::search_columns` meets its contract. The loop: the last step looked at has failed, the sum of its shares and the next step due are at
 -- hand; the looks that may still be made fall. Assumes nothing.
 use Rattle.ground.proofs.Kit.{◌+◌, ◌-◌, ◌<◌, refl, sym, arith}
-use Rattle.springs.specs.Columns.{spring_in}
+use Rattle.springs.specs.Springs.{spring_in}
 use Rattle.quick_finder.proofs.Loop.{Standing, due-first, first_passes, first-fails, none-due, look-due, stretch, next-passes, next-fails}
 use Rattle.quick_finder.proofs.search_columns.Goals as goal
 use Rattle.quick_finder.proofs.search_columns.Goals.{After-next_due-due-in-loop-due}
