@@ -8,4 +8,5 @@ use Rattle.plain_finder.proofs.least_charged.Given as goal
 
 abbrev pub invariant-loop-step : goal.invariant-loop-step
 invariant-loop-step l =
-    Beside l.initial.block l.block × ((j : ℕ) → j < l.step → passes_at l.policy l.m (charges_on l.notch (spring_in l.initial.block)) l.n j ≡ false)
+    let s = l.initial.springs in
+    Beside s l.springs × ((j : ℕ) → j < l.step → passes_at l.test.policy l.test.m (charges_on s.notch (spring_in s)) s.n j ≡ false)
