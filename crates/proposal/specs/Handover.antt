@@ -1,7 +1,8 @@
 -- What the functions of the checker and a planner hand each other.
 -- Assumes nothing.
 use Rattle.kinds.specs.Answer.{Verdict}
-use Rattle.std.specs.Prelude.{ℕ, ◌+◌, ◌≤◌, ◌<◌, List, ◌≡◌, length, get_or, Ok}
+use Rattle.std.specs.Prelude.{ℕ, ◌+◌, ◌≤◌, ◌<◌, Bool, List, ◌≡◌, length, get_or, Ok, Option, Some, None}
+use Rattle.ground.specs.First.{first_below}
 use Rattle.kinds.specs.declared.Task.{Task}
 use Rattle.kinds.specs.declared.Settings.{Settings}
 use Rattle.kinds.specs.Limits.{most_processors}
@@ -23,6 +24,11 @@ pub record LoadsOf (s : Settings) (rows : List Task) (n k : ℕ) (block : List �
 pub record AdmittedLoaded (s : Settings) (rows : List Task) (n k proposed room : ℕ) (a : Verdict) (block : List ℕ) : Type 0 where
   pub is : a ≡ admission s rows n proposed room
   pub loads : a ≡ (Ok tt) → LoadsOf s rows n k block
+
+-- the first number below n at which a test holds, where there is one
+abbrev pub FoundFirst : (ℕ → Bool) → ℕ → Option ℕ → Type 0
+FoundFirst test n (Some i) = (i < n) × (i ≡ first_below test n)
+FoundFirst test n None = n ≤ first_below test n
 
 -- what the loading relies on: loads of n tasks, and for each of them a processor that there can be
 pub record Loadable (block : List ℕ) (n : ℕ) (proposal : List ℕ) : Type 0 where
