@@ -4,12 +4,12 @@
 
 ghost use Rattle.std.specs.Prelude.{◌≡◌};
 ghost use Rattle.admission.specs.Admission.{and_then, knows, misset, no_edition, misset_numbers, unsuited, misset_under};
-ghost use Rattle.admission.specs.Admission.{gate, served, roomy, gate_of, judged};
+ghost use Rattle.admission.specs.Admission.{gate, served, roomy, gate_of};
 ghost use Rattle.admission.specs.Handover.{AdmittedSprung};
-ghost use Rattle.springs.specs.Handover.{Roomy};
+ghost use Rattle.springs.specs.Handover.{Empty};
 
 use kinds::{Policy, Refusal, Settings, Table};
-use springs::Columns;
+use springs::Springs;
 
 // The policy's own refusal: 1 where it is none of those numbered, 15 where it is withdrawn.
 pub fn knows(policy: Policy) -> Result<(), Refusal>
@@ -112,29 +112,19 @@ pub fn gate_of(settings: Settings, serves: bool, n: usize, room: usize) -> Resul
     roomy(n, room)
 }
 
-// Refusal 6: of n records the first that is not good, or n where all are.
-pub fn judge(bad: usize, n: usize) -> Result<(), Refusal>
-    ensures { result ≡ judged bad n }
-{
-    if bad < n {
-        return Err(Refusal::BadRecord(bad));
-    }
-    Ok(())
-}
-
-// Refusals 1 to 6. Where none is given, the lent block has the springs of the table.
+// Refusals 1 to 6. Where none is given, the springs of the table are taken in.
 pub fn admit(
     table: Table,
     settings: Settings,
     serves: bool,
     room: usize,
-    block: &mut [u32; Columns::ROOM],
+    springs: &mut Springs,
 ) -> Result<(), Refusal>
-    requires { Roomy block.old }
-    ensures { AdmittedSprung serves settings table.rows table.n room result block.new }
+    requires { Empty settings.notch springs.old }
+    ensures { AdmittedSprung serves settings table.rows table.n room result springs.new }
 {
-    let n = table.n;
-    gate_of(settings, serves, n, room)?;
-    let bad = springs::springs_of(table, settings.swap, settings.notch, block);
-    judge(bad, n)
+    gate_of(settings, serves, table.n, room)?;
+    springs
+        .take_in(table, settings.swap)
+        .map_err(Refusal::BadRecord)
 }

@@ -3,19 +3,19 @@
 // `outcome true` of `outcome`.
 #![tactic(auto)]
 
-ghost use Rattle.std.specs.Prelude.{true, ◌≡◌, ◌≤◌};
+ghost use Rattle.std.specs.Prelude.{true, ◌≡◌};
 ghost use Rattle.kinds.specs.Answer.{handed};
-ghost use Rattle.kinds.specs.Limits.{most_processors};
-ghost use Rattle.kinds.specs.Policy.{meant, Served};
+ghost use Rattle.kinds.specs.Policy.{meant};
 ghost use Rattle.springs.specs.Spring.{shares_on, charges_on, loads_on};
-ghost use Rattle.springs.specs.Columns.{spring_in};
-ghost use Rattle.springs.specs.Handover.{Roomy, Springy, Chargeable};
+ghost use Rattle.springs.specs.Springs.{spring_in};
+ghost use Rattle.springs.specs.Handover.{Empty};
 ghost use Rattle.outcome.specs.Plan.{found, outcome, Meets};
 ghost use Rattle.outcome.specs.Handover.{Searchable, FoundSprung};
 ghost use Rattle.plain_finder.specs.Handover.{Searched};
 
-use kinds::{Policy, Refusal, Settings, Table};
-use springs::Columns;
+use kinds::{Refusal, Settings, Table};
+use policy::Test;
+use springs::Springs;
 
 // The periods and processors of the least passing step, written to the two lent outputs, or the refusal, which writes nothing.
 pub fn find(
@@ -28,9 +28,9 @@ pub fn find(
         periods.new processors.new }
 {
     let room = periods.len().min(processors.len());
-    let mut block = [0u32; Columns::ROOM];
-    let step = find_step(table, settings, room, &mut block)?;
-    outcome::grant(step, settings, &mut block, table.n, periods, processors);
+    let mut springs = Springs::new(settings.notch);
+    let step = find_step(table, settings, room, &mut springs)?;
+    outcome::grant(step, settings, &mut springs, periods, processors);
     Ok(step)
 }
 
@@ -38,52 +38,49 @@ pub fn find(
 pub fn decide(table: Table, settings: Settings, room: usize) -> Result<u32, Refusal>
     ensures { handed result ≡ found true settings table.rows table.n room }
 {
-    let mut block = [0u32; Columns::ROOM];
-    find_step(table, settings, room, &mut block)
+    let mut springs = Springs::new(settings.notch);
+    find_step(table, settings, room, &mut springs)
 }
 
-// The least passing step, with the springs of the table left in the lent block, or the refusal.
+// The least passing step of a table, whose springs are taken in.
 fn find_step(
     table: Table,
     settings: Settings,
     room: usize,
-    block: &mut [u32; Columns::ROOM],
+    springs: &mut Springs,
 ) -> Result<u32, Refusal>
-    requires { Roomy block.old }
-    ensures { FoundSprung true settings table.rows table.n room result block.new }
+    requires { Empty settings.notch springs.old }
+    ensures { FoundSprung true settings table.rows table.n room result springs.new }
 {
-    admission::admit(table, settings, true, room, block)?;
-    least_step(settings, block, table.n).ok_or(Refusal::NoStepPasses)
+    admission::admit(table, settings, true, room, springs)?;
+    least_step(settings, springs).ok_or(Refusal::NoStepPasses)
 }
 
 // The least step from 0 to full compression that passes on the loads of the settings' edition.
-fn least_step(settings: Settings, block: &mut [u32; Columns::ROOM], n: usize) -> Option<u32>
-    requires { Searchable settings block.old n }
-    ensures { Searched (meant settings.policy) settings.m (loads_on settings (spring_in block.old)) n result
-        block.old block.new }
+fn least_step(settings: Settings, springs: &mut Springs) -> Option<u32>
+    requires { Searchable settings springs.old }
+    ensures { Searched (meant settings.policy) settings.m (loads_on settings (spring_in springs.old)) result
+        springs.old springs.new }
 {
     let asked = settings.policy;
-    let policy = asked.meant();
+    let test = Test {
+        policy: asked.meant(),
+        m: settings.m,
+    };
     if settings.tests_charge() {
-        return least_charged(policy, settings.m, settings.notch, block, n);
+        return least_charged(test, springs);
     }
-    least_shared(policy, settings.m, block, n)
+    least_shared(test, springs)
 }
 
 // Edition 2: the least step that passes on the charges.
-fn least_charged(
-    policy: Policy,
-    m: u16,
-    notch: u16,
-    block: &mut [u32; Columns::ROOM],
-    n: usize,
-) -> Option<u32>
-    requires { Chargeable notch block.old n × (1 ≤ m) × (m ≤ most_processors) × Served policy }
-    ensures { Searched policy m (charges_on notch (spring_in block.old)) n result block.old block.new }
+fn least_charged(test: Test, springs: &mut Springs) -> Option<u32>
+    ensures { Searched test.policy test.m (charges_on springs.old.notch (spring_in springs.old)) result
+        springs.old springs.new }
 {
-    let full = springs::full_compression(block, n);
+    let full = springs.full_compression();
     for step in 0..=full {
-        if policy::passes_charged(policy, m, notch, block, n, step) {
+        if test.passes_charged(springs, step) {
             return Some(step);
         }
     }
@@ -91,18 +88,17 @@ fn least_charged(
 }
 
 // Edition 1: the least step that passes on the shares, which are let down from step to step.
-fn least_shared(policy: Policy, m: u16, block: &mut [u32; Columns::ROOM], n: usize) -> Option<u32>
-    requires { Springy block.old n × (1 ≤ m) × (m ≤ most_processors) × Served policy }
-    ensures { Searched policy m (shares_on (spring_in block.old)) n result block.old block.new }
+fn least_shared(test: Test, springs: &mut Springs) -> Option<u32>
+    ensures { Searched test.policy test.m (shares_on (spring_in springs.old)) result springs.old springs.new }
 {
-    let full = springs::full_compression(block, n);
-    let most = policy::most_sum(policy, m, n);
-    let mut sum = springs::shares_at(block, n, 0);
+    let full = springs.full_compression();
+    let most = test.most_sum(springs.n);
+    let mut sum = springs.share_sum(0);
     for k in 0..=full {
-        if policy::passes_summed(policy, m, block, n, sum, most) {
+        if test.passes_summed(springs, sum, most) {
             return Some(k);
         }
-        sum = springs::next_shares(block, n);
+        sum = springs.let_down();
     }
     None
 }

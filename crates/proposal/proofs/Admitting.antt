@@ -8,9 +8,15 @@ use Rattle.kinds.specs.Answer.{Verdict}
 use Rattle.share.specs.Table.{first_bad}
 use Rattle.share.proofs.Tables.{all-good, all-on}
 use Rattle.springs.specs.Spring.{loads_on}
+<<<<<<< HEAD
+use Rattle.springs.specs.Springs.{spring_in}
+use Rattle.springs.specs.Handover.{Chargeable, Loaded, Sprung}
+use Rattle.springs.proofs.Columns.{loads-are, loads-most, sprung-chargeable}
+=======
 use Rattle.springs.specs.Columns.{spring_in}
 use Rattle.springs.specs.Handover.{Chargeable, Loaded, Sprung, SprungUntil}
 use Rattle.springs.proofs.Blocks.{sprung-front, loads-are, loads-most, sprung-chargeable}
+>>>>>>> 750a457b2d38a1f126edac8887ac1d75f73be006
 use Rattle.policy.specs.Under.{rows_under}
 use Rattle.policy.proofs.Weighing.{loaded-loads}
 use Rattle.admission.specs.Admission.{and_then, misset_numbers, gate, roomy, judged, records_good}

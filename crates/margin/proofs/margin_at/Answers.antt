@@ -1,7 +1,7 @@
 -- `margin::margin_at` meets its contract. Assumes nothing.
 use Rattle.ground.proofs.Kit.{ℕ, ◌<◌, false, ◌≡◌, ◌∙◌, ap, rules, Err}
 use Rattle.kinds.specs.Answer.{accepted}
-use Rattle.springs.proofs.Blocks.{loads-are, loads-most}
+use Rattle.springs.proofs.Columns.{loads-are, loads-most}
 use Rattle.fit.specs.Fit.{load_in}
 use Rattle.policy.specs.Under.{loads_under}
 use Rattle.policy.proofs.Tests.{margin-same}
