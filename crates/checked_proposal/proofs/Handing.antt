@@ -6,7 +6,7 @@ use Rattle.ground.proofs.Kit.{ℕ, ◌≤◌, ◌<◌, min, List, ◌++◌, ◌�
 use lib.Seq.{length_front, drop_at, get_or-take}
 use Rattle.ground.specs.Folds.{list_to}
 use Rattle.ground.proofs.Cases.{by_le}
-use Rattle.ground.proofs.Buffer.{list-long, list_at}
+use Rattle.ground.proofs.Buffer.{list-long, list_at, list-taken}
 use Rattle.kinds.specs.declared.Task.{Task}
 use Rattle.kinds.specs.declared.Settings.{Settings}
 use Rattle.kinds.specs.declared.Refusal.{Refusal}
@@ -70,9 +70,9 @@ module _ (s : Settings) (rows : List Task) (n k : ℕ) (old old_loads : List ℕ
     short-alike : min (length old) most_tasks < n → outcome s rows n k part old_loads ≡ outcome s rows n k old old_loads
     short-alike l = outcome-short s rows n k part old old_loads (λ few. omega (arith, part-long)) (λ few. omega arith)
 
-    refused-handed : (r : Refusal) (loads : List ℕ) → Meets (outcome s rows n k part old_loads) (Err r) loads
+    pub hands-refused : (r : Refusal) (loads : List ℕ) → Meets (outcome s rows n k part old_loads) (Err r) loads
         → HandsOn s rows n k old old_loads (Err r) old loads
-    refused-handed r loads w =
+    hands-refused r loads w =
         by_le n (min (length old) most_tasks)
         (λ l.
         let few : n ≤ most_tasks = omega arith in
@@ -93,12 +93,6 @@ module _ (s : Settings) (rows : List Task) (n k : ℕ) (old old_loads : List ℕ
           leaves = refl;
         })
 
-    pub hands-refused : (v : Verdict) (r : Refusal) → v ≡ Err r → (loads : List ℕ)
-        → Meets (outcome s rows n k (take (min (length old) most_tasks) made) old_loads) v loads → HandsOn s rows n k old old_loads v old loads
-    hands-refused v r e loads w =
-        subst (λ (a : Verdict). HandsOn s rows n k old old_loads a old loads) (sym e)
-        (refused-handed r loads (subst (λ (a : Verdict). Meets (outcome s rows n k part old_loads) a loads) e w))
-
     -- what is accepted has an entry for each task
     pub accepted-fits : (loads : List ℕ) → Meets (outcome s rows n k (take (min (length old) most_tasks) made) old_loads) (Ok tt) loads
         → (n ≤ most_tasks) × (n ≤ length old)
@@ -108,13 +102,13 @@ module _ (s : Settings) (rows : List Task) (n k : ℕ) (old old_loads : List ℕ
         (p.few.few, omega (arith, p.entries, part-long))
 
     pub hands-accepted : (loads : List ℕ) → Meets (outcome s rows n k (take (min (length old) most_tasks) made) old_loads) (Ok tt) loads
-        → (proposal : List ℕ) → proposal ≡ list_to (λ i. get_or made i 0) n ++ drop n old → HandsOn s rows n k old old_loads (Ok tt) proposal loads
-    hands-accepted loads w proposal e =
+        → (copied : List ℕ) → copied ≡ take n made → HandsOn s rows n k old old_loads (Ok tt) (copied ++ drop n old) loads
+    hands-accepted loads w copied e =
         let fits = accepted-fits loads w in
         record {
           planned = front;
           long = front_long fits.0 fits.1;
           past = front-past fits.0 fits.1;
           checked = subst (λ (o : Outcome). Meets o (Ok tt) loads) (front-alike fits.0 fits.1) w;
-          leaves = e;
+          leaves = ap (λ (l : List ℕ). l ++ drop n old) (e ∙ sym (list-taken 0 made n (omega (arith, fits.0, room))));
         }

@@ -18,12 +18,10 @@ pub fn plan_or_refuse(
     ensures { HandsOn settings table.rows table.n step proposal.old loads.old
         result proposal.new loads.new }
 {
+    let n = table.n;
     let planned = planner::propose(table, settings, step);
-    let entries = ground::shorter(proposal.len(), Table::MOST_TASKS);
-    let verdict = proposal::check(table, settings, step, &planned[..entries], loads);
-    let Ok(()) = verdict else {
-        return verdict;
-    };
-    outcome::write_front(planned, table.n, proposal);
+    let entries = proposal.len().min(Table::MOST_TASKS);
+    proposal::check(table, settings, step, &planned[..entries], loads)?;
+    proposal[..n].copy_from_slice(&planned[..n]);
     Ok(())
 }

@@ -10,7 +10,7 @@ ghost use Rattle.kinds.specs.Answer.{accepted, refused};
 ghost use Rattle.keep.specs.Keep.{kept, left_row, joined_rows, joined, left, handed_change};
 
 use kinds::{Index, Refusal, Table, Task};
-use springs::Columns;
+use springs::Springs;
 
 // A table, and beside it the index of its tasks. It is laid out as C lays it out.
 #[repr(C)]
@@ -86,12 +86,11 @@ pub fn join(kept: Kept, swap: u16, notch: u16, task: Task) -> Changed
         return refuse(kept, Refusal::TooManyTasks(n));
     }
     let after = with(old, task);
-    let mut block = [0u32; Columns::ROOM];
-    let bad = springs::springs_of(after, swap, notch, &mut block);
-    if bad <= n {
+    let mut springs = Springs::new(notch);
+    if let Err(bad) = springs.take_in(after, swap) {
         return refuse(kept, Refusal::BadRecord(bad));
     }
-    let index = order::index_of(&block, n + 1, n + 1);
+    let index = order::index_of(&springs, n + 1, n + 1);
     accept(after, index)
 }
 
@@ -107,15 +106,14 @@ pub fn leave(kept: Kept, swap: u16, notch: u16, place: usize) -> Changed
     if Table::MOST_TASKS < n {
         return refuse(kept, Refusal::TooManyTasks(n));
     }
-    let mut block = [0u32; Columns::ROOM];
-    let bad = springs::springs_of(old, swap, notch, &mut block);
-    if bad < n {
+    let mut springs = Springs::new(notch);
+    if let Err(bad) = springs.take_in(old, swap) {
         return refuse(kept, Refusal::BadRecord(bad));
     }
     if n <= place {
         return refuse(kept, Refusal::NoSuchRecord(place));
     }
-    let index = order::index_of(&block, place, n - 1);
+    let index = order::index_of(&springs, place, n - 1);
     let rest = without(old, place, n - 1);
     accept(rest, index)
 }

@@ -1,7 +1,7 @@
 -- What an accepted answer has passed, so that its plan may be written.
 -- Assumes nothing.
 use Rattle.ground.specs.Least.{Step}
-use Rattle.ground.proofs.Kit.{ℕ, min, Bool, true, List, ◌≡◌, refl, sym, ◌∙◌, ap, arith, length, Ok, Err, Some, None}
+use Rattle.ground.proofs.Kit.{ℕ, min, Bool, true, List, ◌≡◌, refl, sym, ◌∙◌, ap, subst, arith, length, Ok, Err, Some, None}
 use Rattle.ground.specs.Folds.{list_to}
 use Rattle.ground.proofs.Cases.{true-false}
 use Rattle.kinds.specs.declared.Task.{Task}
@@ -11,10 +11,11 @@ use Rattle.kinds.specs.declared.Refusal.TheVariants.{NoStepPasses}
 use Rattle.kinds.specs.Answer.{Handed, accepted, handed, is_accepted, step_of, after, Answer, Verdict}
 use Rattle.kinds.specs.Policy.{meant}
 use Rattle.kinds.proofs.Answers.{not-refused}
-use Rattle.share.proofs.Tables.{all-good, all-on}
 use Rattle.springs.specs.Spring.{periods_on, loads_on}
-use Rattle.springs.specs.Columns.{spring_in}
-use Rattle.springs.proofs.Blocks.{loads-are, periods-are, sprung-chargeable}
+use Rattle.springs.specs.declared.Springs.{Springs}
+use Rattle.springs.specs.Springs.{spring_in}
+use Rattle.springs.proofs.Columns.{loads-are, periods-are}
+use Rattle.policy.specs.Passing.{passes}
 use Rattle.policy.specs.Under.{rows_under, loads_under, least_under}
 use Rattle.policy.proofs.Demand.{step-at}
 use Rattle.policy.proofs.Tests.{passes_same}
@@ -22,7 +23,7 @@ use Rattle.admission.specs.Admission.{gate_of, admission}
 use Rattle.admission.proofs.Opened.{refused-gate}
 use Rattle.admission.proofs.Chain.{Ready, admitted, not-admitted, Unlike, admission-unlike}
 use Rattle.outcome.specs.Plan.{processor_on, processors_at, periods_under, processors_under, decided, periods_after, processors_after, found, outcome, Meets}
-use Rattle.outcome.specs.Handover.{FoundSprung, Leaves, MayGrant}
+use Rattle.outcome.specs.Handover.{FoundSprung, Leaves, Grantable}
 use Rattle.outcome.proofs.Processors.{processors-same}
 use Rattle.outcome.proofs.Writing.{written-kept, written_same}
 
@@ -67,24 +68,23 @@ accepting serves s rows n room k e =
     record { ready = admitted serves s rows n room d.0; step = d.1 }
 
 -- what the writing of a plan relies on, for outputs of which the shorter has the room
-pub may-grant : (serves : Bool) (answer : Answer) (s : Settings) (rows : List Task) (n a b : ℕ) (block : List ℕ)
-    → FoundSprung serves s rows n (min a b) answer block → MayGrant answer s block n a b
-may-grant serves (Err r) s rows n a b block f t = true-false t refl
-may-grant serves (Ok k) s rows n a b block f t =
+pub may-grant : (serves : Bool) (s : Settings) (rows : List Task) (n a b k : ℕ) (springs : Springs)
+    → FoundSprung serves s rows n (min a b) (Ok k) springs → Grantable s springs k a b
+may-grant serves s rows n a b k springs f =
     let g = accepting serves s rows n (min a b) k f.answers in
     let p = g.ready.passed in
     let paid = rows_under s rows n in
-    let good = all-good s.swap s.notch rows n g.ready.none-bad in
-    let on = all-on s.swap s.notch rows n g.ready.none-bad g.ready.notched in
+    let w = f.sprung refl in
     let passing = (step-at (meant s.policy) s.m (loads_under s rows n) n _ k g.step).passes in
+    let same = passes_same (meant s.policy) s.m (loads_on s (spring_in springs) k) (loads_under s rows n k) n (loads-are paid n springs w s k) in
     record {
-      periods-roomy = omega (arith, p.roomy);
-      processors-roomy = omega (arith, p.roomy);
+      periods-roomy = omega (arith, w.count, p.roomy);
+      processors-roomy = omega (arith, w.count, p.roomy);
       placeable =
           record {
-            chargeable = sprung-chargeable paid n block (f.sprung t) p.few good s.notch on;
+            notch = f.notch;
             m-most = p.m-most;
-            passing = passes_same (meant s.policy) s.m _ (loads_under s rows n k) n (loads-are paid n block (f.sprung t) s k) ∙ passing;
+            passing = ap (passes (meant s.policy) s.m (loads_on s (spring_in springs) k)) w.count ∙ (same ∙ passing);
           };
     }
 
@@ -120,28 +120,29 @@ meets-refused serves s rows n periods processors (Err r) e no-plan =
     }
 
 -- an answer that is found, with what it leaves in the outputs, meets the outcome
-module _ (serves : Bool) (answer : Answer) (s : Settings) (rows : List Task) (n : ℕ) (block periods processors : List ℕ)
-    (f : FoundSprung serves s rows n (min (length periods) (length processors)) answer block) where
-  k : ℕ
-  k = (handed answer).value
+module _ (serves : Bool) (k : ℕ) (s : Settings) (rows : List Task) (n : ℕ) (springs : Springs) (periods processors : List ℕ)
+    (f : FoundSprung serves s rows n (min (length periods) (length processors)) (Ok k) springs) where
+  periods-left : after (accepted k) (list_to (periods_on s.notch (spring_in springs) k) n) n periods ≡ periods_after (accepted k) s rows n periods
+  periods-left = written_same (Ok k) _ _ n periods (λ t. periods-are (rows_under s rows n) n springs (f.sprung t) s.notch k)
 
-  periods-left : after (handed answer) (list_to (periods_on s.notch (spring_in block) k) n) n periods ≡ periods_after (handed answer) s rows n periods
-  unfolding k
-  periods-left = written_same answer _ _ n periods (λ t. periods-are (rows_under s rows n) n block (f.sprung t) s.notch k)
-
-  processors-left : after (handed answer) (list_to (processor_on (meant s.policy) s.m (loads_on s (spring_in block) k)) n) n processors
-      ≡ processors_after (handed answer) s rows n processors
-  unfolding k processors_at
+  processors-left : after (accepted k) (list_to (processor_on (meant s.policy) s.m (loads_on s (spring_in springs) k)) n) n processors
+      ≡ processors_after (accepted k) s rows n processors
+  unfolding processors_at
   processors-left =
-      written_same answer _ _ n processors
-      (λ t. processors-same (meant s.policy) s.m _ (loads_under s rows n k) n (loads-are (rows_under s rows n) n block (f.sprung t) s k))
+      written_same (Ok k) _ _ n processors
+      (λ t. processors-same (meant s.policy) s.m _ (loads_under s rows n k) n (loads-are (rows_under s rows n) n springs (f.sprung t) s k))
 
   pub meets : (new-periods new-processors : List ℕ)
-      → Leaves (handed answer) s (spring_in block) n periods processors new-periods new-processors
-      → Meets (outcome serves s rows n periods processors) answer new-periods new-processors
-  unfolding k outcome
-  meets new-periods new-processors l =
+      → Leaves (accepted k) s (spring_in springs) springs.n periods processors new-periods new-processors
+      → Meets (outcome serves s rows n periods processors) (Ok k) new-periods new-processors
+  unfolding outcome
+  meets new-periods new-processors left =
+      let l = subst (λ (x : ℕ). Leaves (accepted k) s (spring_in springs) x periods processors new-periods new-processors) (f.sprung refl).count left in
       let e = f.answers in
       let grants = l.periods-are ∙ periods-left in
       let places = l.processors-are ∙ processors-left in
-      record { answers = e; grants = rw e at grants; places = rw e at places }
+      record {
+        answers = e;
+        grants = subst (λ (h : Handed ℕ). new-periods ≡ periods_after h s rows n periods) e grants;
+        places = subst (λ (h : Handed ℕ). new-processors ≡ processors_after h s rows n processors) e places;
+      }

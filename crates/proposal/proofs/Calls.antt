@@ -1,11 +1,13 @@
 -- The call: what each of its returns hands back and leaves, what an accepted one says (`accepted-exactly`, `exactly-accepted` and
 -- `accepted-adds-up`), that it looks at the first n records and entries only, and that no second answer fits.
 -- Assumes nothing.
-use Rattle.ground.proofs.Kit.{ℕ, ◌+◌, ◌≤◌, ◌<◌, List, ◌++◌, ◌≡◌, refl, sym, ◌∙◌, ap, subst, ◌⊎◌, arith, length, get_or, drop, ne_eqb, lt-ltb, le-ltb, Ok, Err}
+use Rattle.ground.proofs.Kit.{ℕ, ◌+◌, ◌≤◌, ◌<◌, List, ◌++◌, ◌≡◌, refl, sym, ◌∙◌, ap, subst, ◌⊎◌, arith, length, get_or, take, drop, ne_eqb, lt-ltb, le-ltb, Ok, Err}
 use Rattle.ground.specs.Folds.{sum_to, list_to}
+use Rattle.ground.specs.First.{first_below}
+use Rattle.fit.specs.Fit.{load_in}
 use Rattle.ground.proofs.First.{first_cong}
 use Rattle.ground.proofs.Folds.{sum-cong}
-use Rattle.ground.proofs.Buffer.{list_at, list-cong}
+use Rattle.ground.proofs.Buffer.{list_at, list-cong, list-taken}
 use Rattle.kinds.specs.declared.Task.{Task}
 use Rattle.kinds.specs.declared.Settings.{Settings}
 use Rattle.kinds.specs.declared.Refusal.{Refusal}
@@ -21,25 +23,42 @@ use Rattle.policy.specs.Under.{loads_under}
 use Rattle.policy.proofs.Under.{loads-same}
 use Rattle.admission.specs.Admission.{misset_numbers, gate}
 use Rattle.admission.proofs.Chain.{gate-opens, then-admitted}
+use Rattle.springs.specs.declared.Springs.{Springs}
 use Rattle.proposal.specs.Loads.{processor_load, loads_to, is_out_of_range, first_out_of_range, is_overfull, before_overfull, Sound}
 use Rattle.proposal.specs.Proposal.{place_in, gate_of, admission, placing, proposal_verdict, Outcome, outcome, Meets}
-use Rattle.proposal.specs.Handover.{LoadsOf, Loadable}
-use Rattle.proposal.proofs.Loading.{load_same}
+use Rattle.proposal.specs.Handover.{LoadsOf, Loadable, LoadsAre}
+use Rattle.proposal.proofs.Loading.{load_same, overfull-is, front-is}
 use Rattle.proposal.proofs.Adding.{loads-add-up}
 use Rattle.proposal.proofs.Judging.{placing-out-of-range, placing-overfull, placing-well, placing-refused, all-in-range, placed-sound, sound-placed}
 use Rattle.proposal.proofs.Admitting.{gate-passed}
 
 -- a proposal with an entry for each task, none of them out of range, may be loaded
-pub may_load : (s : Settings) (rows : List Task) (n k : ℕ) (block proposal : List ℕ) → LoadsOf s rows n k block → n ≤ length proposal
-    → n ≤ first_out_of_range s.m (place_in proposal) n → Loadable block n proposal
-may_load s rows n k block proposal w long h =
+pub may_load : (s : Settings) (rows : List Task) (n k : ℕ) (springs : Springs) (proposal : List ℕ) → LoadsOf s rows n k springs → n ≤ length proposal
+    → n ≤ first_out_of_range s.m (place_in proposal) n → Loadable springs.n proposal
+may_load s rows n k springs proposal w long h =
     record {
-      light = w.light;
-      long = long;
+      long = omega (arith, w.count);
       each =
           λ i l.
-          let range = all-in-range (place_in proposal) (place_in proposal) n s.m h i l in
+          let range = all-in-range (place_in proposal) (place_in proposal) n s.m h i (omega (arith, w.count)) in
           record { some = range.some; most = omega (arith, range.most, w.m-most) };
+    }
+
+-- and once it is, what was worked out for every processor that there can be counts for the first m
+pub record Counted (s : Settings) (rows : List Task) (n k : ℕ) (proposal held : List ℕ) : Type 0 where
+  pub long : s.m ≤ length held
+  pub lowest : first_below (λ j. is_overfull (get_or held j 0)) s.m ≡ before_overfull (loads_under s rows n k) (place_in proposal) n s.m
+  pub front : take s.m held ≡ loads_to (loads_under s rows n k) (place_in proposal) n s.m
+
+pub counted : (s : Settings) (rows : List Task) (n k : ℕ) (springs : Springs) (proposal held : List ℕ) → LoadsOf s rows n k springs
+    → LoadsAre (load_in springs.loads) (place_in proposal) springs.n held → Counted s rows n k proposal held
+counted s rows n k springs proposal held w loaded =
+    let are = subst (λ (x : ℕ). LoadsAre (load_in springs.loads) (place_in proposal) x held) w.count loaded in
+    let long : s.m ≤ length held = omega (arith, w.m-most, are.long) in
+    record {
+      long = long;
+      lowest = overfull-is _ _ _ _ _ held are w.are w.m-most;
+      front = sym (list-taken 0 held s.m long) ∙ front-is _ _ _ _ _ held are w.are w.m-most;
     }
 
 -- a refusal is no acceptance

@@ -36,10 +36,7 @@ fn tell(answer: Result<u32, Refusal>) -> u32
     requires { step_of answer < 4294967295 }
     ensures { result ≡ told_step (handed answer) }
 {
-    match answer {
-        Ok(step) => step + 1,
-        Err(_) => 0,
-    }
+    answer.map_or(0, |step| step + 1)
 }
 
 // The least step of a table, told as a number.
@@ -88,14 +85,10 @@ fn write_without(table: Table, settings: Settings, out: &mut [u32])
 fn admitted(answer: Result<u32, Refusal>) -> Result<(), Refusal>
     ensures { result ≡ admitted_by answer }
 {
-    let Err(refusal) = answer else {
-        return Ok(());
-    };
-    let seven = Refusal::NoStepPasses;
-    if refusal.number() == seven.number() {
-        return Ok(());
+    match answer {
+        Ok(_) | Err(Refusal::NoStepPasses) => Ok(()),
+        Err(refusal) => Err(refusal),
     }
-    Err(refusal)
 }
 
 // The least step of a table, that with one processor more, and for each task that without it, which is written to the lent output; or the
