@@ -143,11 +143,11 @@ pub enum Policy {
     Further(u16),
 }
 
-impl Policy {
-    // The policy that a number on a sheet stands for.
-    pub fn of(number: u16) -> Policy
-        ensures { result ≡ policy_of number }
-    {
+// The policy that a number on a sheet stands for.
+impl From<u16> for Policy {
+    ghost from_gives = { λ number policy. policy ≡ policy_of number };
+
+    fn from(number: u16) -> Policy {
         match number {
             1 => Policy::Pooled,
             2 => Policy::GlobalEdf,
@@ -157,12 +157,14 @@ impl Policy {
             _ => Policy::Further(number),
         }
     }
+}
 
-    // The number that a policy is written as.
-    pub fn number(self) -> u16
-        ensures { result ≡ policy_number self }
-    {
-        match self {
+// The number that a policy is written as.
+impl From<Policy> for u16 {
+    ghost from_gives = { λ policy number. number ≡ policy_number policy };
+
+    fn from(policy: Policy) -> u16 {
+        match policy {
             Policy::Pooled => 1,
             Policy::GlobalEdf => 2,
             Policy::GlobalRm => 3,
@@ -171,12 +173,14 @@ impl Policy {
             Policy::Further(number) => number,
         }
     }
+}
 
+impl Policy {
     // Document 01: "a further choice holding 1 to 4 means that policy"; Ask 1: so does one holding 5.
     pub fn meant(self) -> Policy
         ensures { result ≡ meant self }
     {
-        Policy::of(self.number())
+        Policy::from(u16::from(self))
     }
 
     // Policy 4.
@@ -233,37 +237,37 @@ impl Settings {
         }
     }
 
-    // The settings that the numbers on a sheet stand for.
-    pub fn of(numbers: [u16; Settings::MOST]) -> Settings
-        ensures { result ≡ settings_of numbers }
-    {
-        let policy = Policy::of(numbers[0]);
-        let m = numbers[1];
-        let swap = numbers[2];
-        let notch = numbers[3];
-        let edition = numbers[4];
-        Settings {
-            policy,
-            m,
-            swap,
-            notch,
-            edition,
-        }
-    }
-
-    // The numbers that settings are written as.
-    pub fn numbers(self) -> [u16; Settings::MOST]
-        ensures { result ≡ numbers_of self }
-    {
-        let policy = self.policy;
-        [policy.number(), self.m, self.swap, self.notch, self.edition]
-    }
-
     // Ask 10: "Edition 2 tests each policy on the charge".
     pub fn tests_charge(self) -> bool
         ensures { result ≡ tests_charge self }
     {
         self.edition == Settings::CHARGE_EDITION
+    }
+}
+
+// The settings that the numbers on a sheet stand for.
+impl From<[u16; Settings::MOST]> for Settings {
+    ghost from_gives = { λ numbers settings. settings ≡ settings_of numbers };
+
+    fn from(numbers: [u16; Settings::MOST]) -> Settings {
+        let [policy, m, swap, notch, edition] = numbers;
+        Settings::new(Policy::from(policy), m, swap, notch, edition)
+    }
+}
+
+// The numbers that settings are written as.
+impl From<Settings> for [u16; Settings::MOST] {
+    ghost from_gives = { λ settings numbers. numbers ≡ numbers_of settings };
+
+    fn from(settings: Settings) -> [u16; Settings::MOST] {
+        let policy = u16::from(settings.policy);
+        [
+            policy,
+            settings.m,
+            settings.swap,
+            settings.notch,
+            settings.edition,
+        ]
     }
 }
 
