@@ -51,7 +51,7 @@ pub(crate) fn wide_table_of(fields: [u32; FIELDS]) -> WideTable {
 fn policy_of(number: u16) -> Policy {
     match number.checked_sub(10) {
         Some(further) => Policy::Further(further),
-        None => Policy::of(number),
+        None => Policy::from(number),
     }
 }
 

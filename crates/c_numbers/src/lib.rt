@@ -40,7 +40,7 @@ impl From<Station> for Settings {
     ghost from_gives = { λ station s. s ≡ station_settings station };
 
     fn from(station: Station) -> Settings {
-        let policy = Policy::of(station.policy);
+        let policy = Policy::from(station.policy);
         Settings::new(policy, station.m, station.w, station.q, station.edition)
     }
 }

@@ -69,7 +69,7 @@ fn numbers_of(sheet: Sheet) -> StationSheet
     let table = sheet.table;
     let results = sheet.results;
     let station = Station {
-        policy: policy.number(),
+        policy: u16::from(policy),
         m: settings.m,
         w: settings.swap,
         q: settings.notch,

@@ -24,7 +24,7 @@ fn put_unfilled(policy: u16, m: u16, table: Table, out: &mut [u8]) -> Result<usi
     requires { (table.n ≤ most_tasks) × (longest_sheet ≤ length out.old) }
     ensures { FrontsOrRefuses (encode (sheet_with policy m table)) out.old result out.new }
 {
-    let settings = Settings::new(Policy::of(policy), m, 0, 1, Settings::SHARE_EDITION);
+    let settings = Settings::new(Policy::from(policy), m, 0, 1, Settings::SHARE_EDITION);
     let results = Results {
         rows: [Granted::NONE; Table::MOST_TASKS],
         n: 0,

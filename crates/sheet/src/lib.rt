@@ -95,7 +95,7 @@ pub fn no_sheet() -> Sheet
 {
     Sheet {
         count: 0,
-        settings: Settings::of([0; Settings::MOST]),
+        settings: Settings::from([0; Settings::MOST]),
         table: Table {
             rows: [Task::NONE; Table::MOST_TASKS],
             n: 0,
@@ -139,7 +139,7 @@ fn read_head(s: &[u8], start: usize) -> Result<Head, Refusal>
     if Table::MOST_TASKS < n {
         return Err(Refusal::TooManyTasks(at_tasks));
     }
-    let settings = Settings::of(numbers);
+    let settings = Settings::from(numbers);
     Ok(Head { count, settings, n })
 }
 

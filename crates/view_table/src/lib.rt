@@ -34,7 +34,7 @@ impl fmt::Display for Named {
 // The settings, in two lines.
 pub fn put_settings(page: &mut Page, settings: Settings) {
     let policy = settings.policy;
-    writeln!(page, "policy {}: {}", policy.number(), Named(policy));
+    writeln!(page, "policy {}: {}", u16::from(policy), Named(policy));
     let Settings {
         m,
         swap,

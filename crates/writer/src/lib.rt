@@ -18,7 +18,7 @@ fn put_settings(out: &mut [u8], count: usize, settings: Settings) -> usize
     requires { (count ≤ most_settings) × (tasks_place count ≤ length out.old) }
     ensures { Put out.old 0 (tasks_place count) (settings_bytes count settings) result out.new }
 {
-    let numbers = settings.numbers();
+    let numbers = <[u16; Settings::MOST]>::from(settings);
     let first = field::put(out, 0, count as u16);
     row::put_section(out, first, &numbers[..count])
 }
@@ -46,7 +46,7 @@ pub fn storable(x: Sheet)
     ensures { SheetStorable x }
 {
     let settings = x.settings;
-    settings.numbers();
+    <[u16; Settings::MOST]>::from(settings);
 }
 
 // Writes a station sheet into a lent buffer.
