@@ -26,7 +26,7 @@ fn differ(stored: Granted, planned: Granted) -> bool
 fn first_unlike(results: Results, due: Results, n: usize) -> usize
     ensures { result ≡ first_below (unlike results.rows due.rows) n }
 {
-    let held = ground::shorter(n, Table::MOST_TASKS);
+    let held = n.min(Table::MOST_TASKS);
     for i in 0..held {
         if differ(results.rows[i], due.rows[i]) {
             return i;

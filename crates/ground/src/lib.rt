@@ -1,7 +1,7 @@
-// Arithmetic on plain numbers and the answer of a search for a step. Contracts cite `specs/Rounding`.
+// Rounding up, and the search for the least step that passes. Contracts cite `specs/Rounding` and `specs/Least`.
 #![tactic(auto)]
 
-ghost use Rattle.std.specs.Prelude.{ℕ, Bool, ◌≡◌, ◌+◌, ◌-◌, ◌*◌, ◌≤◌, ◌<◌, max, min};
+ghost use Rattle.std.specs.Prelude.{ℕ, Bool, ◌≡◌, ◌+◌, ◌≤◌, ◌<◌};
 ghost use Rattle.ground.specs.Least.{least_up_to, Rising, Answers};
 ghost use Rattle.ground.specs.Rounding.{ceil_div};
 
@@ -10,48 +10,6 @@ ghost use Rattle.ground.specs.Rounding.{ceil_div};
 pub struct Ended {
     pub step: Option<u32>,
     pub looks: u32,
-}
-
-// The larger of two numbers.
-pub fn larger(a: u64, b: u64) -> u64
-    ensures { result ≡ max a b }
-{
-    if a < b { b } else { a }
-}
-
-// The shorter of two lengths.
-pub fn shorter(a: usize, b: usize) -> usize
-    ensures { result ≡ min a b }
-{
-    if a < b { a } else { b }
-}
-
-// The later of two steps.
-pub fn later(a: u32, b: u32) -> u32
-    ensures { result ≡ max a b }
-{
-    if a < b { b } else { a }
-}
-
-// A number as one of 64 bits.
-pub fn widened(x: u32) -> u64
-    ensures { result ≡ x }
-{
-    x as u64
-}
-
-// The difference, taken as 0 when negative.
-pub fn less_or_zero(a: u64, b: u64) -> u64
-    ensures { result ≡ a - b }
-{
-    if a < b { 0 } else { a - b }
-}
-
-// The product, which always fits.
-pub fn times(a: u32, b: u32) -> u64
-    ensures { result ≡ a * b }
-{
-    a as u64 * b as u64
 }
 
 // The quotient rounded up.

@@ -48,7 +48,7 @@ fn hand_on_candidate(
     let Some(found) = loosen::loosen(text, &mut candidate) else {
         return Err(refusal);
     };
-    let n = ground::shorter(found, office::LONGEST);
+    let n = found.min(office::LONGEST);
     let handed = hand_on(&candidate[..n], out);
     let Ok(_) = handed else {
         return Err(refusal);
