@@ -11,12 +11,8 @@ use std::io;
 use task_names::Names;
 use text::Page;
 
-// The settings that the words name, or the refusal of one that is no number.
-#[derive(Clone, Copy)]
-enum Asked {
-    Is(Settings),
-    Refused(Refusal),
-}
+// The words before the first setting: the program's own name, and the form.
+const BEFORE: usize = 2;
 
 // How a plan is put.
 #[derive(Clone, Copy)]
@@ -30,24 +26,24 @@ enum Form {
 fn form_asked(rt: HostRuntime) -> Form {
     let mut word = [0u8; 16];
     let n = lent_input::word(&rt, 1, &mut word);
-    if n < 2 {
-        return Form::Text;
-    }
-    match word[1] {
-        b'h' => Form::Sheet,
-        b's' => Form::Csv,
+    match &word[..n] {
+        [_, b'h', ..] => Form::Sheet,
+        [_, b's', ..] => Form::Csv,
         _ => Form::Text,
     }
 }
 
-// The setting that a word names, or what is filled in where there is none.
-fn setting(rt: HostRuntime, i: usize, fill_in: u16) -> Setting {
+// The setting that a word names, or what is filled in where there is no word; none where it is no number.
+fn setting(rt: HostRuntime, i: usize, fill_in: u16) -> Option<u16> {
     if lent_input::word_count(&rt) <= i {
-        return Setting::Is(fill_in);
+        return Some(fill_in);
     }
     let mut word = [0u8; 16];
     let n = lent_input::word(&rt, i, &mut word);
-    office_sheet::setting_of(&word[..n])
+    match office_sheet::setting_of(&word[..n]) {
+        Setting::Is(number) => Some(number),
+        Setting::Bad => None,
+    }
 }
 
 // What is refused where a setting is no number: the policy is the first.
@@ -59,15 +55,12 @@ fn unset(i: usize) -> Refusal {
 }
 
 // The settings by the words behind the form.
-fn settings_asked(rt: HostRuntime) -> Asked {
+fn settings_asked(rt: HostRuntime) -> Result<Settings, Refusal> {
     let mut numbers = Settings::FILL_INS;
-    for i in 0..Settings::MOST {
-        let Setting::Is(number) = setting(rt, i + 2, numbers[i]) else {
-            return Asked::Refused(unset(i));
-        };
-        numbers[i] = number;
+    for (i, number) in numbers.iter_mut().enumerate() {
+        *number = setting(rt, i + BEFORE, *number).ok_or(unset(i))?;
     }
-    Asked::Is(Settings::of(numbers))
+    Ok(Settings::of(numbers))
 }
 
 // The unfilled sheet of a table, with as many settings as words are given.
@@ -84,10 +77,14 @@ fn unfilled(settings: Settings, table: Table, count: usize) -> Sheet {
     }
 }
 
-// How many settings are given by the words behind the form.
-fn given(rt: HostRuntime) -> usize {
-    let words = lent_input::word_count(&rt).saturating_sub(2);
-    words.min(Settings::MOST)
+// What an exact text and the words come to, or why it is nothing.
+fn planned(rt: HostRuntime, exact: &[u8]) -> Result<SheetPlan, Refusal> {
+    let settings = settings_asked(rt)?;
+    let imported = office::import(exact, Table::MOST_TASKS);
+    imported.answer?;
+    let given = lent_input::word_count(&rt).saturating_sub(BEFORE);
+    let count = given.min(Settings::MOST);
+    Ok(fill::fill_sheet(unfilled(settings, imported.table, count)))
 }
 
 // Puts the filled sheet.
@@ -100,29 +97,18 @@ fn put_sheet(page: &mut Page, x: Sheet) {
 
 // Puts a plan as it is asked for; why there is none is put for people to read.
 fn put_planned(page: &mut Page, plan: SheetPlan, form: Form, names: &Names) {
-    match form {
-        Form::Sheet if plan.answer.is_ok() => put_sheet(page, plan.sheet),
-        Form::Csv if plan.answer.is_ok() => view_table::put_csv(page, plan.sheet, names),
+    match (plan.answer, form) {
+        (Ok(_), Form::Sheet) => put_sheet(page, plan.sheet),
+        (Ok(_), Form::Csv) => view_table::put_csv(page, plan.sheet, names),
         _ => view_text::put_plan(page, plan, names),
     }
 }
 
-// Puts what an exact text comes to under these settings.
-fn put_table(rt: HostRuntime, page: &mut Page, exact: &[u8], settings: Settings, names: &Names) {
-    let imported = office::import(exact, Table::MOST_TASKS);
-    if let Err(refusal) = imported.answer {
-        return view_text::put_line(page, refusal);
-    }
-    let plan = fill::fill_sheet(unfilled(settings, imported.table, given(rt)));
-    put_planned(page, plan, form_asked(rt), names)
-}
-
 // Puts what an exact text and the words come to.
 fn put_asked(rt: HostRuntime, page: &mut Page, exact: &[u8], names: &Names) {
-    let asked = settings_asked(rt);
-    match asked {
-        Asked::Refused(refusal) => view_text::put_line(page, refusal),
-        Asked::Is(settings) => put_table(rt, page, exact, settings, names),
+    match planned(rt, exact) {
+        Err(refusal) => view_text::put_line(page, refusal),
+        Ok(plan) => put_planned(page, plan, form_asked(rt), names),
     }
 }
 
@@ -130,8 +116,8 @@ fn put_asked(rt: HostRuntime, page: &mut Page, exact: &[u8], names: &Names) {
 fn put_tidy_plan(rt: HostRuntime, page: &mut Page, given: &[u8], names: &Names) {
     let mut exact = [0u8; office::LONGEST];
     match tidy::tidied(given, &mut exact) {
-        Ok(k) => put_asked(rt, page, &exact[..k], names),
         Err(_) => put_asked(rt, page, given, names),
+        Ok(k) => put_asked(rt, page, &exact[..k], names),
     }
 }
 
