@@ -10,6 +10,9 @@ use std::io;
 use task_names::Names;
 use text::Page;
 
+// The words before the first setting: the program's own name, and the form.
+const BEFORE: usize = 2;
+
 // How a plan is put.
 #[derive(Clone, Copy)]
 enum Form {
@@ -22,17 +25,14 @@ enum Form {
 fn form_asked(rt: HostRuntime) -> Form {
     let mut word = [0u8; 16];
     let n = lent_input::word(&rt, 1, &mut word);
-    if n < 2 {
-        return Form::Text;
-    }
-    match word[1] {
-        b'h' => Form::Sheet,
-        b's' => Form::Csv,
+    match &word[..n] {
+        [_, b'h', ..] => Form::Sheet,
+        [_, b's', ..] => Form::Csv,
         _ => Form::Text,
     }
 }
 
-// The setting that a word names, or what is filled in where there is none.
+// The setting that a word names, or what is filled in where there is no word; none where it is no number.
 fn setting(rt: HostRuntime, i: usize, fill_in: u16) -> Option<u16> {
     if lent_input::word_count(&rt) <= i {
         return Some(fill_in);
@@ -50,11 +50,11 @@ fn unset(i: usize) -> Refusal {
     Refusal::Misset
 }
 
-// The settings by the words behind the form, or the refusal of one that is no number.
+// The settings by the words behind the form.
 fn settings_asked(rt: HostRuntime) -> Result<Settings, Refusal> {
     let mut numbers = Settings::FILL_INS;
     for (i, number) in numbers.iter_mut().enumerate() {
-        *number = setting(rt, i + 2, *number).ok_or(unset(i))?;
+        *number = setting(rt, i + BEFORE, *number).ok_or(unset(i))?;
     }
     Ok(Settings::from(numbers))
 }
@@ -73,10 +73,13 @@ fn unfilled(settings: Settings, table: Table, count: usize) -> Sheet {
     }
 }
 
-// How many settings are given by the words behind the form.
-fn given(rt: HostRuntime) -> usize {
-    let words = lent_input::word_count(&rt).saturating_sub(2);
-    words.min(Settings::MOST)
+// What an exact text and the words come to, or why it is nothing.
+fn planned(rt: HostRuntime, exact: &[u8]) -> Result<SheetPlan, Refusal> {
+    let settings = settings_asked(rt)?;
+    let table = office::read(exact, Table::MOST_TASKS)?;
+    let given = lent_input::word_count(&rt).saturating_sub(BEFORE);
+    let count = given.min(Settings::MOST);
+    Ok(fill::fill_sheet(unfilled(settings, table, count)))
 }
 
 // Puts the filled sheet.
@@ -89,25 +92,18 @@ fn put_sheet(page: &mut Page, x: Sheet) {
 
 // Puts a plan as it is asked for; why there is none is put for people to read.
 fn put_planned(page: &mut Page, plan: SheetPlan, form: Form, names: &Names) {
-    match form {
-        Form::Sheet if plan.answer.is_ok() => put_sheet(page, plan.sheet),
-        Form::Csv if plan.answer.is_ok() => view_table::put_csv(page, plan.sheet, names),
+    match (plan.answer, form) {
+        (Ok(_), Form::Sheet) => put_sheet(page, plan.sheet),
+        (Ok(_), Form::Csv) => view_table::put_csv(page, plan.sheet, names),
         _ => view_text::put_plan(page, plan, names),
     }
 }
 
-// The plan of an exact text under the settings that the words name, or the first refusal of either.
-fn plan_asked(rt: HostRuntime, exact: &[u8]) -> Result<SheetPlan, Refusal> {
-    let settings = settings_asked(rt)?;
-    let table = office::read(exact, Table::MOST_TASKS)?;
-    Ok(fill::fill_sheet(unfilled(settings, table, given(rt))))
-}
-
 // Puts what an exact text and the words come to.
 fn put_asked(rt: HostRuntime, page: &mut Page, exact: &[u8], names: &Names) {
-    match plan_asked(rt, exact) {
-        Ok(plan) => put_planned(page, plan, form_asked(rt), names),
+    match planned(rt, exact) {
         Err(refusal) => view_text::put_line(page, refusal),
+        Ok(plan) => put_planned(page, plan, form_asked(rt), names),
     }
 }
 
@@ -115,8 +111,8 @@ fn put_asked(rt: HostRuntime, page: &mut Page, exact: &[u8], names: &Names) {
 fn put_tidy_plan(rt: HostRuntime, page: &mut Page, given: &[u8], names: &Names) {
     let mut exact = [0u8; office::LONGEST];
     match tidy::tidied(given, &mut exact) {
-        Ok(k) => put_asked(rt, page, &exact[..k], names),
         Err(_) => put_asked(rt, page, given, names),
+        Ok(k) => put_asked(rt, page, &exact[..k], names),
     }
 }
 
