@@ -25,6 +25,7 @@ use Rattle.admission.specs.Admission.{misset_numbers, gate}
 use Rattle.admission.proofs.Chain.{gate-opens, then-admitted}
 use Rattle.proposal.specs.Loads.{processor_load, loads_to, is_out_of_range, first_out_of_range, is_overfull, before_overfull, Sound}
 use Rattle.proposal.specs.Proposal.{place_in, gate_of, admission, placing, proposal_verdict, Outcome, outcome, Meets}
+use Rattle.springs.specs.declared.Springs.{Springs}
 use Rattle.proposal.specs.Handover.{LoadsOf, Loadable, LoadsAre}
 use Rattle.proposal.proofs.Loading.{load_same, overfull-is, front-is}
 use Rattle.proposal.proofs.Adding.{loads-add-up}
@@ -32,17 +33,16 @@ use Rattle.proposal.proofs.Judging.{placing-out-of-range, placing-overfull, plac
 use Rattle.proposal.proofs.Admitting.{gate-passed}
 
 -- a proposal with an entry for each task, none of them out of range, may be loaded
-pub may_load : (s : Settings) (rows : List Task) (n k : ℕ) (block proposal : List ℕ) → LoadsOf s rows n k block → n ≤ length proposal
-    → n ≤ first_out_of_range s.m (place_in proposal) n → Loadable block n proposal
-may_load s rows n k block proposal w long h =
-    record {
-      light = w.light;
+pub may_load : (s : Settings) (rows : List Task) (n k : ℕ) (springs : Springs) (proposal : List ℕ) → LoadsOf s rows n k springs → n ≤ length proposal
+    → n ≤ first_out_of_range s.m (place_in proposal) n → Loadable springs.n proposal
+may_load s rows n k springs proposal w long h =
+    rw w.count (record {
       long = long;
       each =
           λ i l.
           let range = all-in-range (place_in proposal) (place_in proposal) n s.m h i l in
           record { some = range.some; most = omega (arith, range.most, w.m-most) };
-    }
+    })
 
 -- and once it is, what was worked out for every processor that there can be counts for the first m
 pub record Counted (s : Settings) (rows : List Task) (n k : ℕ) (proposal held : List ℕ) : Type 0 where
@@ -50,9 +50,10 @@ pub record Counted (s : Settings) (rows : List Task) (n k : ℕ) (proposal held 
   pub lowest : first_below (λ j. is_overfull (get_or held j 0)) s.m ≡ before_overfull (loads_under s rows n k) (place_in proposal) n s.m
   pub front : take s.m held ≡ loads_to (loads_under s rows n k) (place_in proposal) n s.m
 
-pub counted : (s : Settings) (rows : List Task) (n k : ℕ) (block proposal held : List ℕ) → LoadsOf s rows n k block
-    → LoadsAre (load_in block) (place_in proposal) n held → Counted s rows n k proposal held
-counted s rows n k block proposal held w are =
+pub counted : (s : Settings) (rows : List Task) (n k : ℕ) (springs : Springs) (proposal held : List ℕ) → LoadsOf s rows n k springs
+    → LoadsAre (load_in springs.loads) (place_in proposal) springs.n held → Counted s rows n k proposal held
+counted s rows n k springs proposal held w a =
+    let are : LoadsAre (load_in springs.loads) (place_in proposal) n held = rw w.count at a in
     let long : s.m ≤ length held = omega (arith, w.m-most, are.long) in
     record {
       long = long;

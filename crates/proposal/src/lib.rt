@@ -4,13 +4,13 @@
 
 ghost use Rattle.std.specs.Prelude.{◌≡◌, length, get_or};
 ghost use Rattle.fit.specs.Fit.{load_in};
-ghost use Rattle.springs.specs.Handover.{Roomy};
+ghost use Rattle.springs.specs.Handover.{Empty};
 ghost use Rattle.proposal.specs.Loads.{is_out_of_range, is_overfull};
 ghost use Rattle.proposal.specs.Proposal.{place_in, gate_of, outcome, Meets};
 ghost use Rattle.proposal.specs.Handover.{AdmittedLoaded, FoundFirst, Loadable, LoadsAre};
 
 use kinds::{Refusal, Settings, Share, Table};
-use springs::Columns;
+use springs::Springs;
 
 // Refusals 2, 3 and 5 of a call on n tasks, for a proposal of so many entries and an output with so much room.
 fn gate_of(settings: Settings, n: usize, proposed: usize, room: usize) -> Result<(), Refusal>
@@ -21,23 +21,23 @@ fn gate_of(settings: Settings, n: usize, proposed: usize, room: usize) -> Result
     admission::roomy(usize::from(settings.m), room)
 }
 
-// Refusals 2 to 6. Where none is given, the lent block has the loads of the tasks at the step first.
+// Refusals 2 to 6. Where none is given, the springs of the table are taken in, with their loads at the step.
 pub fn admit(
     table: Table,
     settings: Settings,
     step: u32,
     proposed: usize,
     room: usize,
-    block: &mut [u32; Columns::ROOM],
+    springs: &mut Springs,
 ) -> Result<(), Refusal>
-    requires { Roomy block.old }
-    ensures { AdmittedLoaded settings table.rows table.n step proposed room result block.new }
+    requires { Empty settings.notch springs.old }
+    ensures { AdmittedLoaded settings table.rows table.n step proposed room result springs.new }
 {
-    let n = table.n;
-    gate_of(settings, n, proposed, room)?;
-    let bad = springs::springs_of(table, settings.swap, settings.notch, block);
-    admission::judge(bad, n)?;
-    springs::loads_at(settings, block, n, step);
+    gate_of(settings, table.n, proposed, room)?;
+    springs
+        .take_in(table, settings.swap)
+        .map_err(Refusal::BadRecord)?;
+    springs.load(settings, step);
     Ok(())
 }
 
@@ -57,17 +57,14 @@ fn first_out_of_range(proposal: &[u16], m: u16) -> Option<usize>
         .position(|&processor| out_of_range(m, processor))
 }
 
-// The loads that a proposal puts on the processors: that of each task, which stand first in the block, on its own.
-fn loads_of(
-    block: &[u32; Columns::ROOM],
-    proposal: &[u16],
-    n: usize,
-) -> [u32; Settings::MOST_PROCESSORS as usize]
-    requires { Loadable block.now n proposal.now }
-    ensures { LoadsAre (load_in block.now) (place_in proposal.now) n result }
+// The loads that a proposal puts on the processors: that of each task on its own.
+fn loads_of(springs: &Springs, proposal: &[u16]) -> [u32; Settings::MOST_PROCESSORS as usize]
+    requires { Loadable springs.now.n proposal.now }
+    ensures { LoadsAre (load_in springs.now.loads) (place_in proposal.now) springs.now.n result }
 {
+    let n = springs.n;
     let mut held = [0u32; Settings::MOST_PROCESSORS as usize];
-    for (&load, &processor) in block[..n].iter().zip(&proposal[..n]) {
+    for (&load, &processor) in springs.loads[..n].iter().zip(&proposal[..n]) {
         held[usize::from(processor) - 1] += load;
     }
     held
@@ -93,19 +90,19 @@ pub fn check(
 {
     let n = table.n;
     let processors = usize::from(settings.m);
-    let mut block = [0u32; Columns::ROOM];
+    let mut springs = Springs::new(settings.notch);
     admit(
         table,
         settings,
         step,
         proposal.len(),
         loads.len(),
-        &mut block,
+        &mut springs,
     )?;
     if let Some(task) = first_out_of_range(&proposal[..n], settings.m) {
         return Err(Refusal::ProcessorOutOfRange(task));
     }
-    let held = loads_of(&block, proposal, n);
+    let held = loads_of(&springs, proposal);
     if let Some(below) = before_overfull(&held[..processors]) {
         return Err(Refusal::ProcessorOverfull(below + 1));
     }

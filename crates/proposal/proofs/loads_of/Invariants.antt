@@ -7,4 +7,4 @@ use Rattle.proposal.proofs.Loading.{Loading}
 use Rattle.proposal.proofs.loads_of.Given as goal
 
 abbrev pub invariant-loop-load : goal.invariant-loop-load
-invariant-loop-load l = Loading (load_in l.block) (place_in l.proposal) l.n l.held (length l.yielded)
+invariant-loop-load l = Loading (load_in l.springs.loads) (place_in l.proposal) l.springs.n l.held (length l.yielded)
