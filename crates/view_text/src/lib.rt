@@ -114,7 +114,8 @@ fn put_room(out: &mut [u8], at: usize, x: Sheet, step: u32) -> usize {
 
 // The number of the reason for which a record is not good.
 fn reason_of(task: Task, settings: Settings) -> u16 {
-    reason::reason_of(task, settings.swap, settings.notch).map_or(0, |reason| reason.number())
+    let reason = reason::reason_of(task, settings.swap, settings.notch);
+    reason.map_or(0, |reason| reason.number())
 }
 
 // The line of a refusal, and one sentence on what to look at, without an end.
