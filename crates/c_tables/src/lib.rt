@@ -147,14 +147,16 @@ pub fn wide_told(table: WideTable, m: u16, periods: &mut [u32], cores: &mut [u16
 pub fn reason_told(task: Task, w: u16, q: u16) -> u32
     ensures { result ≡ reason_number (reason_of w q task) }
 {
-    reason::reason_of(task, w, q).map_or(0, |reason| u32::from(reason.number()))
+    let reason = reason::reason_of(task, w, q);
+    reason.map_or(0, |reason| u32::from(reason.number()))
 }
 
 // The same of a task that needs several cores.
 pub fn wide_reason_told(task: WideTask) -> u32
     ensures { result ≡ wide_reason_number (wide_reason_of task) }
 {
-    reason::wide_reason_of(task).map_or(0, |reason| u32::from(reason.number()))
+    let reason = reason::wide_reason_of(task);
+    reason.map_or(0, |reason| u32::from(reason.number()))
 }
 
 // The share of a record at any step; 0 where it is not good.
