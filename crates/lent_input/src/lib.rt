@@ -30,10 +30,7 @@ pub fn read_full<R: Read>(from: &mut R, into: &mut [u8]) -> io::Result<usize>
 pub fn word<E: Env>(given: &E, i: usize, into: &mut [u8]) -> usize
     ensures within { (result ≤ length into.new) × (result ≡ length (take result into.new)) }
 {
-    match given.arg(i, into) {
-        Ok(n) => n,
-        Err(_) => 0,
-    }
+    given.arg(i, into).unwrap_or(0)
 }
 
 // How many words the command line has, the program's own name among them.
