@@ -10,15 +10,6 @@ pub struct Sentence(pub Refusal);
 impl fmt::Display for Sentence {
     fn fmt<W: fmt::Write>(&self, f: &mut fmt::Formatter<W>) -> fmt::Result {
         match self.0 {
-            Refusal::NoSuchPolicy => write!(f, "the policy must be 1, 2, 4 or 5"),
-            Refusal::Misset => {
-                write!(
-                    f,
-                    "m must be 1 to 16 (policy 5: 1), q not 0, the edition 1 or 2"
-                )
-            }
-            Refusal::TooManyTasks(_) => write!(f, "a table has at most 32 tasks"),
-            Refusal::PolicyNotServed => write!(f, "policy 4 has no quick finder and no margin"),
             Refusal::OutputTooShort(place) => {
                 write!(
                     f,
@@ -26,17 +17,8 @@ impl fmt::Display for Sentence {
                 )
             }
             Refusal::BadRecord(place) => write!(f, "task {place} is not good"),
-            Refusal::NoStepPasses => {
-                write!(f, "the tasks fit at no step, not even at full compression")
-            }
             Refusal::SheetEnds(place) => {
                 write!(f, "the sheet ends at byte {place}, where more is due")
-            }
-            Refusal::WrongSettingsCount => {
-                write!(f, "the sheet must begin with a settings count of 2 to 5")
-            }
-            Refusal::WrongResultCount(_) => {
-                write!(f, "the result count is neither 0 nor the task count")
             }
             Refusal::BytesAfterLast(place) => {
                 write!(f, "the sheet is over at byte {place}, and bytes follow")
@@ -48,23 +30,33 @@ impl fmt::Display for Sentence {
             Refusal::ProcessorOverfull(place) => {
                 write!(f, "the tasks proposed for processor {place} do not fit it")
             }
-            Refusal::PolicyWithdrawn => write!(f, "policy 3 is withdrawn: choose 1, 2, 4 or 5"),
             Refusal::BadLine(place) => {
                 write!(f, "line {place} (from 0) is not four numbers C,Tmin,Tmax,E")
             }
             Refusal::BadPeriod(place) => {
                 write!(f, "the period of task {place} is 0 or above 1,000,000,000")
             }
-            Refusal::NoResults => {
-                write!(
-                    f,
-                    "there are tasks without results: fill the sheet in first"
-                )
-            }
             Refusal::WrongResult(place) => {
                 write!(f, "the result of task {place} is not the one that we give")
             }
+            refusal => write!(f, "{}", plain(refusal)),
         }
+    }
+}
+
+// The sentence of a refusal that shows no place.
+fn plain(refusal: Refusal) -> &'static str {
+    match refusal {
+        Refusal::NoSuchPolicy => "the policy must be 1, 2, 4 or 5",
+        Refusal::Misset => "m must be 1 to 16 (policy 5: 1), q not 0, the edition 1 or 2",
+        Refusal::TooManyTasks(_) => "a table has at most 32 tasks",
+        Refusal::PolicyNotServed => "policy 4 has no quick finder and no margin",
+        Refusal::NoStepPasses => "the tasks fit at no step, not even at full compression",
+        Refusal::WrongSettingsCount => "the sheet must begin with a settings count of 2 to 5",
+        Refusal::WrongResultCount(_) => "the result count is neither 0 nor the task count",
+        Refusal::PolicyWithdrawn => "policy 3 is withdrawn: choose 1, 2, 4 or 5",
+        Refusal::NoResults => "there are tasks without results: fill the sheet in first",
+        _ => "",
     }
 }
 
