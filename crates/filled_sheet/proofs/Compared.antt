@@ -1,11 +1,14 @@
 -- A sheet compared with a plan is what the definition compares, and with its own plan what the checker says of it.
 -- Assumes nothing.
-use Rattle.ground.proofs.Kit.{ℕ, ◌≤◌, ◌<◌, min, false, List, ◌≡◌, refl, sym, ◌∙◌, ap, arith, length, le-leb, lt-leb, Ok, Err}
+use Rattle.ground.proofs.Kit.{ℕ, ◌≤◌, ◌<◌, min, Bool, not, true, false, List, ◌≡◌, refl, sym, ◌∙◌, ap, arith, length, le-leb, lt-leb, lt-ltb, le-ltb, ltb, ltb-true, ltb-false, Some, None, Ok, Err}
 use lib.ListN.{get_or-eq_default}
+use Rattle.std.proofs.lemmas.Option.{same_Some, none-some}
+use Rattle.std.specs.Prelude.{◌&&◌}
+use Rattle.ground.specs.Choice.{either}
 use Rattle.ground.specs.First.{first_below}
 use Rattle.ground.proofs.First.{first-none}
 use Rattle.ground.proofs.Laid.{padded-to-in}
-use Rattle.ground.proofs.Cases.{by_le}
+use Rattle.ground.proofs.Cases.{by_le, by_bool}
 use Rattle.kinds.specs.declared.Granted.{Granted}
 use Rattle.kinds.specs.declared.Sheet.{Sheet}
 use Rattle.kinds.specs.declared.Refusal.{Refusal}
@@ -19,7 +22,7 @@ use Rattle.writer.specs.Canonical.{granted_in}
 use Rattle.fill.specs.declared.SheetPlan.{SheetPlan}
 use Rattle.fill.specs.Results.{entry_at, results_of, plan_periods, plan_processors, with_plan, Plans}
 use Rattle.fill.proofs.Plans.{filling-is}
-use Rattle.filled_sheet.specs.Checked.{unlike, first_differing, compared, checked_by, checked_sheet}
+use Rattle.filled_sheet.specs.Checked.{unlike, first_unlike, first_differing, compared, checked_by, checked_sheet}
 
 -- result i of a sheet with a plan is entry i of the plan
 pub planned-at : (x : Sheet) (k i : ℕ) → x.table.n ≤ most_tasks → i < x.table.n
@@ -38,6 +41,32 @@ pub none-unlike : (rows others : List Granted) (n i : ℕ) → length rows ≡ m
 none-unlike rows others n i long long' h l =
     first-none (unlike rows others) n n
     (λ j below. by_le most_tasks j (λ past. alike-past rows others j (omega arith) (omega arith)) (λ held. h j (omega arith))) refl
+
+-- two results differ where they are not equal
+pub differ-by_ne : (a b : Bool) → not (a && b) ≡ either (not a) (not b)
+differ-by_ne true b = refl
+differ-by_ne false b = refl
+
+module _ (rows others : List Granted) (n : ℕ) where
+  -- the first, by a walk that comes to it, and by one that comes to the end
+  pub unlike-found : (i : ℕ) → i < n → i ≡ first_below (unlike rows others) n → Some i ≡ first_unlike rows others n
+  unlike-found i l e = rw (← e, lt-ltb i n l)
+
+  pub unlike-nowhere : n ≡ first_below (unlike rows others) n → None ≡ first_unlike rows others n
+  unlike-nowhere e = rw (← e, le-ltb n n (omega arith))
+
+  -- what it says
+  pub some-unlike : (i : ℕ) → Some i ≡ first_unlike rows others n → (i ≡ first_below (unlike rows others) n) × (i < n)
+  some-unlike i e =
+      by_bool (ltb (first_below (unlike rows others) n) n)
+      (λ t. let s = same_Some i (first_below (unlike rows others) n) (rw t at e) in (s, omega (arith, ltb-true (first_below (unlike rows others) n) n t)))
+      (λ f. absurd (none-some i (sym (rw f at e))))
+
+  pub none-unlike_there : None ≡ first_unlike rows others n → n ≤ first_below (unlike rows others) n
+  none-unlike_there e =
+      by_bool (ltb (first_below (unlike rows others) n) n)
+      (λ t. absurd (none-some (first_below (unlike rows others) n) (rw t at e)))
+      (λ f. ltb-false (first_below (unlike rows others) n) n f)
 
 module _ (x : Sheet) (p : SheetPlan) where
   pub plan-refuses : (q : Refusal) → p.answer ≡ Err q → refused tt q ≡ checked_by x p
