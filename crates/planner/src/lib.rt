@@ -2,22 +2,21 @@
 // needs to trust it: `proposal::check` says whether a proposal may be used. Contracts say only what keeps the walks in bounds.
 #![tactic(auto)]
 
-ghost use Rattle.std.specs.Prelude.{◌≤◌, ◌<◌};
-ghost use Rattle.kinds.specs.Limits.{scale, most_tasks, most_processors};
-ghost use Rattle.fit.specs.Handover.{Loads};
+ghost use Rattle.std.specs.Prelude.{◌≤◌, ◌<◌, length};
+ghost use Rattle.kinds.specs.Limits.{scale, most_processors};
 ghost use Rattle.planner.specs.Handover.{WithRoom};
 
 use kinds::{Settings, Share, Table};
-use springs::Columns;
+use springs::Springs;
 
-// The heaviest of n tasks, the first where several are as heavy. Loads stand first in a block.
-fn heaviest(block: &[u32; Columns::ROOM], n: usize) -> usize
-    requires { (1 ≤ n) × (n ≤ most_tasks) }
-    ensures { result < n }
+// The heaviest of some loads, the first where several are as heavy.
+fn heaviest(loads: &[u32]) -> usize
+    requires { 1 ≤ length loads.now }
+    ensures { result < length loads.now }
 {
     let mut found = 0;
-    for i in 1..n {
-        if block[found] < block[i] {
+    for (i, load) in loads.iter().enumerate() {
+        if loads[found] < *load {
             found = i;
         }
     }
@@ -43,21 +42,22 @@ fn fullest(held: &[u32; Settings::MOST_PROCESSORS as usize], load: u32, m: usize
     found
 }
 
-// Best fit in the order of falling load: each task goes to the fullest processor that has room for it, and has then no load left in the block.
+// Best fit in the order of falling load: each task goes to the fullest processor that has room for it, and has then no load left in the springs.
 // The first task that fits nowhere ends the trial; it and those after it get 0.
-fn best_fit(block: &mut [u32; Columns::ROOM], n: usize, m: usize) -> [u16; Table::MOST_TASKS]
-    requires { Loads block.old n × (m ≤ most_processors) }
+fn best_fit(springs: &mut Springs, m: usize) -> [u16; Table::MOST_TASKS]
+    requires { m ≤ most_processors }
 {
+    let n = springs.n;
     let mut held = [0u32; Settings::MOST_PROCESSORS as usize];
     let mut processors = [0u16; Table::MOST_TASKS];
     for _ in 0..n {
-        let i = heaviest(block, n);
-        let load = block[i];
+        let i = heaviest(&springs.loads[..n]);
+        let load = springs.loads[i];
         let Some(j) = fullest(&held, load, m) else {
             return processors;
         };
         held[j] += load;
-        block[i] = 0;
+        springs.loads[i] = 0;
         processors[i] = (j + 1) as u16;
     }
     processors
@@ -66,15 +66,14 @@ fn best_fit(block: &mut [u32; Columns::ROOM], n: usize, m: usize) -> [u16; Table
 // A processor for each task at a step: where first fit places each, as first fit does, else by best fit in the order of falling load. Where
 // refusals 2, 3 and 6 come first, zeros.
 pub fn propose(table: Table, settings: Settings, step: u32) -> [u16; Table::MOST_TASKS] {
-    let n = table.n;
     let m = usize::from(settings.m);
-    let mut block = [0u32; Columns::ROOM];
-    let Ok(()) = proposal::admit(table, settings, step, n, m, &mut block) else {
+    let mut springs = Springs::new(settings.notch);
+    let Ok(()) = proposal::admit(table, settings, step, table.n, m, &mut springs) else {
         return [0u16; Table::MOST_TASKS];
     };
-    let trial = fit::first_fit(&block, n, m);
+    let trial = fit::first_fit(&springs.loads, springs.n, m);
     if trial.placed {
         return trial.processors;
     }
-    best_fit(&mut block, n, m)
+    best_fit(&mut springs, m)
 }
