@@ -1,7 +1,6 @@
--- `planner::best_fit` stays in bounds and ends. The loop: there is a load for each task. Assumes nothing.
-use Rattle.ground.proofs.Kit.{◌≡◌, ◌≤◌, length}
-use Rattle.kinds.specs.Limits.{most_tasks}
+-- `planner::best_fit` stays in bounds and ends. The loop: no load that is left is above S. Assumes nothing.
+use Rattle.fit.specs.Handover.{Loads}
 use Rattle.planner.proofs.best_fit.Given as goal
 
 abbrev pub invariant-loop : goal.invariant-loop
-invariant-loop l = (length l.springs.loads ≡ most_tasks) × (l.n ≤ most_tasks)
+invariant-loop l = Loads l.left l.n
