@@ -1,11 +1,11 @@
 -- `margin::margin_at` meets its contract. Assumes nothing.
-use Rattle.ground.proofs.Kit.{ℕ, ◌<◌, false, ◌≡◌, ◌∙◌, ap, rules, Err}
+use Rattle.ground.proofs.Kit.{ℕ, ◌<◌, false, ◌≡◌, sym, ◌∙◌, ap, arith, rules, Err}
 use Rattle.kinds.specs.Answer.{accepted}
-use Rattle.springs.proofs.Columns.{loads-are, loads-most}
+use Rattle.springs.proofs.Columns.{loads-are}
 use Rattle.fit.specs.Fit.{load_in}
+use Rattle.policy.specs.Sides.{margin_of}
 use Rattle.policy.specs.Under.{loads_under}
 use Rattle.policy.proofs.Tests.{margin-same}
-use Rattle.policy.proofs.Weighing.{loaded-loads}
 use Rattle.admission.proofs.Chain.{passed-weighed}
 use Rattle.admission.proofs.Opened.{opened}
 use Rattle.margin.specs.Margin.{margin_handed}
@@ -17,23 +17,29 @@ returns-in_err-admit c =
     let e : c.from_residual.result ≡ Err c.in_err-admit.field-0.0 = search rules in
     rw (e, ← c.admit.ensures.is, c.in_err-admit.was)
 
-pub loads_at-requires : goal.loads_at-requires
-loads_at-requires c = (opened false _ _ _ _ _ _ c.admit.ensures c.in_ok-admit.was).chargeable
+pub load-requires : goal.load-requires
+load-requires c = sym c.admit.ensures.notch
 
-pub margin_of-requires : goal.margin_of-requires
-margin_of-requires c =
-    let begun = opened false _ _ _ _ _ _ c.admit.ensures c.in_ok-admit.was in
-    let passed = begun.ready.passed in
-    let most = loads-most c.args.settings _ _ begun.chargeable c.args.step in
-    (loaded-loads _ _ _ _ passed.few most c.loads_at.ensures, passed.m-some, passed.m-most, rw c.meant.ensures (passed-weighed _ _ _ _ passed))
+pub invariant_of-test : goal.invariant_of-test
+invariant_of-test c =
+    let passed = (opened false _ _ _ _ _ _ c.admit.ensures c.in_ok-admit.was).ready.passed in
+    record { some = passed.m-some; few = passed.m-most; served = λ e. rw c.meant.ensures (passed-weighed _ _ _ _ passed) }
+
+pub margin-requires : goal.margin-requires
+margin-requires c =
+    let passed = (opened false _ _ _ _ _ _ c.admit.ensures c.in_ok-admit.was).ready.passed in
+    rw c.meant.ensures (passed-weighed _ _ _ _ passed)
 
 pub returns : goal.returns
 unfolding margin_handed
 returns c =
     let args = c.args in
+    let n = args.table.n in
     let begun = opened false _ _ _ _ _ _ c.admit.ensures c.in_ok-admit.was in
-    let load = loads_under args.settings args.table.rows args.table.n args.step in
-    let are : (i : ℕ) → i < args.table.n → load_in c.loads_at.new.block i ≡ load i =
-    λ i l. c.loads_at.ensures.are i l ∙ loads-are _ _ _ begun.sprung args.settings args.step i l in
-    let same = margin-same _ _ (load_in c.loads_at.new.block) load _ are in
-    rw (← c.admit.ensures.is, c.in_ok-admit.was, ← c.meant.ensures) (ap accepted (search rules ∙ (c.margin_of.ensures ∙ same)))
+    let load = loads_under args.settings args.table.rows n args.step in
+    let loaded = c.load.ensures in
+    let are : (i : ℕ) → i < n → load_in c.load.new.self.loads i ≡ load i =
+    λ i l. loaded.are i (omega (arith, begun.sprung.count)) ∙ loads-are _ _ _ begun.sprung args.settings args.step i l in
+    let all = ap (λ (x : ℕ). margin_of c.meant.result args.settings.m (load_in c.load.new.self.loads) x) (loaded.beside.count ∙ begun.sprung.count) in
+    let same = margin-same _ _ (load_in c.load.new.self.loads) load _ are in
+    rw (← c.admit.ensures.is, c.in_ok-admit.was, ← c.meant.ensures) (ap accepted (search rules ∙ (c.margin.ensures ∙ (all ∙ same))))
