@@ -1,17 +1,18 @@
 -- What the admission of a proposal has checked, and the loads that it leaves.
 -- Assumes nothing.
-use Rattle.ground.proofs.Kit.{ℕ, ◌≤◌, List, ◌≡◌, refl, sym, ◌∙◌, subst, arith, lt-ltb, le-ltb, ltb-false, Result, Ok, Err}
 use Rattle.std.specs.Result.{MatchResult, IsErrAnd}
+use Rattle.ground.proofs.Kit.{ℕ, ◌≤◌, List, ◌≡◌, refl, sym, ◌∙◌, subst, arith, lt-ltb, le-ltb, ltb-false, Result, Ok, Err}
 use Rattle.kinds.specs.declared.Task.{Task}
 use Rattle.kinds.specs.declared.Settings.{Settings}
 use Rattle.kinds.specs.declared.Refusal.{Refusal}
 use Rattle.kinds.specs.declared.Refusal.TheVariants.{BadRecord}
+use Rattle.kinds.specs.Limits.{most_processors}
 use Rattle.kinds.specs.Answer.{Verdict}
 use Rattle.share.specs.Table.{first_bad}
 use Rattle.springs.specs.Spring.{loads_on}
-use Rattle.springs.specs.Springs.{spring_in}
 use Rattle.springs.specs.declared.Springs.{Springs}
-use Rattle.springs.specs.Handover.{Loaded, TakenIn}
+use Rattle.springs.specs.Springs.{spring_in}
+use Rattle.springs.specs.Handover.{Loaded, Sprung, TakenIn}
 use Rattle.springs.proofs.Columns.{loads-are, taken-good, taken-bad}
 use Rattle.policy.specs.Under.{rows_under}
 use Rattle.admission.specs.Admission.{and_then, misset_numbers, gate, roomy, records_good}
@@ -52,48 +53,52 @@ admitted s rows n proposed room e =
     let a = then-admitted (gate_of s n proposed room) (records_good s.swap s.notch rows n) e in
     record { passed = gate-passed s n proposed room a.0; none-bad = ltb-false _ _ (unchecked _ _ _ a.1).0 }
 
--- a call that passed the gate is admitted where all its records are taken in, and the springs then have its loads once they are written
-module _ (s : Settings) (rows : List Task) (n proposed room : ℕ) where
-  pub refused-loaded : (r : Refusal) (k : ℕ) (springs : Springs) → gate_of s n proposed room ≡ Err r → AdmittedLoaded s rows n k proposed room (Err r) springs
+-- the loads of step k that are worked out from the springs of the records are the tasks'
+pub loads-held : (s : Settings) (rows : List Task) (n : ℕ) (springs : Springs) → s.m ≤ most_processors → Sprung (rows_under s rows n) n springs
+    → (k : ℕ) (new : Springs) → Loaded (loads_on s (spring_in springs) k) springs.n springs new → LoadsOf s rows n k new
+loads-held s rows n springs m-most sprung k new w =
+    record {
+      m-most = m-most;
+      count = w.beside.count ∙ sprung.count;
+      are = λ i l. w.are i (omega (arith, sprung.count)) ∙ loads-are (rows_under s rows n) n springs sprung s k i l;
+    }
+
+-- the walk over the records of a call that passed the gate: what it found is the admission's, and where that admits its springs are there
+module _ (s : Settings) (rows : List Task) (n proposed room : ℕ) (gate : Verdict) (g : gate ≡ gate_of s n proposed room) where
+  pub refused-loaded : (r : Refusal) (k : ℕ) (springs : Springs) → gate ≡ Err r → AdmittedLoaded s rows n k proposed room (Err r) springs
   unfolding admission
-  refused-loaded r k springs e = record { is = rw e; loads = λ o. not-admitted (Err r) refl o }
+  refused-loaded r k springs e = record { is = rw (← g, e); loads = λ o. not-admitted (Err r) refl o }
 
-  module _ (r : Result (Unit {0}) ℕ) (old now : Springs) (same : old.notch ≡ s.notch) (opens : gate_of s n proposed room ≡ (Ok tt))
-      (t : TakenIn s.swap rows n r old now) where
-    bad-loaded : (i : ℕ) → r ≡ Err i → (k : ℕ) → AdmittedLoaded s rows n k proposed room (Err (BadRecord i)) now
+  module _ (opens : gate ≡ (Ok tt)) (r : Result (Unit {0}) ℕ) (old now : Springs) (same : old.notch ≡ s.notch) (t : TakenIn s.swap rows n r old now)
+      (a : Verdict) (mapped : MatchResult r (λ x. a ≡ Ok x) (λ i. IsErrAnd a (λ y. y ≡ BadRecord i))) where
+    bad-loaded : (i : ℕ) → r ≡ Err i → (k : ℕ) (new : Springs) → AdmittedLoaded s rows n k proposed room (Err (BadRecord i)) new
     unfolding admission
-    bad-loaded i e k =
+    bad-loaded i e k new =
         let bad = taken-bad s.swap s.notch rows n r old now same t i e in
-        record { is = rw (opens, ← bad.0, lt-ltb i n bad.1); loads = λ o. not-admitted (Err (BadRecord i)) refl o }
+        record { is = rw (sym g ∙ opens, ← bad.0, lt-ltb i n bad.1); loads = λ o. not-admitted (Err (BadRecord i)) refl o }
 
-    well-loaded : r ≡ Ok tt → (k : ℕ) (new : Springs) → Loaded (loads_on s (spring_in now) k) now.n now new
-        → AdmittedLoaded s rows n k proposed room (Ok tt) new
-    unfolding admission
-    well-loaded e k new w =
-        let good = taken-good s.swap s.notch rows n r old now same t e in
-        let sprung = good.1 in
-        let fewer = (gate-passed s n proposed room opens).few in
-        record {
-          is = rw (opens, le-ltb (first_bad s.swap s.notch rows n) n good.0);
-          loads = λ _.
-              record {
-                m-most = fewer.m-most;
-                count = w.beside.count ∙ sprung.count;
-                are = λ i l. w.are i (omega (arith, sprung.count)) ∙ loads-are (rows_under s rows n) n now sprung s k i l;
-              };
-        }
+    pub err-loaded : (x : Refusal) → a ≡ Err x → (k : ℕ) (new : Springs) → AdmittedLoaded s rows n k proposed room (Err x) new
+    err-loaded x e k new =
+        by-record r a mapped
+        (λ all q. let z = sym q ∙ e in absurd cc)
+        (λ i bad q. subst (λ (v : Verdict). AdmittedLoaded s rows n k proposed room v new) (sym q ∙ e) (bad-loaded i bad k new))
 
-    -- by what the walk's error is told as
-    module _ (a : Verdict) (told : MatchResult r (λ x. a ≡ Ok x) (λ i. IsErrAnd a (λ y. y ≡ BadRecord i))) where
-      pub walk-refused : (x : Refusal) → a ≡ Err x → (k : ℕ) → AdmittedLoaded s rows n k proposed room (Err x) now
-      walk-refused x h k =
-          by-record r a told
-          (λ e q. not-admitted a h q)
-          (λ i e q. subst (λ (v : Verdict). AdmittedLoaded s rows n k proposed room v now) (sym q ∙ h) (bad-loaded i e k))
+    module _ (e : a ≡ (Ok tt)) where
+      all-taken : r ≡ Ok tt
+      all-taken = by-record r a mapped (λ all q. all) (λ i bad q. let z = sym q ∙ e in absurd cc)
 
-      pub walk-admitted : a ≡ Ok tt → (k : ℕ) (new : Springs) → Loaded (loads_on s (spring_in now) k) now.n now new
+      good : (n ≤ first_bad s.swap s.notch rows n) × Sprung (rows_under s rows n) n now
+      good = taken-good s.swap s.notch rows n r old now same t all-taken
+
+      pub well-loaded : (k : ℕ) (new : Springs) → Loaded (loads_on s (spring_in now) k) now.n now new
           → AdmittedLoaded s rows n k proposed room (Ok tt) new
-      walk-admitted h k new w = by-record r a told (λ e q. well-loaded e k new w) (λ i e q. not-admitted a q h)
+      unfolding admission
+      well-loaded k new w =
+          let passed = gate-passed s n proposed room (sym g ∙ opens) in
+          record {
+            is = rw (sym g ∙ opens, le-ltb (first_bad s.swap s.notch rows n) n good.0);
+            loads = λ _. loads-held s rows n now passed.few.m-most good.1 k new w;
+          }
 
 -- an admitted call: its counts are checked, and the springs have its loads
 pub record Checked (s : Settings) (rows : List Task) (n k proposed room : ℕ) (springs : Springs) : Type 0 where

@@ -23,9 +23,9 @@ use Rattle.policy.specs.Under.{loads_under}
 use Rattle.policy.proofs.Under.{loads-same}
 use Rattle.admission.specs.Admission.{misset_numbers, gate}
 use Rattle.admission.proofs.Chain.{gate-opens, then-admitted}
+use Rattle.springs.specs.declared.Springs.{Springs}
 use Rattle.proposal.specs.Loads.{processor_load, loads_to, is_out_of_range, first_out_of_range, is_overfull, before_overfull, Sound}
 use Rattle.proposal.specs.Proposal.{place_in, gate_of, admission, placing, proposal_verdict, Outcome, outcome, Meets}
-use Rattle.springs.specs.declared.Springs.{Springs}
 use Rattle.proposal.specs.Handover.{LoadsOf, Loadable, LoadsAre}
 use Rattle.proposal.proofs.Loading.{load_same, overfull-is, front-is}
 use Rattle.proposal.proofs.Adding.{loads-add-up}
@@ -36,13 +36,13 @@ use Rattle.proposal.proofs.Admitting.{gate-passed}
 pub may_load : (s : Settings) (rows : List Task) (n k : ℕ) (springs : Springs) (proposal : List ℕ) → LoadsOf s rows n k springs → n ≤ length proposal
     → n ≤ first_out_of_range s.m (place_in proposal) n → Loadable springs.n proposal
 may_load s rows n k springs proposal w long h =
-    rw w.count (record {
-      long = long;
+    record {
+      long = omega (arith, w.count);
       each =
           λ i l.
-          let range = all-in-range (place_in proposal) (place_in proposal) n s.m h i l in
+          let range = all-in-range (place_in proposal) (place_in proposal) n s.m h i (omega (arith, w.count)) in
           record { some = range.some; most = omega (arith, range.most, w.m-most) };
-    })
+    }
 
 -- and once it is, what was worked out for every processor that there can be counts for the first m
 pub record Counted (s : Settings) (rows : List Task) (n k : ℕ) (proposal held : List ℕ) : Type 0 where
@@ -52,8 +52,8 @@ pub record Counted (s : Settings) (rows : List Task) (n k : ℕ) (proposal held 
 
 pub counted : (s : Settings) (rows : List Task) (n k : ℕ) (springs : Springs) (proposal held : List ℕ) → LoadsOf s rows n k springs
     → LoadsAre (load_in springs.loads) (place_in proposal) springs.n held → Counted s rows n k proposal held
-counted s rows n k springs proposal held w a =
-    let are : LoadsAre (load_in springs.loads) (place_in proposal) n held = rw w.count at a in
+counted s rows n k springs proposal held w loaded =
+    let are = subst (λ (x : ℕ). LoadsAre (load_in springs.loads) (place_in proposal) x held) w.count loaded in
     let long : s.m ≤ length held = omega (arith, w.m-most, are.long) in
     record {
       long = long;

@@ -12,7 +12,7 @@ use Rattle.policy.specs.Under.{loads_under}
 use Rattle.proposal.specs.Loads.{processor_load, InRange}
 use Rattle.proposal.specs.Proposal.{place_in, admission}
 
--- what the admission has checked of the processors, and springs that have the loads of the tasks at step k
+-- what the admission has checked of the counts, and springs that have the loads of the tasks at step k
 pub record LoadsOf (s : Settings) (rows : List Task) (n k : ℕ) (springs : Springs) : Type 0 where
   pub m-most : s.m ≤ most_processors
   pub count : springs.n ≡ n

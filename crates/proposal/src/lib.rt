@@ -21,7 +21,7 @@ fn gate_of(settings: Settings, n: usize, proposed: usize, room: usize) -> Result
     admission::roomy(usize::from(settings.m), room)
 }
 
-// Refusals 2 to 6. Where none is given, the springs of the table are taken in, with their loads at the step.
+// Refusals 2 to 6. Where none is given, the springs have the loads of the tasks at the step.
 pub fn admit(
     table: Table,
     settings: Settings,

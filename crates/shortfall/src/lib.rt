@@ -4,10 +4,10 @@
 
 ghost use Rattle.std.specs.Prelude.{◌≤◌};
 ghost use Rattle.kinds.specs.Limits.{most_processors};
-ghost use Rattle.fit.specs.Handover.{Loads};
 
 use kinds::{Policy, Refusal, Settings, Share, Table};
-use springs::Columns;
+use policy::{Total, Weights};
+use springs::Springs;
 use std::fmt;
 use task_names::Names;
 use text::{Apart, Page, Percent};
@@ -44,11 +44,11 @@ impl fmt::Display for Sides {
     }
 }
 
-// Those of n loads on m processors.
-fn sides_of(policy: Policy, m: u16, block: &[u32; Columns::ROOM], n: usize) -> Sides
-    requires { Loads block.now n × (m ≤ most_processors) }
+// Those of the loads on m processors.
+fn sides_of(policy: Policy, m: u16, springs: &Springs) -> Sides
+    requires { m ≤ most_processors }
 {
-    let trial = fit::first_fit(block, n, m as usize);
+    let trial = fit::first_fit(&springs.loads, springs.n, usize::from(m));
     let processors = trial.processors;
     if m == 0 {
         return Sides {
@@ -56,10 +56,10 @@ fn sides_of(policy: Policy, m: u16, block: &[u32; Columns::ROOM], n: usize) -> S
             ..Sides::NONE
         };
     }
-    let weights = policy::weights_of(policy, m, n);
-    let total = policy::total_of(block, n);
+    let weights = Weights::of(policy, m, springs.n);
+    let total = Total::of(springs);
     Sides {
-        asked: policy::left_of(weights, total.sum, total.max),
+        asked: weights.left(total.sum, total.max),
         there: weights.r,
         processors,
     }
@@ -67,12 +67,11 @@ fn sides_of(policy: Policy, m: u16, block: &[u32; Columns::ROOM], n: usize) -> S
 
 // Those of a table under its settings at a step, or why there are none.
 fn sides_at(table: Table, settings: Settings, step: u32) -> Result<Sides, Refusal> {
-    let n = table.n;
     let m = settings.m;
     let policy = settings.policy;
-    let mut block = [0u32; Columns::ROOM];
-    proposal::admit(table, settings, step, n, m as usize, &mut block)?;
-    Ok(sides_of(policy.meant(), m, &block, n))
+    let mut springs = Springs::new(settings.notch);
+    proposal::admit(table, settings, step, table.n, usize::from(m), &mut springs)?;
+    Ok(sides_of(policy.meant(), m, &springs))
 }
 
 // By how much a table does not fit: the first task without a processor under first fit, and otherwise both sides of the test.
