@@ -4,10 +4,10 @@
 
 ghost use Rattle.std.specs.Prelude.{◌≤◌};
 ghost use Rattle.kinds.specs.Limits.{most_processors};
-ghost use Rattle.fit.specs.Handover.{Loads};
 
 use kinds::{Policy, Settings, Share, Table};
-use springs::Columns;
+use policy::{Total, Weights};
+use springs::Springs;
 use task_names::ROOM;
 
 // What would help is told of one processor more, and then of each task fewer.
@@ -26,46 +26,41 @@ struct Sides {
     processors: [u16; Table::MOST_TASKS],
 }
 
-// Those of n loads on m processors.
-fn sides_of(policy: Policy, m: u16, block: &[u32; Columns::ROOM], n: usize) -> Sides
-    requires { Loads block.now n × (m ≤ most_processors) }
+// Those of loads on m processors.
+fn sides_of(policy: Policy, m: u16, springs: &Springs) -> Sides
+    requires { m ≤ most_processors }
 {
-    let trial = fit::first_fit(block, n, m as usize);
+    let trial = fit::first_fit(&springs.loads, springs.n, usize::from(m));
     let processors = trial.processors;
     if m == 0 {
-        let asked = 0;
-        let there = 0;
         return Sides {
-            asked,
-            there,
+            asked: 0,
+            there: 0,
             processors,
         };
     }
-    let weights = policy::weights_of(policy, m, n);
-    let total = policy::total_of(block, n);
+    let w = Weights::of(policy, m, springs.n);
+    let total = Total::of(springs);
     Sides {
-        asked: policy::left_of(weights, total.sum, total.max),
-        there: weights.r,
+        asked: w.left(total.sum, total.max),
+        there: w.r,
         processors,
     }
 }
 
 // Those of a table under its settings at a step; zeros where refusals 2, 3 and 6 come first.
 fn sides_at(table: Table, settings: Settings, step: u32) -> Sides {
-    let n = table.n;
     let m = settings.m;
     let policy = settings.policy;
-    let mut block = [0u32; Columns::ROOM];
-    let admission = proposal::admit(table, settings, step, n, m as usize, &mut block);
-    let Ok(()) = admission else {
-        let processors = [0u16; Table::MOST_TASKS];
+    let mut springs = Springs::new(settings.notch);
+    let Ok(()) = proposal::admit(table, settings, step, table.n, usize::from(m), &mut springs) else {
         return Sides {
             asked: 0,
             there: 0,
-            processors,
+            processors: [0u16; Table::MOST_TASKS],
         };
     };
-    sides_of(policy.meant(), m, &block, n)
+    sides_of(policy.meant(), m, &springs)
 }
 
 // The first task that has no processor.
