@@ -3,7 +3,7 @@
 #![tactic(auto)]
 
 ghost use Rattle.std.specs.Prelude.{◌≡◌};
-ghost use Rattle.admission.specs.Admission.{and_then, knows, misset, no_edition, misset_numbers, unsuited, misset_under};
+ghost use Rattle.admission.specs.Admission.{knows, misset, no_edition, misset_numbers, unsuited, misset_under};
 ghost use Rattle.admission.specs.Admission.{gate, served, roomy, gate_of};
 ghost use Rattle.admission.specs.Handover.{AdmittedSprung};
 ghost use Rattle.springs.specs.Handover.{Empty};
@@ -90,14 +90,6 @@ fn served(policy: Policy, serves: bool) -> Result<(), Refusal>
         return Err(Refusal::PolicyNotServed);
     }
     Ok(())
-}
-
-// A verdict that comes first, else the rest.
-pub fn and_then(first: Result<(), Refusal>, rest: Result<(), Refusal>) -> Result<(), Refusal>
-    ensures { result ≡ and_then first rest }
-{
-    first?;
-    rest
 }
 
 // Refusals 1 to 5 of a call on n tasks that serves policy 4, or does not.
