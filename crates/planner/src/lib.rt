@@ -8,16 +8,16 @@ ghost use Rattle.fit.specs.Handover.{Loads};
 ghost use Rattle.planner.specs.Handover.{WithRoom};
 
 use kinds::{Settings, Share, Table};
-use springs::Columns;
+use springs::Springs;
 
-// The heaviest of n tasks, the first where several are as heavy. Loads stand first in a block.
-fn heaviest(block: &[u32; Columns::ROOM], n: usize) -> usize
+// The heaviest of n tasks, the first where several are as heavy.
+fn heaviest(loads: &[u32; Table::MOST_TASKS], n: usize) -> usize
     requires { (1 ≤ n) × (n ≤ most_tasks) }
     ensures { result < n }
 {
     let mut found = 0;
     for i in 1..n {
-        if block[found] < block[i] {
+        if loads[found] < loads[i] {
             found = i;
         }
     }
@@ -43,21 +43,21 @@ fn fullest(held: &[u32; Settings::MOST_PROCESSORS as usize], load: u32, m: usize
     found
 }
 
-// Best fit in the order of falling load: each task goes to the fullest processor that has room for it, and has then no load left in the block.
-// The first task that fits nowhere ends the trial; it and those after it get 0.
-fn best_fit(block: &mut [u32; Columns::ROOM], n: usize, m: usize) -> [u16; Table::MOST_TASKS]
-    requires { Loads block.old n × (m ≤ most_processors) }
+// Best fit in the order of falling load: each task goes to the fullest processor that has room for it, and has then no load left. The
+// first task that fits nowhere ends the trial; it and those after it get 0.
+fn best_fit(mut loads: [u32; Table::MOST_TASKS], n: usize, m: usize) -> [u16; Table::MOST_TASKS]
+    requires { Loads loads n × (m ≤ most_processors) }
 {
     let mut held = [0u32; Settings::MOST_PROCESSORS as usize];
     let mut processors = [0u16; Table::MOST_TASKS];
     for _ in 0..n {
-        let i = heaviest(block, n);
-        let load = block[i];
+        let i = heaviest(&loads, n);
+        let load = loads[i];
         let Some(j) = fullest(&held, load, m) else {
             return processors;
         };
         held[j] += load;
-        block[i] = 0;
+        loads[i] = 0;
         processors[i] = (j + 1) as u16;
     }
     processors
@@ -68,13 +68,13 @@ fn best_fit(block: &mut [u32; Columns::ROOM], n: usize, m: usize) -> [u16; Table
 pub fn propose(table: Table, settings: Settings, step: u32) -> [u16; Table::MOST_TASKS] {
     let n = table.n;
     let m = usize::from(settings.m);
-    let mut block = [0u32; Columns::ROOM];
-    let Ok(()) = proposal::admit(table, settings, step, n, m, &mut block) else {
+    let mut springs = Springs::new(settings.notch);
+    let Ok(()) = proposal::admit(table, settings, step, n, m, &mut springs) else {
         return [0u16; Table::MOST_TASKS];
     };
-    let trial = fit::first_fit(&block, n, m);
+    let trial = fit::first_fit(&springs.loads, springs.n, m);
     if trial.placed {
         return trial.processors;
     }
-    best_fit(&mut block, n, m)
+    best_fit(springs.loads, springs.n, m)
 }

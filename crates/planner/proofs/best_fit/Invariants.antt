@@ -3,4 +3,4 @@ use Rattle.fit.specs.Handover.{Loads}
 use Rattle.planner.proofs.best_fit.Given as goal
 
 abbrev pub invariant-loop : goal.invariant-loop
-invariant-loop l = Loads l.block l.n
+invariant-loop l = Loads l.loads l.n
