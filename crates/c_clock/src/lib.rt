@@ -1,4 +1,5 @@
-// The release clock in numbers: the clock table crosses by value, both ways. Contracts cite `specs/Clocked`.
+// The release clock in numbers, since an enum does not cross to C: the clock table crosses by value, both ways. Contracts cite
+// `specs/Clocked`.
 #![tactic(auto)]
 
 ghost use Rattle.std.specs.Prelude.{◌≡◌};

@@ -1,4 +1,5 @@
-// Joins and leaves in numbers: the table and the index beside it cross by value, both ways. Contracts cite `specs/Kept`.
+// Joins and leaves in numbers, since an enum does not cross to C: the table and the index beside it cross by value, both ways. Contracts cite
+// `specs/Kept`.
 #![tactic(auto)]
 
 ghost use Rattle.std.specs.Prelude.{◌≡◌};

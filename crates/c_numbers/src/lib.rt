@@ -1,4 +1,5 @@
-// What the calls of several rooms tell: settings, verdicts and counts in numbers. Contracts cite `specs/Numbers`.
+// What the calls of several rooms tell: settings, verdicts and counts in numbers, since an enum does not cross to C. Contracts cite
+// `specs/Numbers`.
 #![tactic(auto)]
 
 ghost use Rattle.std.specs.Prelude.{◌≡◌};

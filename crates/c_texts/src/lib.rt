@@ -6,7 +6,8 @@ ghost use Rattle.c_texts.specs.Texts.{ToldReads, ToldExports};
 use c_numbers::ToldCount;
 use kinds::Table;
 
-// What an import by value tells, with the table; a refused one has the table of no tasks.
+// What an import by value tells, with the table; a refused one has the table of no tasks, as both go on to C: the numbers, and the rows to a
+// lent slice.
 #[derive(Clone, Copy)]
 pub struct ToldImport {
     pub told: ToldCount,

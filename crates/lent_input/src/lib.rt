@@ -26,7 +26,8 @@ pub fn read_full<R: Read>(from: &mut R, into: &mut [u8]) -> io::Result<usize>
     Ok(done)
 }
 
-// Puts the word of a number on the command line, and answers its length; 0 where there is none, or no room for it.
+// Puts the word of a number on the command line, and answers its length; 0 where there is none, or no room for it, as the programs take a
+// word that is missing for an empty one.
 pub fn word<E: Env>(given: &E, i: usize, into: &mut [u8]) -> usize
     ensures within { (result ≤ length into.new) × (result ≡ length (take result into.new)) }
 {
