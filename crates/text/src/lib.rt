@@ -121,6 +121,26 @@ impl fmt::Display for Percent {
     }
 }
 
+// How far a period lies from Tmin to Tmax, in per cent, rounded down, in a column of its own; one that cannot be stretched is `fixed`.
+#[derive(Clone, Copy)]
+pub struct Stretch {
+    pub period: u32,
+    pub tmin: u32,
+    pub tmax: u32,
+    pub e: u32,
+}
+
+impl fmt::Display for Stretch {
+    fn fmt<W: fmt::Write>(&self, f: &mut fmt::Formatter<W>) -> fmt::Result {
+        let range = self.tmax.saturating_sub(self.tmin);
+        if self.e == 0 || range == 0 {
+            return write!(f, "   fixed");
+        }
+        let above = u64::from(self.period.saturating_sub(self.tmin));
+        write!(f, " {:6}%", above * 100 / u64::from(range))
+    }
+}
+
 // A gauge between brackets: no cell is full where the value is 0, all are where it is the most, and otherwise at least one is and not all.
 #[derive(Clone, Copy)]
 pub struct Gauge {
