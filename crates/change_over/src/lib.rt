@@ -50,9 +50,8 @@ pub fn part_of(standing: &[u8], proposed: &[u8]) -> Part
     if let Some((settings, n)) = section_of(standing) {
         return tasks_of(Which::Standing, settings, n);
     }
-    let which = Which::Standing;
     Part {
-        which,
+        which: Which::Standing,
         from: 0,
         size: 0,
     }
@@ -63,10 +62,8 @@ pub fn change_over<'a>(standing: &'a [u8], proposed: &'a [u8]) -> &'a [u8]
     ensures { IsPart (change_over standing.now proposed.now)
         standing.now proposed.now standing.entry.ref_ptr proposed.entry.ref_ptr result.now result.ref_ptr }
 {
-    let part = part_of(standing, proposed);
-    let from = part.from;
-    let end = from + part.size;
-    let which = part.which;
+    let Part { which, from, size } = part_of(standing, proposed);
+    let end = from + size;
     match which {
         Which::Standing => &standing[from..end],
         Which::Proposed => &proposed[from..end],

@@ -50,6 +50,7 @@ pub fn storable(x: Sheet)
 }
 
 // Writes a station sheet into a lent buffer.
+#[tactic(auto, unfolding(crate::specs::Writing::write_sheet, crate::specs::Writing::after_write))]
 pub fn write(x: Sheet, out: &mut [u8]) -> Result<usize, Refusal>
     ensures { Writes x out.old result out.new }
 {
