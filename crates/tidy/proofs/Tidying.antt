@@ -3,6 +3,7 @@
 use Rattle.ground.proofs.Kit.{ℕ, ◌+◌, ◌≤◌, ◌<◌, true, false, List, [], ◌++◌, ◌≡◌, refl, sym, ◌∙◌, ap, subst, arith, length, take, drop, length-append, Ok, Err}
 use Rattle.ground.proofs.Kit.{eq-eqb, ne_eqb, eqb-true}
 use lib.Seq.{take_at}
+use Rattle.std.specs.Result.{result_or}
 use Rattle.ground.proofs.Cases.{by_bool, true-false}
 use Rattle.kinds.specs.declared.Refusal.{Refusal}
 use Rattle.kinds.specs.Limits.{most_tasks}
@@ -12,9 +13,10 @@ use Rattle.kinds.proofs.Refusals.{refusal-numbered}
 use Rattle.kinds.proofs.Answers.{not-refused, count-one}
 use Rattle.field.specs.Handover.{Put}
 use Rattle.field.proofs.Stores.{stored-front}
+use Rattle.office.specs.declared.Imported.{Imported}
 use Rattle.office.specs.Text.{longest_text}
 use Rattle.office.specs.Reading.{Reading, read_text, rows_of}
-use Rattle.office.specs.Carrying.{after_carry}
+use Rattle.office.specs.Carrying.{after_carry, Reads}
 use Rattle.office.proofs.Answers.{after-refused, import-not}
 use Rattle.office.proofs.Longest.{taken-most}
 use Rattle.tidy.specs.Tidied.{strict, is_taken, handed_on, tidy_handed, longest_loose, Tidies}
@@ -22,6 +24,11 @@ use Rattle.tidy.specs.Handover.{only_taken, HandsOn}
 
 -- ---- what the strict import takes
 module _ (s : List ℕ) where
+  -- its answer is that of an import by value
+  pub strict-answers : (i : Imported) → Reads s most_tasks i → handed_count i.answer ≡ strict s
+  unfolding strict
+  strict-answers i reads = reads.answer
+
   taken-by : (n : ℕ) → strict s ≡ accepted n → is_taken s ≡ true
   taken-by n e = rw e
 
@@ -149,16 +156,23 @@ module _ (text old : List ℕ) where
     tidies-none = refused-with text (λ l. refl) (untaken-by text q not)
 
     module _ (short : length text ≤ longest_loose) (candidate : List ℕ) (r : Counted) (new : List ℕ) (h : HandsOn candidate old r new) where
-      pub tidies-candidate : (n : ℕ) → r ≡ Ok n → Tidies text old r new
+      tidies-candidate : (n : ℕ) → r ≡ Ok n → Tidies text old r new
       tidies-candidate n e =
           let was = was-taken candidate old r new h n e in
           tidies-on text candidate old (accepted (length candidate)) candidate
           (on-candidate text candidate (untaken-by text q not) was.taken) (λ l. absurd (omega arith)) r new was.counted was.written
 
-      pub tidies-refused : (p : Refusal) → r ≡ Err p → Tidies text old (Err q) new
+      tidies-refused : (p : Refusal) → r ≡ Err p → Tidies text old (Err q) new
       tidies-refused p e =
           let was = was-refused candidate old r new h p e in
           rw was.1 (refused-with candidate (λ l. absurd (omega arith)) (untaken-by candidate p was.0))
+
+      pub tidies-or : (a : Counted) → a ≡ result_or r (Err q) → Tidies text old a new
+      tidies-or a e = by r refl e
+        where
+          by : (b : Counted) → r ≡ b → a ≡ result_or r (Err q) → Tidies text old a new
+          by (Ok n) x e = rw (e ∙ (ap (λ (z : Counted). result_or z (Err q)) x ∙ sym x)) (tidies-candidate n x)
+          by (Err p) x e = rw (e ∙ ap (λ (z : Counted). result_or z (Err q)) x) (tidies-refused p x)
 
   -- a text of which nothing was written at first
   pub tidies-after : (mid : List ℕ) → mid ≡ old → (r : Counted) (new : List ℕ) → Tidies text mid r new → Tidies text old r new

@@ -4,31 +4,21 @@
 #![tactic(auto)]
 
 ghost use Rattle.std.specs.Prelude.{◌≡◌};
-ghost use Rattle.kinds.specs.Answer.{handed_count, refused};
+ghost use Rattle.kinds.specs.Answer.{refused};
 ghost use Rattle.tidy.specs.Tidied.{strict, Tidies};
 ghost use Rattle.tidy.specs.Handover.{HandsOn};
 
 use kinds::{Refusal, Table};
+use loosen::Loosened;
 
 // How many bytes a text may have that is not the strict import's.
 pub const LONGEST: usize = loosen::LONGEST;
-
-// What the strict import says of a text.
-fn asked(text: &[u8]) -> Result<usize, Refusal>
-    ensures { handed_count result ≡ strict text.now }
-{
-    let imported = office::import(text, Table::MOST_TASKS);
-    imported.answer
-}
 
 // Writes a text that the strict import takes, and nothing of another.
 fn hand_on(text: &[u8], out: &mut [u8; office::LONGEST]) -> Result<usize, Refusal>
     ensures { HandsOn text.now out.old result out.new }
 {
-    let answer = asked(text);
-    if let Err(refusal) = answer {
-        return Err(refusal);
-    }
+    office::read(text, Table::MOST_TASKS)?;
     Ok(refusal_line::put_bytes(out, 0, text))
 }
 
@@ -45,24 +35,19 @@ fn hand_on_candidate(
         return Err(refusal);
     }
     let mut candidate = [0u8; office::LONGEST];
-    let Some(found) = loosen::loosen(text, &mut candidate) else {
+    let Loosened::Text(found) = loosen::loosen(text, &mut candidate) else {
         return Err(refusal);
     };
     let n = found.min(office::LONGEST);
-    let handed = hand_on(&candidate[..n], out);
-    let Ok(_) = handed else {
-        return Err(refusal);
-    };
-    handed
+    hand_on(&candidate[..n], out).or(Err(refusal))
 }
 
 // Writes the text that is handed on; a refused call, with the strict import's refusal of the text, writes nothing.
 pub fn tidied(text: &[u8], out: &mut [u8; office::LONGEST]) -> Result<usize, Refusal>
     ensures { Tidies text.now out.old result out.new }
 {
-    let through = hand_on(text, out);
-    if let Err(refusal) = through {
-        return hand_on_candidate(text, refusal, out);
+    match hand_on(text, out) {
+        Ok(k) => Ok(k),
+        Err(refusal) => hand_on_candidate(text, refusal, out),
     }
-    through
 }
