@@ -16,8 +16,9 @@ ghost use Rattle.reason.specs.WideReason.{wide_reason_of, wide_reason_number};
 ghost use Rattle.c_numbers.specs.Numbers.{station_settings};
 ghost use Rattle.c_tables.specs.Told.{told_handed, told_margin, ToldMeets, ToldLooked, ToldProposal, ToldRelieved};
 
-use c_numbers::{Station, ToldVerdict, settings_of, tell_verdict};
+use c_numbers::{Station, ToldVerdict};
 use kinds::{Refusal, Table, Task};
+use relief::Relief;
 use wide_task::{WideTable, WideTask};
 
 // Number, step, looks and place. A refusal's step is 0; the plain finder makes no looks.
@@ -109,9 +110,9 @@ pub fn margin_told(table: Table, station: Station, step: u32) -> ToldMargin
 pub fn relief_told(table: Table, station: Station, without: &mut [u32]) -> ToldRelief
     ensures { ToldRelieved (relieved (station_settings station) table.rows table.n without.old) result without.new }
 {
-    let relief = relief::relief_of(table, settings_of(station), without);
-    let verdict = relief.verdict;
-    let told = tell_verdict(verdict);
+    let answer = relief::relief_of(table, station.into(), without);
+    let told = ToldVerdict::from(answer);
+    let relief = answer.unwrap_or(Relief::NONE);
     ToldRelief {
         number: told.number,
         least: relief.least,

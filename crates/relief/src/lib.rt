@@ -18,6 +18,11 @@ pub struct Relief {
     pub more: u32,
 }
 
+impl Relief {
+    // What stands for it where a call is refused.
+    pub const NONE: Relief = Relief { least: 0, more: 0 };
+}
+
 // What the plain finder answers for an output with so much room, by the quick finder's search wherever that serves the policy.
 fn decide(table: Table, settings: Settings, room: usize) -> Result<u32, Refusal>
     ensures { handed result ≡ found true settings table.rows table.n room }

@@ -7,6 +7,7 @@ ghost use Rattle.kinds.specs.Limits.{most_processors};
 
 use kinds::{Policy, Refusal, Settings, Share, Table};
 use policy::{Total, Weights};
+use relief::Relief;
 use springs::Springs;
 use std::fmt;
 use task_names::Names;
@@ -139,7 +140,8 @@ fn put_helps(page: &mut Page, mut helps: [Option<u32>; HELPS], names: &Names) {
 // What alone would make a table fit.
 fn put_relief(page: &mut Page, table: Table, settings: Settings, names: &Names) {
     let mut without = [0u32; Table::MOST_TASKS];
-    let relief = relief::relief_of(table, settings, &mut without);
+    let answer = relief::relief_of(table, settings, &mut without);
+    let relief = answer.unwrap_or(Relief::NONE);
     let helps = helps_of(relief.more, &without);
     if helps.iter().all(|help| help.is_none()) {
         writeln!(
