@@ -15,7 +15,7 @@ use kinds::{Refusal, Results, Sheet, Table};
 fn first_unlike(results: Results, due: Results, n: usize) -> Option<usize>
     ensures { result ≡ first_unlike results.rows due.rows n }
 {
-    // By index: no lemma of the kit says what `position` finds in a `zip` of two slices.
+    // By index, since the index is the answer and reads both arrays: `zip`, `take` and `position` would say it no plainer.
     for i in 0..n.min(Table::MOST_TASKS) {
         if results.rows[i] != due.rows[i] {
             return Some(i);
