@@ -20,8 +20,9 @@ use Rattle.sheet.proofs.Whole.{whole, few-settings}
 use Rattle.sheet.proofs.Numbered.{accepted-by-number}
 use Rattle.change_over.specs.ChangeOver.{acceptable, section_of}
 
--- a sheet that does not read
+-- by what the reader hands back
 module _ (s : List ℕ) (r : Reading) (read : handed_reading r ≡ read_sheet s) where
+  -- a sheet that does not read
   pub unread : (x : Result Sheet Refusal) → IfErr x (λ q. r.verdict ≡ Err q) → None ≡ result_ok x → None ≡ section_of s
   unfolding section_of acceptable
   unread (Ok y) v e = absurd (none-some y e)

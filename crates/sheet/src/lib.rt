@@ -1,5 +1,5 @@
-// Reading a station sheet: fields, rows and sections on a slice and a place, and above them the `Reader`, which holds both. Callers use
-// `read`. Contracts cite `specs/Sections`, `specs/Rows`, `specs/Reading` and `specs/Handover`.
+// Reading a station sheet: its sections on a slice and a place, by the rows of `row`, and above them the `Reader`, which holds both. Callers
+// use `read`. Contracts cite `specs/Sections`, `specs/Reading` and `specs/Handover`.
 #![tactic(auto)]
 
 ghost use Rattle.std.specs.Prelude.{◌≡◌, ◌≤◌, IfOk, IfErr, Ok, Err, length};
