@@ -130,6 +130,7 @@ impl Stretch {
         ensures { result ≡ need_to self.w (spring_in springs.now) self.p self.sum self.fall springs.now.n }
     {
         let mut hardest = self.line(0, 0).need();
+        // Over the numbers: a spring stands in six columns.
         for i in 0..springs.n {
             hardest = self.line_of(springs.spring(i)).harder(hardest);
         }
@@ -153,6 +154,7 @@ fn slope_sum(springs: &Springs, p: u32) -> u64
     ensures { FallIs (spring_in springs.now) springs.now.n p result }
 {
     let mut fall: u64 = 0;
+    // Over the numbers: a spring stands in six columns.
     for i in 0..springs.n {
         fall += u64::from(slope_of(springs.spring(i), p));
     }

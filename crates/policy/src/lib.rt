@@ -49,6 +49,7 @@ impl Total {
     {
         let mut sum: u32 = 0;
         let mut max: u32 = 0;
+        // Over the numbers: a spring stands in six columns.
         for i in 0..springs.n {
             let share = springs.spring(i).share(k);
             sum += share;
@@ -61,7 +62,8 @@ impl Total {
     }
 }
 
-// The test of a policy that is weighed is sum + b · max ≤ r.
+// The test of a policy that is weighed is sum + b · max ≤ r. That they are small (`Light`) is no ghost field: `weights_of` of `specs/Sides` gives
+// weights for any m and n.
 #[derive(Clone, Copy)]
 pub struct Weights {
     pub b: u64,

@@ -176,6 +176,7 @@ impl Springs {
         ensures { Summed (shares_on (spring_in self.old) k) self.old self.new result }
     {
         let mut sum: u32 = 0;
+        // Over the numbers: a task's own stand in several columns, and its load is written to another.
         for i in 0..self.n {
             let share = self.spring(i).share(k);
             self.loads[i] = share;
@@ -190,6 +191,7 @@ impl Springs {
             self.old self.new result }
     {
         let mut sum: u32 = 0;
+        // Over the numbers: a task's own stand in several columns, and its load is written to another.
         for i in 0..self.n {
             let share = self.least[i].max(self.loads[i].saturating_sub(self.elasticity[i]));
             self.loads[i] = share;
@@ -203,6 +205,7 @@ impl Springs {
         ensures { Summed (charges_on self.old.notch (spring_in self.old) k) self.old self.new result }
     {
         let mut sum: u32 = 0;
+        // Over the numbers: a task's own stand in several columns, and its load is written to another.
         for i in 0..self.n {
             let charge = self.spring(i).charge(self.notch, k);
             self.loads[i] = charge;
