@@ -5,7 +5,7 @@ use kinds::{Refusal, Settings, Table};
 use refusal_words::{Line, WideBecause};
 use std::fmt;
 use task_names::Names;
-use text::{Apart, Page};
+use text::{Apart, Page, Stretch};
 use wide_task::{WideTable, WideTask};
 
 // Room for every plan: two lines for each of 32 jobs, and four besides.
@@ -14,22 +14,16 @@ pub(crate) const LONGEST: usize = 6_000;
 // How many columns of a line are left for the record of a job, behind what is granted it.
 const RECORD: usize = 30;
 
-// How far a period is stretched between the shortest and the longest, in per cent; none that cannot be stretched is.
-fn stretch(job: WideTask, period: u32) -> Option<u64> {
-    if job.tmax <= job.tmin || job.e == 0 {
-        return None;
-    }
-    let above = u64::from(period.saturating_sub(job.tmin));
-    Some(above * 100 / u64::from(job.tmax - job.tmin))
-}
-
 // Puts the period of a job, its cores and how far it is stretched.
 fn put_granted(page: &mut Page, job: WideTask, period: u32, cores: u16) {
-    write!(page, " {:13} {cores:5}", Apart(u64::from(period)));
-    match stretch(job, period) {
-        Some(percent) => write!(page, "    {percent:3}%  "),
-        None => write!(page, "   fixed  "),
-    }
+    let stretch = Stretch {
+        period,
+        shortest: job.tmin,
+        longest: job.tmax,
+        elasticity: job.e,
+    };
+    let period = Apart(u64::from(period));
+    write!(page, " {period:13} {cores:5} {stretch:7}  ");
 }
 
 // The record of a job, as a text has it.

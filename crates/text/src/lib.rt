@@ -121,6 +121,28 @@ impl fmt::Display for Percent {
     }
 }
 
+// How far a period is stretched from the shortest to the longest, in per cent, rounded down, at the right of a column; `fixed` where it cannot be.
+#[derive(Clone, Copy)]
+pub struct Stretch {
+    pub period: u32,
+    pub shortest: u32,
+    pub longest: u32,
+    pub elasticity: u32,
+}
+
+impl fmt::Display for Stretch {
+    fn fmt<W: fmt::Write>(&self, f: &mut fmt::Formatter<W>) -> fmt::Result {
+        let width = f.width().unwrap_or(0);
+        if self.elasticity == 0 || self.longest <= self.shortest {
+            return write!(f, "{:>width$}", "fixed");
+        }
+        let above = u64::from(self.period.saturating_sub(self.shortest));
+        let percent = above * 100 / u64::from(self.longest - self.shortest);
+        let width = width.saturating_sub(1);
+        write!(f, "{percent:width$}%")
+    }
+}
+
 // A gauge between brackets: no cell is full where the value is 0, all are where it is the most, and otherwise at least one is and not all.
 #[derive(Clone, Copy)]
 pub struct Gauge {

@@ -5,7 +5,7 @@
 use kinds::{Granted, Policy, Settings, Sheet, Table, Task};
 use std::fmt;
 use task_names::Names;
-use text::{Apart, Page, Percent};
+use text::{Apart, Page, Percent, Stretch};
 
 // The numbers that columns of their own hold: the period, C, Tmin, Tmax and E.
 const NUMBERS: usize = 5;
@@ -78,14 +78,13 @@ impl Row {
         [self.granted.period, task.c, task.tmin, task.tmax, task.e]
     }
 
-    // How far the period lies from Tmin to Tmax, in per cent, rounded down; none where it cannot be stretched.
-    fn stretch(self) -> Option<u64> {
-        let task = self.task;
-        if task.e == 0 || task.tmax <= task.tmin {
-            return None;
+    fn stretch(self) -> Stretch {
+        Stretch {
+            period: self.granted.period,
+            shortest: self.task.tmin,
+            longest: self.task.tmax,
+            elasticity: self.task.e,
         }
-        let above = self.granted.period.saturating_sub(task.tmin);
-        Some(u64::from(above) * 100 / u64::from(task.tmax - task.tmin))
     }
 }
 
@@ -185,10 +184,7 @@ struct Line {
 impl Line {
     // What a plan grants the task.
     fn granted<W: fmt::Write>(self, f: &mut fmt::Formatter<W>) -> fmt::Result {
-        match self.row.stretch() {
-            Some(stretch) => write!(f, " {stretch:6}%")?,
-            None => write!(f, "   fixed")?,
-        }
+        write!(f, " {:7}", self.row.stretch())?;
         if self.layout.placed {
             write!(f, " {:2}", self.row.granted.processor)?;
         }
