@@ -16,18 +16,14 @@ const RECORD: usize = 30;
 
 // Puts the period of a job, its cores and how far it is stretched.
 fn put_granted(page: &mut Page, job: WideTask, period: u32, cores: u16) {
-    let WideTask { tmin, tmax, e, .. } = job;
     let stretch = Stretch {
         period,
-        tmin,
-        tmax,
-        e,
+        shortest: job.tmin,
+        longest: job.tmax,
+        elasticity: job.e,
     };
-    write!(
-        page,
-        " {:13} {cores:5}{stretch}  ",
-        Apart(u64::from(period))
-    );
+    let period = Apart(u64::from(period));
+    write!(page, " {period:13} {cores:5} {stretch:7}  ");
 }
 
 // The record of a job, as a text has it.

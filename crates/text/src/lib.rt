@@ -121,23 +121,25 @@ impl fmt::Display for Percent {
     }
 }
 
-// How far a period lies from Tmin to Tmax, in per cent, rounded down, in a column of its own; one that cannot be stretched is `fixed`.
+// How far a period is stretched from the shortest to the longest, in per cent, rounded down, at the right of a column; `fixed` where it cannot be.
 #[derive(Clone, Copy)]
 pub struct Stretch {
     pub period: u32,
-    pub tmin: u32,
-    pub tmax: u32,
-    pub e: u32,
+    pub shortest: u32,
+    pub longest: u32,
+    pub elasticity: u32,
 }
 
 impl fmt::Display for Stretch {
     fn fmt<W: fmt::Write>(&self, f: &mut fmt::Formatter<W>) -> fmt::Result {
-        let range = self.tmax.saturating_sub(self.tmin);
-        if self.e == 0 || range == 0 {
-            return write!(f, "   fixed");
+        let width = f.width().unwrap_or(0);
+        if self.elasticity == 0 || self.longest <= self.shortest {
+            return write!(f, "{:>width$}", "fixed");
         }
-        let above = u64::from(self.period.saturating_sub(self.tmin));
-        write!(f, " {:6}%", above * 100 / u64::from(range))
+        let above = u64::from(self.period.saturating_sub(self.shortest));
+        let percent = above * 100 / u64::from(self.longest - self.shortest);
+        let width = width.saturating_sub(1);
+        write!(f, "{percent:width$}%")
     }
 }
 

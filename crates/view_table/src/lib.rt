@@ -79,13 +79,11 @@ impl Row {
     }
 
     fn stretch(self) -> Stretch {
-        let Task { tmin, tmax, e, .. } = self.task;
-        let period = self.granted.period;
         Stretch {
-            period,
-            tmin,
-            tmax,
-            e,
+            period: self.granted.period,
+            shortest: self.task.tmin,
+            longest: self.task.tmax,
+            elasticity: self.task.e,
         }
     }
 }
@@ -186,7 +184,7 @@ struct Line {
 impl Line {
     // What a plan grants the task.
     fn granted<W: fmt::Write>(self, f: &mut fmt::Formatter<W>) -> fmt::Result {
-        write!(f, "{}", self.row.stretch())?;
+        write!(f, " {:7}", self.row.stretch())?;
         if self.layout.placed {
             write!(f, " {:2}", self.row.granted.processor)?;
         }
