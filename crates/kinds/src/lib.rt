@@ -199,7 +199,7 @@ impl Policy {
 }
 
 // The station settings: the policy, how many processors there are, what a swap costs, the notch of the timer wheel, and the edition of the
-// charge.
+// charge, which is kept as the number that stands on a sheet: any may stand there, and the admission judges it in its turn.
 #[derive(Clone, Copy)]
 pub struct Settings {
     pub policy: Policy,

@@ -4,23 +4,15 @@
 
 ghost use Rattle.std.specs.Prelude.{◌++◌, ◌≡◌, ℕ, ◌≤◌, length, get_or, drop};
 ghost use Rattle.ground.specs.Folds.{list_to};
-ghost use Rattle.kinds.specs.Answer.{handed, accepted};
+ghost use Rattle.kinds.specs.Answer.{accepted};
 ghost use Rattle.kinds.specs.Policy.{meant};
 ghost use Rattle.springs.specs.Spring.{periods_on, loads_on};
 ghost use Rattle.springs.specs.Springs.{spring_in};
-ghost use Rattle.outcome.specs.Plan.{decided, processor_on};
+ghost use Rattle.outcome.specs.Plan.{processor_on};
 ghost use Rattle.outcome.specs.Handover.{Placeable, Grantable, Leaves};
 
-use kinds::{Refusal, Settings, Table};
+use kinds::{Settings, Table};
 use springs::Springs;
-
-// What an admission and the search for a step come to.
-pub fn decide(admission: Result<(), Refusal>, step: Option<u32>) -> Result<u32, Refusal>
-    ensures { handed result ≡ decided admission step }
-{
-    admission?;
-    step.ok_or(Refusal::NoStepPasses)
-}
 
 // Writes the period of step k of each task, and nothing past them.
 fn write_periods(springs: &Springs, k: u32, out: &mut [u32])

@@ -69,6 +69,7 @@ impl WideTask {
 }
 
 // A table of such tasks by value: room for the most tasks, of which the first n count. A lent count may be greater than the room.
+// It is no generic table together with `kinds::Table`, since that one is laid out for C, and every promise on a table names it.
 #[derive(Clone, Copy)]
 pub struct WideTable {
     pub rows: [WideTask; Table::MOST_TASKS],
