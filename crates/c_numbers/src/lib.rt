@@ -3,7 +3,7 @@
 
 ghost use Rattle.std.specs.Prelude.{◌≡◌};
 ghost use Rattle.kinds.specs.Answer.{handed_verdict, handed_count};
-ghost use Rattle.c_numbers.specs.Numbers.{station_settings, told_verdict, told_count};
+ghost use Rattle.c_numbers.specs.Numbers.{station_settings, verdict_of, told_verdict, told_count};
 
 use kinds::{Policy, Refusal, Settings};
 
@@ -36,51 +36,62 @@ pub struct ToldCount {
 }
 
 // The settings that a station's numbers stand for.
-pub fn settings_of(station: Station) -> Settings
-    ensures { result ≡ station_settings station }
-{
-    Settings::new(
-        Policy::of(station.policy),
-        station.m,
-        station.w,
-        station.q,
-        station.edition,
-    )
+impl From<Station> for Settings {
+    ghost from_gives = { λ station s. s ≡ station_settings station };
+
+    fn from(station: Station) -> Settings {
+        let policy = Policy::of(station.policy);
+        Settings::new(policy, station.m, station.w, station.q, station.edition)
+    }
 }
 
-// A verdict in numbers.
-pub fn tell_verdict(verdict: Result<(), Refusal>) -> ToldVerdict
-    ensures { told_verdict result ≡ handed_verdict verdict }
-{
-    match verdict {
-        Ok(()) => ToldVerdict {
-            number: 0,
-            place: 0,
-        },
-        Err(refusal) => ToldVerdict {
-            number: refusal.number() as u32,
-            place: refusal.place(),
-        },
+// The number and the place of any answer: of a refusal its own, of an acceptance zeros.
+impl<T: Copy> From<Result<T, Refusal>> for ToldVerdict {
+    ghost from_gives = { λ answer told. told_verdict told ≡ handed_verdict (verdict_of answer) };
+
+    fn from(answer: Result<T, Refusal>) -> ToldVerdict {
+        match answer {
+            Ok(_) => ToldVerdict {
+                number: 0,
+                place: 0,
+            },
+            Err(refusal) => ToldVerdict {
+                number: u32::from(refusal.number()),
+                place: refusal.place(),
+            },
+        }
     }
 }
 
 // A count in numbers.
+impl From<Result<usize, Refusal>> for ToldCount {
+    ghost from_gives = { λ counted told. told_count told ≡ handed_count counted };
+
+    fn from(counted: Result<usize, Refusal>) -> ToldCount {
+        let told = ToldVerdict::from(counted);
+        ToldCount {
+            number: told.number,
+            place: told.place,
+            count: counted.unwrap_or(0),
+        }
+    }
+}
+
+// The three conversions by the names that docs/PROMISES.md has for them.
+pub fn settings_of(station: Station) -> Settings
+    ensures { result ≡ station_settings station }
+{
+    station.into()
+}
+
+pub fn tell_verdict(verdict: Result<(), Refusal>) -> ToldVerdict
+    ensures { told_verdict result ≡ handed_verdict verdict }
+{
+    verdict.into()
+}
+
 pub fn tell_count(counted: Result<usize, Refusal>) -> ToldCount
     ensures { told_count result ≡ handed_count counted }
 {
-    match counted {
-        Ok(count) => ToldCount {
-            number: 0,
-            place: 0,
-            count,
-        },
-        Err(refusal) => {
-            let told = tell_verdict(Err(refusal));
-            ToldCount {
-                number: told.number,
-                place: told.place,
-                count: 0,
-            }
-        }
-    }
+    counted.into()
 }

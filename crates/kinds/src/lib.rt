@@ -133,7 +133,7 @@ pub struct Index {
 }
 
 // A policy is a choice of its own; a number outside 1 to 5 is kept in the further choice.
-#[derive(Clone, Copy)]
+#[derive(Clone, Copy, Debug, PartialEq, Eq)]
 pub enum Policy {
     Pooled,
     GlobalEdf,
@@ -183,28 +183,14 @@ impl Policy {
     pub fn is_first_fit(self) -> bool
         ensures { result ≡ is_first_fit self }
     {
-        match self {
-            Policy::Pooled => false,
-            Policy::GlobalEdf => false,
-            Policy::GlobalRm => false,
-            Policy::FirstFit => true,
-            Policy::OneCoreRm => false,
-            Policy::Further(_) => false,
-        }
+        matches!(self, Policy::FirstFit)
     }
 
     // Policy 5.
     pub fn is_one_core(self) -> bool
         ensures { result ≡ is_one_core self }
     {
-        match self {
-            Policy::Pooled => false,
-            Policy::GlobalEdf => false,
-            Policy::GlobalRm => false,
-            Policy::FirstFit => false,
-            Policy::OneCoreRm => true,
-            Policy::Further(_) => false,
-        }
+        matches!(self, Policy::OneCoreRm)
     }
 }
 
@@ -283,7 +269,7 @@ impl Settings {
 
 // What an accepted plan grants a task: its period, and its processor, 0 for any.
 #[repr(C)]
-#[derive(Clone, Copy)]
+#[derive(Clone, Copy, Debug, PartialEq, Eq)]
 pub struct Granted {
     pub period: u32,
     pub processor: u16,
@@ -315,7 +301,7 @@ pub struct Sheet {
 }
 
 // One variant for each number of documents 01 and 02, with its place where that is not 0.
-#[derive(Clone, Copy)]
+#[derive(Clone, Copy, Debug, PartialEq, Eq)]
 pub enum Refusal {
     NoSuchPolicy,
     Misset,

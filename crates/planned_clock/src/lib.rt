@@ -9,10 +9,10 @@ ghost use Rattle.planned_clock.specs.ClockPlan.{PlanIs};
 use clock::Clock;
 use kinds::{Refusal, Settings, Table};
 
-// What the plain finder answers, and the clock: of zeros where it refuses.
+// The step of an accepted plan, and the clock that its periods start.
 #[derive(Clone, Copy)]
 pub struct Planned {
-    pub plan: Result<u32, Refusal>,
+    pub step: u32,
     pub clock: Clock,
 }
 
@@ -24,17 +24,12 @@ pub fn start_plan(
     tick: u32,
     periods: &mut [u32],
     processors: &mut [u16],
-) -> Planned
+) -> Result<Planned, Refusal>
     ensures { PlanIs (outcome true settings table.rows table.n periods.old processors.old)
         settings table.rows table.n tick result periods.new processors.new }
 {
     let n = table.n;
-    let plan = plain_finder::find(table, settings, periods, processors);
-    let Ok(_) = plan else {
-        let clock = clock::no_clock();
-        return Planned { plan, clock };
-    };
-    let started = clock::start(&periods[..n], tick);
-    let clock = started.clock;
-    Planned { plan, clock }
+    let step = plain_finder::find(table, settings, periods, processors)?;
+    let clock = clock::start(&periods[..n], tick)?;
+    Ok(Planned { step, clock })
 }

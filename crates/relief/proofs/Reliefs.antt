@@ -23,20 +23,29 @@ use Rattle.kinds.proofs.Chains.{first-without, verdict-exactly}
 use Rattle.policy.specs.Under.{least_under}
 use Rattle.admission.specs.Admission.{admission}
 use Rattle.admission.specs.Chain.{settings_chain, record_check}
-use Rattle.admission.proofs.Chain.{Ready, admitted}
+use Rattle.admission.proofs.Chain.{Ready, admitted, not-admitted}
 use Rattle.admission.proofs.Exactly.{ready-admitted, admission-chain}
 use Rattle.admission.proofs.Gated.{answer-same}
 use Rattle.outcome.specs.Plan.{found}
 use Rattle.order.proofs.Gone.{from_low}
 use Rattle.keep.specs.Keep.{left_row, left_rows}
 use Rattle.keep.proofs.Rows.{left-good}
-use Rattle.relief.specs.declared.Relief.{Relief}
 use Rattle.relief.specs.Chain.{relief_chain}
-use Rattle.relief.specs.Relief.{one_more, told_step, least_told, least_with, least_without, admitted_by, Relieved, told_with, relieved, MeetsRelief}
+use Rattle.relief.specs.Relief.{one_more, told_step, least_told, least_with, least_without, admitted_by, Answered, verdict_of, told_of, Relieved, told_with, relieved, MeetsRelief}
 use Rattle.relief.proofs.Telling.{told, told-least, told-roomy, told-refused, told-agrees, admitted-is}
 
-relief : Verdict → ℕ → ℕ → Relief
-relief verdict least more = record { verdict = verdict; least = least; more = more }
+-- a verdict as an answer that tells nothing
+answered-as : Verdict → Answered
+answered-as (Ok _) = Ok (record { least = 0; more = 0 })
+answered-as (Err r) = Err r
+
+-- an answer is known by its verdict and what it tells
+answered-one : (r q : Answered) → verdict_of r ≡ verdict_of q → (told_of r).least ≡ (told_of q).least → (told_of r).more ≡ (told_of q).more → r ≡ q
+unfolding answered-as
+answered-one (Ok x) (Ok y) v l m = λ i. Ok (record { least = l i; more = m i })
+answered-one (Ok x) (Err b) v l m = not-admitted (Ok tt) v refl
+answered-one (Err a) (Ok y) v l m = not-admitted (Ok tt) (sym v) refl
+answered-one (Err a) (Err b) v l m = ap answered-as v
 
 -- policy 4 is never refused by 4 where it is served
 served-never : (first : Bool) → both first (not true) ≡ false
@@ -54,14 +63,11 @@ module _ (s : Settings) (rows : List Task) (n : ℕ) (old : List ℕ) where
   relief-handed = verdict-handed (admission true s rows n (length old)) _ _ _ n old
 
   -- no second answer, nor a second content of the output
-  pub no-second-relief : (r q : Relief) (xs ys : List ℕ) → MeetsRelief (relieved s rows n old) r xs → MeetsRelief (relieved s rows n old) q ys
+  pub no-second-relief : (r q : Answered) (xs ys : List ℕ) → MeetsRelief (relieved s rows n old) r xs → MeetsRelief (relieved s rows n old) q ys
       → (r ≡ q) × (xs ≡ ys)
-  unfolding relief
   no-second-relief r q xs ys a b =
-      let same = verdict-one r.verdict q.verdict (a.answers ∙ sym b.answers) in
-      let least = a.least-told ∙ sym b.least-told in
-      let more = a.more-told ∙ sym b.more-told in
-      (λ i. relief (same i) (least i) (more i), a.leaves ∙ sym b.leaves)
+      let same = verdict-one (verdict_of r) (verdict_of q) (a.answers ∙ sym b.answers) in
+      (answered-one r q same (a.least-told ∙ sym b.least-told) (a.more-told ∙ sym b.more-told), a.leaves ∙ sym b.leaves)
 
   -- the admission, which serves policy 4, so that 4 may be left out
   relief-chain : admission true s rows n (length old) ≡ first_of (relief_chain s rows n (length old))
@@ -73,8 +79,8 @@ module _ (s : Settings) (rows : List Task) (n : ℕ) (old : List ℕ) where
       admission-chain true s rows n (length old) ∙ first-without Err (Ok tt) before four after (served-never first)
 
   -- 1, 15, 2, 3, 5 and 6 are given exactly when their sentences hold, the earlier first
-  pub relief-exactly : (r : Relief) (xs : List ℕ) → MeetsRelief (relieved s rows n old) r xs
-      → Exactly (relief_chain s rows n (length old)) tt tt (handed_verdict r.verdict)
+  pub relief-exactly : (r : Answered) (xs : List ℕ) → MeetsRelief (relieved s rows n old) r xs
+      → Exactly (relief_chain s rows n (length old)) tt tt (handed_verdict (verdict_of r))
   relief-exactly r xs x =
       rw (x.answers ∙ relief-handed)
       (verdict-exactly (relief_chain s rows n (length old)) (admission true s rows n (length old)) relief-chain)
@@ -203,11 +209,11 @@ module _ (s : Settings) (rows : List Task) (n : ℕ) (old : List ℕ) (answer : 
     verdict-is : verdict ≡ admission true s rows n (length old)
     verdict-is = v ∙ admitted-is s rows n (length old) answer is
 
-    pub untold : (r : Refusal) → verdict ≡ Err r → MeetsRelief (relieved s rows n old) (record { verdict = verdict; least = 0; more = 0 }) old
+    pub untold : (r : Refusal) → verdict ≡ Err r → MeetsRelief (relieved s rows n old) (Err r) old
     unfolding relieved
     untold r e =
         let a = sym verdict-is ∙ e in
-        record { answers = rw (a, e); least-told = rw a; more-told = rw a; leaves = rw a }
+        record { answers = rw a; least-told = rw a; more-told = rw a; leaves = rw a }
 
     -- what the telling relies on
     module _ (e : verdict ≡ (Ok tt)) where
@@ -219,12 +225,12 @@ module _ (s : Settings) (rows : List Task) (n : ℕ) (old : List ℕ) (answer : 
 
       pub all_told : (least : ℕ) → least ≡ told_step (handed answer) → (more : ℕ) → more ≡ least_with s rows n
           → (new : List ℕ) → new ≡ list_to (least_without s rows n) n ++ drop n old
-          → MeetsRelief (relieved s rows n old) (record { verdict = verdict; least = least; more = more }) new
+          → MeetsRelief (relieved s rows n old) (Ok (record { least = least; more = more })) new
       unfolding relieved
       all_told least l more m new w =
           let a = admits in
           let step = l ∙ (ap told_step is ∙ (told-roomy s rows n (length old) a ∙ sym (least-least s rows n old a))) in
-          record { answers = rw (a, e); least-told = rw a step; more-told = rw a m; leaves = rw a w }
+          record { answers = rw a; least-told = rw a step; more-told = rw a m; leaves = rw a w }
 
 -- two tables that agree on the first n records are relieved alike; where n is too large, any two are
 module _ (s : Settings) (xs ys : List Task) (n : ℕ) (old : List ℕ) (same : n ≤ most_tasks → (i : ℕ) → i < n → at xs i ≡ at ys i) where

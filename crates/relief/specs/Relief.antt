@@ -1,10 +1,11 @@
 -- What would relieve a table: the least step as it stands, with one processor more, and with one task fewer, each by demand 2's own definition.
 -- Assumes nothing.
-use Rattle.std.specs.Prelude.{ℕ, ◌+◌, ◌-◌, true, List, ◌++◌, ◌≡◌, eqb, length, drop, Ok, Err}
+use Rattle.std.specs.Prelude.{ℕ, ◌+◌, ◌-◌, true, List, ◌++◌, ◌≡◌, eqb, length, drop, Result, Ok, Err}
 use Rattle.ground.specs.Choice.{pick}
 use Rattle.ground.specs.Folds.{list_to}
 use Rattle.kinds.specs.declared.Task.{Task}
 use Rattle.kinds.specs.declared.Settings.{Settings}
+use Rattle.kinds.specs.declared.Refusal.{Refusal}
 use Rattle.kinds.specs.declared.Refusal.TheVariants.{NoStepPasses}
 use Rattle.kinds.specs.Answer.{Handed, NumberAndPlace, accepted, refused, handed_verdict, Answer, Verdict}
 use Rattle.kinds.specs.Refusal.{number_of}
@@ -56,9 +57,21 @@ unfoldable pub relieved : Settings → List Task → ℕ → List ℕ → Reliev
 relieved s rows n old =
     told_with (admission true s rows n (length old)) (least_told s rows n) (least_with s rows n) (list_to (least_without s rows n) n) n old
 
--- a verdict, what is told with it, and the output at exit are those
-pub record MeetsRelief (o : Relieved) (r : Relief) (without : List ℕ) : Type 0 where
-  pub answers : handed_verdict r.verdict ≡ o.handed
-  pub least-told : r.least ≡ o.least
-  pub more-told : r.more ≡ o.more
+-- what a call answers: what is told, or the refusal, with which nothing is
+abbrev pub Answered : Type 0
+Answered = Result Relief Refusal
+
+abbrev pub verdict_of : Answered → Verdict
+verdict_of (Ok told) = Ok tt
+verdict_of (Err r) = Err r
+
+abbrev pub told_of : Answered → Relief
+told_of (Ok told) = told
+told_of (Err r) = record { least = 0; more = 0 }
+
+-- an answer, what is told with it, and the output at exit are those
+pub record MeetsRelief (o : Relieved) (r : Answered) (without : List ℕ) : Type 0 where
+  pub answers : handed_verdict (verdict_of r) ≡ o.handed
+  pub least-told : (told_of r).least ≡ o.least
+  pub more-told : (told_of r).more ≡ o.more
   pub leaves : without ≡ o.without

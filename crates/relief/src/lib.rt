@@ -11,12 +11,16 @@ ghost use Rattle.relief.specs.Relief.{told_step, least_told, one_more, least_wit
 
 use kinds::{Refusal, Settings, Table};
 
-// Whether the table is admitted, and where it is its least step and that with one processor more, told as numbers: 0 for none, else the step + 1.
+// The least step of a table and that with one processor more, told as numbers, as they cross to C: 0 for none, else the step + 1.
 #[derive(Clone, Copy)]
 pub struct Relief {
-    pub verdict: Result<(), Refusal>,
     pub least: u32,
     pub more: u32,
+}
+
+impl Relief {
+    // What stands for it where a call is refused.
+    pub const NONE: Relief = Relief { least: 0, more: 0 };
 }
 
 // What the plain finder answers for an output with so much room, by the quick finder's search wherever that serves the policy.
@@ -93,25 +97,13 @@ fn admitted(answer: Result<u32, Refusal>) -> Result<(), Refusal>
 
 // The least step of a table, that with one processor more, and for each task that without it, which is written to the lent output; or the
 // refusal, which tells and writes nothing.
-pub fn relief_of(table: Table, settings: Settings, without: &mut [u32]) -> Relief
+pub fn relief_of(table: Table, settings: Settings, without: &mut [u32]) -> Result<Relief, Refusal>
     ensures { MeetsRelief (relieved settings table.rows table.n without.old) result without.new }
 {
     let answer = decide(table, settings, without.len());
-    let verdict = admitted(answer);
-    let Ok(()) = verdict else {
-        let told = 0;
-        return Relief {
-            verdict,
-            least: told,
-            more: told,
-        };
-    };
+    admitted(answer)?;
     let least = tell(answer);
     let more = least_told(table, one_more(settings));
     write_without(table, settings, without);
-    Relief {
-        verdict,
-        least,
-        more,
-    }
+    Ok(Relief { least, more })
 }

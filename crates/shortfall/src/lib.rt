@@ -7,6 +7,7 @@ ghost use Rattle.kinds.specs.Limits.{most_processors};
 
 use kinds::{Policy, Settings, Share, Table};
 use policy::{Total, Weights};
+use relief::Relief;
 use springs::Springs;
 use task_names::ROOM;
 
@@ -189,7 +190,8 @@ fn put_relief(
     names: &[u8; ROOM],
 ) -> usize {
     let mut without = [0u32; Table::MOST_TASKS];
-    let relief = relief::relief_of(table, settings, &mut without);
+    let answer = relief::relief_of(table, settings, &mut without);
+    let relief = answer.unwrap_or(Relief::NONE);
     let mut helps = helps_of(relief.more, &without);
     let helped = put_helps(out, at, &mut helps, names);
     if at < helped {

@@ -6,8 +6,11 @@ use std::io;
 
 fn main(rt: HostRuntime) -> io::Result<()> {
     let mut input = [0u8; sheet::LONGEST + 1];
-    let n = lent_input::read_full(&mut rt.stdin(), &mut input)?;
     let mut out = [0u8; view_text::LONGEST];
-    let k = view_text::view(&input[..n], &mut out);
-    text::write(&mut rt.stdout(), &out, k)
+    lent_input::run(
+        rt,
+        &mut input,
+        &mut out,
+        |given, out| view_text::view(given, out),
+    )
 }
