@@ -166,7 +166,8 @@ impl Springs {
             if !task.good(swap, self.notch) {
                 return Err(i);
             }
-            self.push(Spring::of(task.priced(swap)));
+            let spring = Spring::of(task.priced(swap));
+            self.push(spring);
         }
         Ok(())
     }

@@ -45,8 +45,8 @@ priced-requires c =
     let good = good-is _ _ _ found in
     rw row.1 (omega (arith, good.c-tmin, good.tmin-tmax, good.tmax-most))
 
-pub of-requires : goal.of-requires
-of-requires c =
+pub of-spring-requires : goal.of-spring-requires
+of-spring-requires c =
     let table = c.args.table in
     let row = here table c.loop-i.i (omega arith) c.loop-i-test.true in
     let found = tested table c.loop-i.i (omega arith) c.loop-i-test.true _ _ _ _ _ c.loop-i.invariant.0 c.good.ensures c.if-not-good.false in
@@ -58,7 +58,7 @@ push-requires c =
     let row = here table c.loop-i.i (omega arith) c.loop-i-test.true in
     let found = tested table c.loop-i.i (omega arith) c.loop-i-test.true _ _ _ _ _ c.loop-i.invariant.0 c.good.ensures c.if-not-good.false in (
       omega (arith, c.loop-i.invariant.2.count, row.0),
-      rw (c.of.ensures, c.priced.ensures, row.1, c.loop-i.invariant.0)
+      rw (c.of-spring.ensures, c.priced.ensures, row.1, c.loop-i.invariant.0)
           (good-allowed _ (good-is _ _ _ found) _ (notch-is _ _ _ c.requires.2 found)),
     )
 
@@ -72,7 +72,7 @@ loop-i-preserved c =
     let priced = (rw row.1 at c.priced.ensures) ∙ sym (priced-at args.swap table.rows table.n c.loop-i.i row.0) in (
       c.push.ensures.notch ∙ c.loop-i.invariant.0,
       first_more bad table.n _ c.loop-i.invariant.1 (ap not found),
-      sprung-more _ _ _ _ _ c.loop-i.invariant.2 c.push.ensures (c.of.ensures ∙ ap spring_of priced),
+      sprung-more _ _ _ _ _ c.loop-i.invariant.2 c.push.ensures (c.of-spring.ensures ∙ ap spring_of priced),
     )
 
 pub returns : goal.returns
