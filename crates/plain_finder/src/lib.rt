@@ -87,7 +87,8 @@ fn least_charged(test: Test, springs: &mut Springs) -> Option<u32>
     None
 }
 
-// Edition 1: the least step that passes on the shares, which are let down from step to step.
+// Edition 1: the least step that passes on the shares, which are let down from step to step. A walk of its own: edition 2 charges each step anew,
+// and carries nothing.
 fn least_shared(test: Test, springs: &mut Springs) -> Option<u32>
     ensures { Searched test.policy test.m (shares_on (spring_in springs.old)) result springs.old springs.new }
 {

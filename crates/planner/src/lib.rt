@@ -31,6 +31,7 @@ fn fullest(held: &[u32; Settings::MOST_PROCESSORS as usize], load: u32, m: usize
 {
     let room = Share::SCALE as u32 - load;
     let mut found: Option<usize> = None;
+    // Over the numbers: the number is what is looked for.
     for j in 0..m {
         if room < held[j] {
             continue;

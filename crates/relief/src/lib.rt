@@ -80,6 +80,7 @@ fn write_without(table: Table, settings: Settings, out: &mut [u32])
     ensures { out.new ≡ list_to (least_without settings table.rows table.n) table.n ++ drop table.n out.old }
 {
     let n = table.n;
+    // Over the numbers: each is a task that is left out, and an entry that is written.
     for i in 0..n {
         out[i] = least_without(table, settings, i);
     }
