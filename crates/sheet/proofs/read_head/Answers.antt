@@ -47,4 +47,4 @@ returns c =
     let counted = settings-counted _ c.requires c.in-Some.ensures c.from-count.ensures in
     let settings = settings-read counted (sym c.if-not-settings_fit.ensures) c.in-Some-read_section.ensures in
     let head = head_read settings c.in-Some-read.ensures c.from-n.ensures in
-    begun head c.of-settings.ensures c.if-n-gt-MOST_TASKS.false
+    begun head c.from-settings.ensures c.if-n-gt-MOST_TASKS.false
