@@ -10,5 +10,5 @@ use Rattle.writer.proofs.put_settings.Goals as goal
 pub returns : goal.returns
 unfolding settings_bytes
 returns c =
-    let rows = put_front (bytes_of setting_size) 0 setting_size c.numbers-numbers.result c.args.count (omega arith) (c.put_section.ensures 0) in
-    rw (← c.numbers-numbers.ensures) (put_then c.put-first.ensures rows)
+    let rows = put_front (bytes_of setting_size) 0 setting_size c.from-numbers.result c.args.count (omega arith) (c.put_section.ensures 0) in
+    rw (← c.from-numbers.ensures) (put_then c.put-first.ensures rows)
