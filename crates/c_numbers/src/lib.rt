@@ -77,22 +77,3 @@ impl From<Result<usize, Refusal>> for ToldCount {
         }
     }
 }
-
-// The three conversions by the names that docs/PROMISES.md has for them.
-pub fn settings_of(station: Station) -> Settings
-    ensures { result ≡ station_settings station }
-{
-    station.into()
-}
-
-pub fn tell_verdict(verdict: Result<(), Refusal>) -> ToldVerdict
-    ensures { told_verdict result ≡ handed_verdict verdict }
-{
-    verdict.into()
-}
-
-pub fn tell_count(counted: Result<usize, Refusal>) -> ToldCount
-    ensures { told_count result ≡ handed_count counted }
-{
-    counted.into()
-}
