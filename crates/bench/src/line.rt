@@ -1,4 +1,5 @@
 // A line of `stdin`: words in quotes, and fields, parted by blanks.
+
 // How many fields a line may have.
 pub(crate) const FIELDS: usize = 32;
 
@@ -11,11 +12,20 @@ fn grown(value: u32, byte: u8) -> u32 {
     }
 }
 
-// The fields of a line, 0 where there are no more.
-pub(crate) fn fields(line: &[u8]) -> [u32; FIELDS] {
+// The fields of the first line of a text, 0 where there are no more; what follows the last field goes on with it.
+pub(crate) fn fields(text: &[u8]) -> [u32; FIELDS] {
     let mut fields = [0; FIELDS];
-    for (field, word) in fields.iter_mut().zip(line.split(|byte| *byte == b' ')) {
-        *field = word.iter().fold(0, |value, byte| grown(value, *byte));
+    let mut field = 0;
+    for byte in text {
+        match *byte {
+            b'\n' => return fields,
+            b' ' if field < FIELDS - 1 => field += 1,
+            byte => {
+                if let Some(value) = fields.get_mut(field) {
+                    *value = grown(*value, byte);
+                }
+            }
+        }
     }
     fields
 }
@@ -29,11 +39,13 @@ pub(crate) fn letter(field: u32) -> u8 {
     (field % 256) as u8
 }
 
-// The words of a case, and what follows them; none of a line that does not begin with a quote.
-pub(crate) fn case_of(line: &[u8]) -> Option<(&[u8], &[u8])> {
-    let case = line.strip_prefix(b"\"")?;
-    let end = case.iter().position(|byte| *byte == b'"')?;
-    Some((&case[..end], &case[end + 1..]))
+// The words of a case, up to the next quote, and what follows them; none of a text that does not begin with a quote.
+pub(crate) fn case_of(text: &[u8]) -> Option<(&[u8], &[u8])> {
+    let case = text.strip_prefix(b"\"")?;
+    match case.iter().position(|byte| *byte == b'"') {
+        Some(end) => Some((&case[..end], &case[end + 1..])),
+        None => Some((&[], case)),
+    }
 }
 
 // The fields of the first line that begins with a letter, of the first line where there is none.

@@ -65,12 +65,14 @@ fn main(rt: HostRuntime) -> io::Result<()> {
     let n = lent_input::read_full(&mut rt.stdin(), &mut text)?;
     let text = &text[..n];
     let mut out = rt.stdout();
+    let mut rest = text;
     for line in text.split(|byte| *byte == b'\n') {
-        if let Some((words, rest)) = line::case_of(line) {
+        if let Some((words, fields)) = line::case_of(rest) {
             out.write_all(words)?;
-            run(&mut out, text, line::fields(rest))?;
+            run(&mut out, text, line::fields(fields))?;
             writeln!(out)?;
         }
+        rest = rest.get(line.len() + 1..).unwrap_or(&[]);
     }
     Ok(())
 }

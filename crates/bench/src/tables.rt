@@ -7,18 +7,19 @@ use wide_task::{WideTable, WideTask};
 // How many entries of a proposal a case has room for.
 pub(crate) const ENTRIES: usize = 7;
 
-// The records of a table's line, which start at field 1; the last of them stands for all that follow.
+// The records of a table's line, which start at field 1 and end before one whose C is 0; the last of them stands for all that follow.
 fn rows_of(fields: [u32; FIELDS]) -> [Task; Table::MOST_TASKS] {
     let mut rows = [Task::NONE; Table::MOST_TASKS];
-    let mut records = fields[1..].chunks_exact(4);
-    let mut last = Task::NONE;
+    let mut at: usize = 1;
     for row in &mut rows {
-        if let Some([c, tmin, tmax, e]) = records.next() {
-            if *c != 0 {
-                last = Task::new(*c, *tmin, *tmax, *e);
-            }
+        *row = match fields.get(at..) {
+            Some([c, tmin, tmax, e, ..]) => Task::new(*c, *tmin, *tmax, *e),
+            _ => Task::NONE,
+        };
+        let next = at.saturating_add(4);
+        if fields.get(next).is_some_and(|c| *c != 0) {
+            at = next;
         }
-        *row = last;
     }
     rows
 }

@@ -46,7 +46,7 @@ fn look(w: Weights, springs: &mut Springs, range: Range) -> Range
     }
 }
 
-// The least step that passes, and the looks that it took.
+// The least step that passes, and the looks that it took, which `ground::least_passing` does not count.
 pub fn least_step(w: Weights, springs: &mut Springs) -> Ended
     requires { Light w }
     ensures { HalvingEnds (charged_at w springs.old.notch (spring_in springs.old) springs.old.n)

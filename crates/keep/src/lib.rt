@@ -20,7 +20,7 @@ pub struct Kept {
     pub index: Index,
 }
 
-// The answer to a change, and what is kept after it.
+// The answer to a change, and what is kept after it: a refused change hands back what was kept, so that it is no `Result`.
 #[derive(Clone, Copy)]
 pub struct Changed {
     pub answer: Result<(), Refusal>,
@@ -53,10 +53,10 @@ pub fn without(old: Table, place: usize, n: usize) -> Table
     ensures { result ≡ table (padded_to no_task most_tasks (left_row old.rows place) n) n }
 {
     let mut rows = [Task::NONE; Table::MOST_TASKS];
+    // Over the numbers: past the place the row after the gone one is read.
     for i in 0..n {
         let from = order::left_from(place, i);
-        let row = old.rows[from];
-        rows[i] = row;
+        rows[i] = old.rows[from];
     }
     Table { rows, n }
 }

@@ -16,6 +16,7 @@ fn heaviest(loads: &[u32; Table::MOST_TASKS], n: usize) -> usize
     ensures { result < n }
 {
     let mut found = 0;
+    // Over the numbers: the number is what is looked for.
     for i in 1..n {
         if loads[found] < loads[i] {
             found = i;

@@ -133,6 +133,17 @@ impl Weights {
     }
 }
 
+// What the loads of n tasks that pass add up to at most.
+pub fn most_sum(policy: Policy, m: u16, n: usize) -> u64
+    requires { (1 ≤ m) × (m ≤ most_processors) × (n ≤ most_tasks) }
+    ensures { result ≡ most_sum policy m n }
+{
+    if policy.is_first_fit() {
+        return u64::from(m) * Share::SCALE;
+    }
+    Weights::of(policy, m, n).r
+}
+
 // The test of a policy that is served, on m processors.
 #[derive(Clone, Copy)]
 pub struct Test {
@@ -164,16 +175,12 @@ impl Test {
         self.weights(springs.n).hold(Total::of(springs))
     }
 
-    // What the loads of n tasks that pass add up to at most.
+    // The same of its policy.
     pub fn most_sum(self, n: usize) -> u64
         requires { n ≤ most_tasks }
         ensures { result ≡ most_sum self.policy self.m n }
     {
-        let policy = self.policy;
-        if policy.is_first_fit() {
-            return u64::from(self.m) * Share::SCALE;
-        }
-        self.weights(n).r
+        most_sum(self.policy, self.m, n)
     }
 
     // Whether the loads pass, with their sum at hand, and what it may be at most: where it is more, the policy is not tried.

@@ -22,7 +22,7 @@ use kinds::{Refusal, Settings, Table};
 use policy::{Test, Total, Weights};
 use springs::Springs;
 
-// What the quick finder answers, and the looks that it made.
+// What the quick finder answers, and the looks that it made, which stand beside the answer since a refusal by 7 has looks too.
 #[derive(Clone, Copy)]
 pub struct Looked {
     pub answer: Result<u32, Refusal>,
@@ -62,7 +62,7 @@ pub fn decide(table: Table, settings: Settings, room: usize) -> Result<u32, Refu
     find_step(table, settings, room, &mut springs).answer
 }
 
-// The answer and its looks, with the springs of the table left in the lent block. No look is made of a table that is not admitted.
+// The answer and its looks; the springs of the table are taken in. No look is made of a table that is not admitted.
 fn find_step(table: Table, settings: Settings, room: usize, springs: &mut Springs) -> Looked
     requires { Empty settings.notch springs.old }
     ensures { LookedSprung settings table.rows table.n room result.answer result.looks springs.new }

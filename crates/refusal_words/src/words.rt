@@ -44,7 +44,7 @@ impl fmt::Display for Sentence {
     }
 }
 
-// The sentence of a refusal that shows no place.
+// The sentence of a refusal that shows no place; nothing of one that does, each of which is named here too, so that none is forgotten.
 fn plain(refusal: Refusal) -> &'static str {
     match refusal {
         Refusal::NoSuchPolicy => "the policy must be 1, 2, 4 or 5",
@@ -56,7 +56,16 @@ fn plain(refusal: Refusal) -> &'static str {
         Refusal::WrongResultCount(_) => "the result count is neither 0 nor the task count",
         Refusal::PolicyWithdrawn => "policy 3 is withdrawn: choose 1, 2, 4 or 5",
         Refusal::NoResults => "there are tasks without results: fill the sheet in first",
-        _ => "",
+        Refusal::OutputTooShort(_)
+        | Refusal::BadRecord(_)
+        | Refusal::SheetEnds(_)
+        | Refusal::BytesAfterLast(_)
+        | Refusal::NoSuchRecord(_)
+        | Refusal::ProcessorOutOfRange(_)
+        | Refusal::ProcessorOverfull(_)
+        | Refusal::BadLine(_)
+        | Refusal::BadPeriod(_)
+        | Refusal::WrongResult(_) => "",
     }
 }
 

@@ -84,7 +84,7 @@ fn put_sides(page: &mut Page, sides: Sides, placed: bool, names: &Names) {
             .position(|processor| *processor == 0);
         write!(page, "at full compression no processor has room for task ");
         names.put(page, unplaced.unwrap_or(Table::MOST_TASKS));
-        writeln!(page, "");
+        writeln!(page);
         return;
     }
     writeln!(page, "full compression {sides}");

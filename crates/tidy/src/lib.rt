@@ -9,7 +9,6 @@ ghost use Rattle.tidy.specs.Tidied.{strict, Tidies};
 ghost use Rattle.tidy.specs.Handover.{HandsOn};
 
 use kinds::{Refusal, Table};
-use loosen::Loosened;
 
 // How many bytes a text may have that is not the strict import's.
 pub const LONGEST: usize = loosen::LONGEST;
@@ -35,7 +34,7 @@ fn hand_on_candidate(
         return Err(refusal);
     }
     let mut candidate = [0u8; office::LONGEST];
-    let Loosened::Text(found) = loosen::loosen(text, &mut candidate) else {
+    let Some(found) = loosen::loosen(text, &mut candidate) else {
         return Err(refusal);
     };
     let n = found.min(office::LONGEST);

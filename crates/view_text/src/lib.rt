@@ -19,7 +19,7 @@ pub const MOST_LOADS: usize = Settings::MOST_PROCESSORS as usize;
 
 // The load of each of so many processors.
 pub fn put_loads(page: &mut Page, processors: u16, loads: &[u32; MOST_LOADS]) {
-    writeln!(page, "");
+    writeln!(page);
     for (processor, load) in (1..=processors).zip(loads) {
         let value = *load;
         let most = Share::SCALE as u32;
@@ -80,7 +80,7 @@ fn put_refused(page: &mut Page, refusal: Refusal, x: Sheet, names: &Names) {
     if refusal == Refusal::NoStepPasses {
         shortfall::put_shortfall(page, x.table, x.settings, names);
     }
-    writeln!(page, "");
+    writeln!(page);
     view_table::put_settings(page, x.settings);
     view_table::put_table(page, x, names, 0, false);
 }
