@@ -1,6 +1,6 @@
 -- What an admission has checked.
 -- Assumes nothing.
-use Rattle.ground.proofs.Kit.{ℕ, ◌≤◌, ◌<◌, Bool, true, false, not, List, ◌≡◌, refl, ap, ◌⊎◌, inl, inr, arith, eqb, ltb, eqb-true, ltb-false}
+use Rattle.ground.proofs.Kit.{ℕ, ◌≤◌, ◌<◌, Bool, true, false, not, List, ◌≡◌, refl, ap, ◌⊎◌, inl, inr, arith, eqb, ltb, eqb-true, ltb-false, Ok, Err}
 use lib.Dec.{lit≤, lit<}
 use borrow.Author.Tests.{eqb-false}
 use Rattle.ground.specs.Choice.{both, either}
@@ -9,10 +9,8 @@ use Rattle.kinds.specs.declared.Task.{Task}
 use Rattle.kinds.specs.declared.Settings.{Settings}
 use Rattle.kinds.specs.declared.Policy.{Policy}
 use Rattle.kinds.specs.declared.Refusal.{Refusal}
-use Rattle.kinds.specs.declared.Verdict.{Verdict}
-use Rattle.kinds.specs.declared.Verdict.TheVariants.{Accepted, Refused}
 use Rattle.kinds.specs.declared.Refusal.TheVariants.{NoSuchPolicy, PolicyWithdrawn, Misset, TooManyTasks, PolicyNotServed, OutputTooShort, BadRecord}
-use Rattle.kinds.specs.Answer.{check, handed_verdict}
+use Rattle.kinds.specs.Answer.{check, handed_verdict, Verdict}
 use Rattle.kinds.specs.Refusal.{number_of}
 use Rattle.kinds.specs.Limits.{most_tasks, most_processors, share_edition, charge_edition}
 use Rattle.kinds.specs.Policy.{meant, is_weighed, is_first_fit, is_one_core, is_withdrawn, is_further, Served}
@@ -22,17 +20,17 @@ use Rattle.admission.specs.Admission.{and_then, knows, misset, unsuited, no_edit
 use Rattle.admission.specs.Admission.{gate, served, roomy, gate_of, records_good, admission}
 
 -- a verdict of a chain was refused nowhere
-pub unchecked : (test : Bool) (r : Refusal) (rest : Verdict) → check test (Refused r) rest ≡ Accepted → (test ≡ false) × (rest ≡ Accepted)
+pub unchecked : (test : Bool) (r : Refusal) (rest : Verdict) → check test (Err r) rest ≡ (Ok tt) → (test ≡ false) × (rest ≡ (Ok tt))
 unchecked true r rest e = absurd (let z : ◌≡◌ {A = ℕ} 0 1 = cc in omega arith)
 unchecked false r rest e = (refl, e)
 
-pub not-admitted : {A : Type 0} {r : Refusal} (a : Verdict) → a ≡ Refused r → a ≡ Accepted → A
-not-admitted Accepted e f = absurd (let z : ◌≡◌ {A = ℕ} 0 1 = cc in omega arith)
-not-admitted (Refused q) e f = absurd (let z : ◌≡◌ {A = ℕ} 0 1 = cc in omega arith)
+pub not-admitted : {A : Type 0} {r : Refusal} (a : Verdict) → a ≡ Err r → a ≡ (Ok tt) → A
+not-admitted (Ok _) e f = absurd (let z : ◌≡◌ {A = ℕ} 0 1 = cc in omega arith)
+not-admitted (Err q) e f = absurd (let z : ◌≡◌ {A = ℕ} 0 1 = cc in omega arith)
 
-pub then-admitted : (a rest : Verdict) → and_then a rest ≡ Accepted → (a ≡ Accepted) × (rest ≡ Accepted)
-then-admitted Accepted rest e = (refl, e)
-then-admitted (Refused r) rest e = absurd (let z : ◌≡◌ {A = ℕ} 0 1 = cc in omega arith)
+pub then-admitted : (a rest : Verdict) → and_then a rest ≡ (Ok tt) → (a ≡ (Ok tt)) × (rest ≡ (Ok tt))
+then-admitted (Ok _) rest e = (refl, e)
+then-admitted (Err r) rest e = absurd (let z : ◌≡◌ {A = ℕ} 0 1 = cc in omega arith)
 
 pub neither : (a b : Bool) → either a b ≡ false → (a ≡ false) × (b ≡ false)
 neither true b e = true-false refl e
@@ -44,7 +42,7 @@ pub record Few (m n : ℕ) : Type 0 where
   pub m-most : m ≤ most_processors
   pub few : n ≤ most_tasks
 
-pub gate-opens : (test : Bool) (n : ℕ) → gate test n ≡ Accepted → (test ≡ false) × (n ≤ most_tasks)
+pub gate-opens : (test : Bool) (n : ℕ) → gate test n ≡ (Ok tt) → (test ≡ false) × (n ≤ most_tasks)
 unfolding gate
 gate-opens test n e =
     let set = unchecked _ _ _ e in
@@ -55,7 +53,7 @@ set-few m n set few =
     let m-is = neither _ _ set in
     record { m-some = ltb-false _ _ m-is.0; m-most = ltb-false _ _ m-is.1; few = few }
 
-pub gate-passed : (m n : ℕ) → gate (misset m) n ≡ Accepted → Few m n
+pub gate-passed : (m n : ℕ) → gate (misset m) n ≡ (Ok tt) → Few m n
 gate-passed m n e =
     let open_is = gate-opens (misset m) n e in
     set-few m n open_is.0 open_is.1
@@ -86,7 +84,7 @@ pub one-core-set : (p : Policy) (m : ℕ) → unsuited p m ≡ false → is_one_
 one-core-set p m h t = by_bool (eqb m 1) (λ u. eqb-true m 1 u) (λ u. true-false (rw (t, u)) h)
 
 -- and 5
-pub roomy-passed : (n room : ℕ) → roomy n room ≡ Accepted → n ≤ room
+pub roomy-passed : (n room : ℕ) → roomy n room ≡ (Ok tt) → n ≤ room
 roomy-passed n room e = ltb-false _ _ (unchecked _ _ _ e).0
 
 -- what 1 to 5 have checked
@@ -99,7 +97,7 @@ pub record Passed (serves : Bool) (p : Policy) (m n room : ℕ) : Type 0 where
   pub served : both (is_first_fit p) (not serves) ≡ false
   pub roomy : n ≤ room
 
-pub all-passed : (serves : Bool) (s : Settings) (n room : ℕ) → gate_of serves s n room ≡ Accepted → Passed serves (meant s.policy) s.m n room
+pub all-passed : (serves : Bool) (s : Settings) (n room : ℕ) → gate_of serves s n room ≡ (Ok tt) → Passed serves (meant s.policy) s.m n room
 all-passed serves s n room e =
     let known = then-admitted _ _ e in
     let numbered = unchecked _ _ _ known.0 in
@@ -118,7 +116,7 @@ all-passed serves s n room e =
     }
 
 -- and that nothing is misset, a notch among it
-pub set-passed : (serves : Bool) (s : Settings) (n room : ℕ) → gate_of serves s n room ≡ Accepted → misset_under s ≡ false
+pub set-passed : (serves : Bool) (s : Settings) (n room : ℕ) → gate_of serves s n room ≡ (Ok tt) → misset_under s ≡ false
 set-passed serves s n room e =
     let p = meant s.policy in
     let last = and_then (served serves p) (roomy n room) in
@@ -126,52 +124,52 @@ set-passed serves s n room e =
     let set = then-admitted (gate (misset_under s) n) last known.1 in
     (gate-opens (misset_under s) n set.0).0
 
-pub notch-passed : (serves : Bool) (s : Settings) (n room : ℕ) → gate_of serves s n room ≡ Accepted → 1 ≤ s.notch
+pub notch-passed : (serves : Bool) (s : Settings) (n room : ℕ) → gate_of serves s n room ≡ (Ok tt) → 1 ≤ s.notch
 notch-passed serves s n room e = (numbers-set s (neither _ _ (set-passed serves s n room e)).0).1
 
 -- a verdict does not refuse by k
 abbrev pub Unlike : ℕ → Verdict → Type 0
 Unlike k v = (handed_verdict v).number ≡ k → ⊥
 
-pub check-unlike : (k : ℕ) (test : Bool) (r : Refusal) (rest : Verdict) → (number_of r ≡ k → ⊥) → Unlike k rest → Unlike k (check test (Refused r) rest)
+pub check-unlike : (k : ℕ) (test : Bool) (r : Refusal) (rest : Verdict) → (number_of r ≡ k → ⊥) → Unlike k rest → Unlike k (check test (Err r) rest)
 check-unlike k true r rest h g = h
 check-unlike k false r rest h g = g
 
 pub then-unlike : (k : ℕ) (a rest : Verdict) → Unlike k a → Unlike k rest → Unlike k (and_then a rest)
-then-unlike k Accepted rest h g = g
-then-unlike k (Refused r) rest h g = h
+then-unlike k (Ok _) rest h g = g
+then-unlike k (Err r) rest h g = h
 
 pub gate-unlike : (test : Bool) (n k : ℕ) → 6 ≤ k → Unlike k (gate test n)
 unfolding gate
 gate-unlike test n k l =
     check-unlike k test Misset _ (λ e. omega arith)
-    (check-unlike k (ltb most_tasks n) (TooManyTasks n) Accepted (λ e. omega arith) (λ e. omega arith))
+    (check-unlike k (ltb most_tasks n) (TooManyTasks n) (Ok tt) (λ e. omega arith) (λ e. omega arith))
 
 pub roomy-unlike : (n room k : ℕ) → 6 ≤ k → Unlike k (roomy n room)
-roomy-unlike n room k l = check-unlike k (ltb room n) (OutputTooShort n) Accepted (λ e. omega arith) (λ e. omega arith)
+roomy-unlike n room k l = check-unlike k (ltb room n) (OutputTooShort n) (Ok tt) (λ e. omega arith) (λ e. omega arith)
 
 knows-unlike : (p : Policy) (k : ℕ) → 6 ≤ k → k < 15 → Unlike k (knows p)
 knows-unlike p k l h =
     check-unlike k (is_further p) NoSuchPolicy _ (λ e. omega arith)
-    (check-unlike k (is_withdrawn p) PolicyWithdrawn Accepted (λ e. omega arith) (λ e. omega arith))
+    (check-unlike k (is_withdrawn p) PolicyWithdrawn (Ok tt) (λ e. omega arith) (λ e. omega arith))
 
 -- the gate refuses by 1 to 5 and by 15 only
 all-unlike : (serves : Bool) (s : Settings) (n room k : ℕ) → 6 ≤ k → k < 15 → Unlike k (gate_of serves s n room)
 all-unlike serves s n room k l h =
     let p = meant s.policy in
-    let four = check-unlike k (both (is_first_fit p) (not serves)) PolicyNotServed Accepted (λ e. omega arith) (λ e. omega arith) in
+    let four = check-unlike k (both (is_first_fit p) (not serves)) PolicyNotServed (Ok tt) (λ e. omega arith) (λ e. omega arith) in
     let last = then-unlike k (served serves p) (roomy n room) four (roomy-unlike n room k l) in
     then-unlike k (knows p) _ (knows-unlike p k l h) (then-unlike k (gate (misset_under s) n) _ (gate-unlike (misset_under s) n k l) last)
 
 -- "The lowest number comes first", and 15 "in the place of refusal 1": where 6 is given, none of those before it is
-pub six-last : (serves : Bool) (s : Settings) (rows : List Task) (n room place : ℕ) → admission serves s rows n room ≡ Refused (BadRecord place)
-    → gate_of serves s n room ≡ Accepted
+pub six-last : (serves : Bool) (s : Settings) (rows : List Task) (n room place : ℕ) → admission serves s rows n room ≡ Err (BadRecord place)
+    → gate_of serves s n room ≡ (Ok tt)
 unfolding admission
 six-last serves s rows n room place = by (gate_of serves s n room) (all-unlike serves s n room 6 (lit≤ tt) (lit< tt))
   where
-    by : (a : Verdict) → Unlike 6 a → and_then a (records_good s.swap s.notch rows n) ≡ Refused (BadRecord place) → a ≡ Accepted
-    by Accepted h e = refl
-    by (Refused r) h e = absurd (h (ap (λ (v : Verdict). (handed_verdict v).number) e))
+    by : (a : Verdict) → Unlike 6 a → and_then a (records_good s.swap s.notch rows n) ≡ Err (BadRecord place) → a ≡ (Ok tt)
+    by (Ok _) h e = refl
+    by (Err r) h e = absurd (h (ap (λ (v : Verdict). (handed_verdict v).number) e))
 
 -- an admission does not refuse by 7
 pub admission-unlike : (serves : Bool) (s : Settings) (rows : List Task) (n room : ℕ) → Unlike 7 (admission serves s rows n room)
@@ -180,7 +178,7 @@ admission-unlike serves s rows n room =
     let bad = first_bad s.swap s.notch rows n in
     then-unlike 7 (gate_of serves s n room) (records_good s.swap s.notch rows n)
     (all-unlike serves s n room 7 (lit≤ tt) (lit< tt))
-    (check-unlike 7 (ltb bad n) (BadRecord bad) Accepted (λ e. omega arith) (λ e. omega arith))
+    (check-unlike 7 (ltb bad n) (BadRecord bad) (Ok tt) (λ e. omega arith) (λ e. omega arith))
 
 -- the policy is served, and weighed where the call does not serve policy 4
 pub passed-served : (serves : Bool) (p : Policy) (m n room : ℕ) → Passed serves p m n room → Served p
@@ -201,7 +199,7 @@ pub record Ready (serves : Bool) (s : Settings) (rows : List Task) (n room : ℕ
   pub one-core : is_one_core (meant s.policy) ≡ true → s.m ≡ 1
   pub none-bad : n ≤ first_bad s.swap s.notch rows n
 
-pub admitted : (serves : Bool) (s : Settings) (rows : List Task) (n room : ℕ) → admission serves s rows n room ≡ Accepted → Ready serves s rows n room
+pub admitted : (serves : Bool) (s : Settings) (rows : List Task) (n room : ℕ) → admission serves s rows n room ≡ (Ok tt) → Ready serves s rows n room
 unfolding admission
 admitted serves s rows n room e =
     let a = then-admitted _ _ e in

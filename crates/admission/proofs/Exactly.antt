@@ -1,14 +1,12 @@
 -- "Given exactly when", of 1, 15 and 2 to 6: the admission is its chain, `admission-chain`, and where it admits nothing is left unchecked,
 -- `ready-admitted`.
 -- Assumes nothing.
-use Rattle.ground.proofs.Kit.{ℕ, Bool, true, false, not, List, [], ◌∷◌, ◌++◌, ◌≡◌, refl, ◌∙◌, ap, ltb, le-ltb}
+use Rattle.ground.proofs.Kit.{ℕ, Bool, true, false, not, List, [], ◌∷◌, ◌++◌, ◌≡◌, refl, ◌∙◌, ap, ltb, le-ltb, Ok, Err}
 use Rattle.ground.specs.Choice.{both}
 use Rattle.kinds.specs.declared.Task.{Task}
 use Rattle.kinds.specs.declared.Settings.{Settings}
 use Rattle.kinds.specs.declared.Refusal.TheVariants.{NoSuchPolicy, PolicyWithdrawn, Misset, TooManyTasks, PolicyNotServed, OutputTooShort, BadRecord}
-use Rattle.kinds.specs.declared.Verdict.{Verdict}
-use Rattle.kinds.specs.declared.Verdict.TheVariants.{Accepted, Refused}
-use Rattle.kinds.specs.Answer.{handed_verdict}
+use Rattle.kinds.specs.Answer.{handed_verdict, Verdict}
 use Rattle.kinds.specs.Limits.{most_tasks}
 use Rattle.kinds.specs.Policy.{meant, is_first_fit, is_withdrawn, is_further}
 use Rattle.kinds.specs.Chain.{Check, ◌when◌, first_by, first_of, Exactly, numbers_given}
@@ -21,7 +19,7 @@ use Rattle.admission.proofs.Sentences.{two-says}
 
 -- two chains of a verdict, one after the other
 pub then-first : (xs ys : List Check) → and_then (first_of xs) (first_of ys) ≡ first_of (xs ++ ys)
-then-first xs ys = first-through (λ v. and_then v (first_of ys)) Refused Accepted xs ∙ first_then Refused Accepted xs ys
+then-first xs ys = first-through (λ v. and_then v (first_of ys)) Err (Ok tt) xs ∙ first_then Err (Ok tt) xs ys
 
 -- a call that does not serve policy 4 refuses it by 4
 pub unserved : (first : Bool) → both first (not false) ≡ first
@@ -53,7 +51,7 @@ module _ (serves : Bool) (s : Settings) (rows : List Task) (n room : ℕ) where
   admission-numbers = refl
 
 -- what was checked is enough
-pub ready-admitted : (serves : Bool) (s : Settings) (rows : List Task) (n room : ℕ) → Ready serves s rows n room → admission serves s rows n room ≡ Accepted
+pub ready-admitted : (serves : Bool) (s : Settings) (rows : List Task) (n room : ℕ) → Ready serves s rows n room → admission serves s rows n room ≡ (Ok tt)
 unfolding admission gate
 ready-admitted serves s rows n room r =
     let a = r.passed in

@@ -1,26 +1,24 @@
 -- Document 01, "Numbers we hand back": the checks that every call on a table makes first, the lowest number first.
 -- Assumes nothing.
-use Rattle.std.specs.Prelude.{ℕ, Bool, not, List, ltb, eqb}
+use Rattle.std.specs.Prelude.{ℕ, Bool, not, List, ltb, eqb, Ok, Err}
 use Rattle.ground.specs.Choice.{both, either}
 use Rattle.kinds.specs.declared.Task.{Task}
 use Rattle.kinds.specs.declared.Policy.{Policy}
 use Rattle.kinds.specs.declared.Settings.{Settings}
 use Rattle.kinds.specs.declared.Refusal.TheVariants.{NoSuchPolicy, PolicyWithdrawn, Misset, TooManyTasks, PolicyNotServed, OutputTooShort, BadRecord}
-use Rattle.kinds.specs.declared.Verdict.{Verdict}
-use Rattle.kinds.specs.declared.Verdict.TheVariants.{Accepted, Refused}
 use Rattle.kinds.specs.Limits.{most_tasks, most_processors, share_edition, charge_edition}
 use Rattle.kinds.specs.Policy.{meant, is_first_fit, is_one_core, is_withdrawn, is_further}
-use Rattle.kinds.specs.Answer.{check}
+use Rattle.kinds.specs.Answer.{check, Verdict}
 use Rattle.share.specs.Table.{first_bad}
 
 -- what comes after a verdict
 abbrev pub and_then : Verdict → Verdict → Verdict
-and_then Accepted rest = rest
-and_then (Refused r) rest = Refused r
+and_then (Ok _) rest = rest
+and_then (Err r) rest = Err r
 
 -- the policy's own refusal: 1 where it is none of those numbered, and in the same place 15 where it is withdrawn
 abbrev pub knows : Policy → Verdict
-knows p = check (is_further p) (Refused NoSuchPolicy) (check (is_withdrawn p) (Refused PolicyWithdrawn) Accepted)
+knows p = check (is_further p) (Err NoSuchPolicy) (check (is_withdrawn p) (Err PolicyWithdrawn) (Ok tt))
 
 -- what 2 is given for: m is 0 or above the most
 abbrev pub misset : ℕ → Bool
@@ -44,15 +42,15 @@ misset_under s = either (misset_numbers s) (unsuited (meant s.policy) s.m)
 
 -- 2 and 3, for any kind of table: something is misset, more tasks than there may be
 unfoldable pub gate : Bool → ℕ → Verdict
-gate misset n = check misset (Refused Misset) (check (ltb most_tasks n) (Refused (TooManyTasks n)) Accepted)
+gate misset n = check misset (Err Misset) (check (ltb most_tasks n) (Err (TooManyTasks n)) (Ok tt))
 
 -- 4: policy 4 is asked of a call that does not serve it
 abbrev pub served : Bool → Policy → Verdict
-served serves p = check (both (is_first_fit p) (not serves)) (Refused PolicyNotServed) Accepted
+served serves p = check (both (is_first_fit p) (not serves)) (Err PolicyNotServed) (Ok tt)
 
 -- 5: the shortest lent output holds fewer entries than there are tasks
 abbrev pub roomy : ℕ → ℕ → Verdict
-roomy n room = check (ltb room n) (Refused (OutputTooShort n)) Accepted
+roomy n room = check (ltb room n) (Err (OutputTooShort n)) (Ok tt)
 
 -- 1 to 5 of a call on n tasks that serves policy 4, or does not
 abbrev pub gate_of : Bool → Settings → ℕ → ℕ → Verdict
@@ -62,7 +60,7 @@ gate_of serves s n room =
 
 -- 6: the first bad record, or n where there is none
 abbrev pub judged : ℕ → ℕ → Verdict
-judged bad n = check (ltb bad n) (Refused (BadRecord bad)) Accepted
+judged bad n = check (ltb bad n) (Err (BadRecord bad)) (Ok tt)
 
 -- of some records, where a swap costs w and a notch is q
 abbrev pub records_good : ℕ → ℕ → List Task → ℕ → Verdict

@@ -1,26 +1,24 @@
-// The one admission: what every call on a table checks before it works, in document 01's order. Between `gate_of` and `judge` a call hands its
-// table to the walk that works the springs out, which says the first bad record. Contracts cite `specs/Admission`.
+// The one admission: what every call on a table checks before it works, in document 01's order, each check by `?` after the one before it.
+// Contracts cite `specs/Admission` and `specs/Handover`.
 #![tactic(auto)]
 
-ghost use Rattle.std.specs.Prelude.{not, ◌≡◌};
-ghost use Rattle.ground.specs.Choice.{both};
-ghost use Rattle.kinds.specs.Policy.{is_first_fit};
-ghost use Rattle.admission.specs.Admission.{and_then, knows, misset, no_edition, misset_numbers, unsuited, misset_under};
-ghost use Rattle.admission.specs.Admission.{gate, served, roomy, gate_of, judged};
+ghost use Rattle.std.specs.Prelude.{◌≡◌};
+ghost use Rattle.admission.specs.Admission.{knows, misset, no_edition, misset_numbers, unsuited, misset_under};
+ghost use Rattle.admission.specs.Admission.{gate, served, roomy, gate_of};
+ghost use Rattle.admission.specs.Handover.{AdmittedSprung};
+ghost use Rattle.springs.specs.Handover.{Empty};
 
-use kinds::{Policy, Refusal, Settings, Table, Verdict};
+use kinds::{Policy, Refusal, Settings, Table};
+use springs::Springs;
 
 // The policy's own refusal: 1 where it is none of those numbered, 15 where it is withdrawn.
-pub fn knows(policy: Policy) -> Verdict
+pub fn knows(policy: Policy) -> Result<(), Refusal>
     ensures { result ≡ knows policy }
 {
     match policy {
-        Policy::Pooled => Verdict::Accepted,
-        Policy::GlobalEdf => Verdict::Accepted,
-        Policy::GlobalRm => Verdict::Refused(Refusal::PolicyWithdrawn),
-        Policy::FirstFit => Verdict::Accepted,
-        Policy::OneCoreRm => Verdict::Accepted,
-        Policy::Further(_) => Verdict::Refused(Refusal::NoSuchPolicy),
+        Policy::Pooled | Policy::GlobalEdf | Policy::FirstFit | Policy::OneCoreRm => Ok(()),
+        Policy::GlobalRm => Err(Refusal::PolicyWithdrawn),
+        Policy::Further(_) => Err(Refusal::NoSuchPolicy),
     }
 }
 
@@ -28,10 +26,7 @@ pub fn knows(policy: Policy) -> Verdict
 pub fn misset(m: u16) -> bool
     ensures { result ≡ misset m }
 {
-    if m < 1 {
-        return true;
-    }
-    Settings::MOST_PROCESSORS < m
+    !(1..=Settings::MOST_PROCESSORS).contains(&m)
 }
 
 // Whether there is no such edition.
@@ -45,13 +40,7 @@ fn no_edition(edition: u16) -> bool
 pub fn misset_numbers(settings: Settings) -> bool
     ensures { result ≡ misset_numbers settings }
 {
-    if misset(settings.m) {
-        return true;
-    }
-    if settings.notch == 0 {
-        return true;
-    }
-    no_edition(settings.edition)
+    misset(settings.m) || settings.notch == 0 || no_edition(settings.edition)
 }
 
 // Whether policy 5, which needs one processor, is asked for on another number of them.
@@ -65,80 +54,69 @@ fn unsuited(policy: Policy, m: u16) -> bool
 pub fn misset_under(settings: Settings) -> bool
     ensures { result ≡ misset_under settings }
 {
-    if misset_numbers(settings) {
-        return true;
-    }
     let asked = settings.policy;
-    unsuited(asked.meant(), settings.m)
+    misset_numbers(settings) || unsuited(asked.meant(), settings.m)
 }
 
 // Refusals 2 and 3, for any kind of table: something is misset, and the count n.
-pub fn gate(misset: bool, n: usize) -> Verdict
+#[tactic(auto, unfolding(crate::specs::Admission::gate))]
+pub fn gate(misset: bool, n: usize) -> Result<(), Refusal>
     ensures { result ≡ gate misset n }
 {
     if misset {
-        return Verdict::Refused(Refusal::Misset);
+        return Err(Refusal::Misset);
     }
     if Table::MOST_TASKS < n {
-        return Verdict::Refused(Refusal::TooManyTasks(n));
+        return Err(Refusal::TooManyTasks(n));
     }
-    Verdict::Accepted
+    Ok(())
 }
 
 // Refusal 5: the room of the shortest lent output.
-pub fn roomy(n: usize, room: usize) -> Verdict
+pub fn roomy(n: usize, room: usize) -> Result<(), Refusal>
     ensures { result ≡ roomy n room }
 {
     if room < n {
-        return Verdict::Refused(Refusal::OutputTooShort(n));
+        return Err(Refusal::OutputTooShort(n));
     }
-    Verdict::Accepted
+    Ok(())
 }
 
-// Whether policy 4 is asked of a call that does not serve it.
-fn unserved(policy: Policy, serves: bool) -> bool
-    ensures { result ≡ both (is_first_fit policy) (not serves) }
-{
-    policy.is_first_fit() && !serves
-}
-
-// Refusal 4.
-fn served(policy: Policy, serves: bool) -> Verdict
+// Refusal 4: policy 4 is asked of a call that does not serve it.
+fn served(policy: Policy, serves: bool) -> Result<(), Refusal>
     ensures { result ≡ served serves policy }
 {
-    if unserved(policy, serves) {
-        return Verdict::Refused(Refusal::PolicyNotServed);
+    if policy.is_first_fit() && !serves {
+        return Err(Refusal::PolicyNotServed);
     }
-    Verdict::Accepted
-}
-
-// A verdict that comes first, else the rest.
-pub fn and_then(first: Verdict, rest: Verdict) -> Verdict
-    ensures { result ≡ and_then first rest }
-{
-    match first {
-        Verdict::Accepted => rest,
-        Verdict::Refused(refusal) => Verdict::Refused(refusal),
-    }
+    Ok(())
 }
 
 // Refusals 1 to 5 of a call on n tasks that serves policy 4, or does not.
-pub fn gate_of(settings: Settings, serves: bool, n: usize, room: usize) -> Verdict
+pub fn gate_of(settings: Settings, serves: bool, n: usize, room: usize) -> Result<(), Refusal>
     ensures { result ≡ gate_of serves settings n room }
 {
     let asked = settings.policy;
     let policy = asked.meant();
-    let last = and_then(served(policy, serves), roomy(n, room));
-    let from_two = and_then(gate(misset_under(settings), n), last);
-    and_then(knows(policy), from_two)
+    knows(policy)?;
+    gate(misset_under(settings), n)?;
+    served(policy, serves)?;
+    roomy(n, room)
 }
 
-// Refusal 6: of n records the first that is not good, or n where all are.
-pub fn judge(bad: usize, n: usize) -> Verdict
-    ensures { result ≡ judged bad n }
+// Refusals 1 to 6. Where none is given, the springs of the table are taken in.
+pub fn admit(
+    table: Table,
+    settings: Settings,
+    serves: bool,
+    room: usize,
+    springs: &mut Springs,
+) -> Result<(), Refusal>
+    requires { Empty settings.notch springs.old }
+    ensures { AdmittedSprung serves settings table.rows table.n room result springs.new }
 {
-    if bad < n {
-        return Verdict::Refused(Refusal::BadRecord(bad));
-    }
-    Verdict::Accepted
+    gate_of(settings, serves, table.n, room)?;
+    springs
+        .take_in(table, settings.swap)
+        .map_err(Refusal::BadRecord)
 }

@@ -1,41 +1,40 @@
 // The cases of the finders.
 use crate::line::FIELDS;
 use crate::show::LENT;
-use crate::{show, tables};
+use crate::{line, show, tables};
 use kinds::{Settings, Table};
 use std::io;
+use std::io::Write;
 
-pub(crate) fn plain(rt: HostRuntime, table: Table, settings: Settings) -> io::Result<()> {
+pub(crate) fn plain<W: Write>(to: &mut W, table: Table, settings: Settings) -> io::Result<()> {
     let mut periods = [7u32; LENT];
     let mut processors = [9u16; LENT];
-    show::words(rt, b"\nplain")?;
-    show::answer(
-        rt,
-        plain_finder::find(table, settings, &mut periods, &mut processors),
-    )?;
-    show::periods(rt, table.n, periods)?;
-    show::processors(rt, table.n, processors)
+    write!(to, "\nplain")?;
+    let answer = plain_finder::find(table, settings, &mut periods, &mut processors);
+    show::answer(to, answer)?;
+    show::output(to, "periods", table.n, &periods)?;
+    show::output(to, "processors", table.n, &processors)
 }
 
-pub(crate) fn quick(rt: HostRuntime, table: Table, settings: Settings) -> io::Result<()> {
+pub(crate) fn quick<W: Write>(to: &mut W, table: Table, settings: Settings) -> io::Result<()> {
     let mut periods = [7u32; LENT];
     let mut processors = [9u16; LENT];
-    show::words(rt, b"\nquick")?;
+    write!(to, "\nquick")?;
     let looked = quick_finder::find(table, settings, &mut periods, &mut processors);
-    let answer = looked.answer;
-    show::answer(rt, answer)?;
-    show::named(rt, b" looks", looked.looks as u64)?;
-    show::periods(rt, table.n, periods)?;
-    show::processors(rt, table.n, processors)
+    show::answer(to, looked.answer)?;
+    write!(to, " looks {}", looked.looks)?;
+    show::output(to, "periods", table.n, &periods)?;
+    show::output(to, "processors", table.n, &processors)
 }
 
 // The finder of jobs that need several cores; field 3 has m.
-pub(crate) fn wide(rt: HostRuntime, fields: [u32; FIELDS]) -> io::Result<()> {
+pub(crate) fn wide<W: Write>(to: &mut W, fields: [u32; FIELDS]) -> io::Result<()> {
     let mut periods = [7u32; LENT];
     let mut cores = [9u16; LENT];
-    let m = (fields[3] % 65_536) as u16;
     let table = tables::wide_table_of(fields);
-    show::answer(rt, wide_finder::find(table, m, &mut periods, &mut cores))?;
-    show::periods(rt, table.n, periods)?;
-    show::counts(rt, b" cores", table.n, cores)
+    let m = line::short(fields[3]);
+    let answer = wide_finder::find(table, m, &mut periods, &mut cores);
+    show::answer(to, answer)?;
+    show::output(to, "periods", table.n, &periods)?;
+    show::output(to, "cores", table.n, &cores)
 }

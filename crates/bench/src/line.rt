@@ -1,75 +1,56 @@
 // A line of `stdin`: words in quotes, and fields, parted by blanks.
-ghost use Rattle.std.specs.Prelude.{◌<◌};
-
-use crate::show;
-use std::io;
 
 // How many fields a line may have.
 pub(crate) const FIELDS: usize = 32;
 
 // What a field holds with one byte more: a number goes on, a capital letter stands for itself, and any other byte says nothing.
 fn grown(value: u32, byte: u8) -> u32 {
-    if byte < b'0' {
-        return value;
+    match byte {
+        b'0'..=b'9' => value.wrapping_mul(10).wrapping_add(u32::from(byte - b'0')),
+        b'A'..=b'Z' => u32::from(byte),
+        _ => value,
     }
-    if byte <= b'9' {
-        return ((value as u64 * 10 + (byte - b'0') as u64) % 4_294_967_296) as u32;
-    }
-    if byte < b'A' {
-        return value;
-    }
-    if byte <= b'Z' {
-        return byte as u32;
-    }
-    value
 }
 
-// The field of the byte that comes next.
-fn field_after(field: usize, byte: u8) -> usize
-    requires { field < 32 }
-    ensures { result < 32 }
-{
-    if byte != b' ' {
-        return field;
-    }
-    if field < FIELDS - 1 { field + 1 } else { field }
-}
-
-// The fields from a place to the end of its line, 0 where there are no more.
-pub(crate) fn read(text: &[u8], at: usize) -> [u32; FIELDS] {
-    let mut fields = [0u32; FIELDS];
+// The fields of the first line of a text, 0 where there are no more; what follows the last field goes on with it.
+pub(crate) fn fields(text: &[u8]) -> [u32; FIELDS] {
+    let mut fields = [0; FIELDS];
     let mut field = 0;
-    for i in at..text.len() {
-        let byte = text[i];
-        if byte == b'\n' {
-            return fields;
+    for byte in text {
+        match *byte {
+            b'\n' => return fields,
+            b' ' if field < FIELDS - 1 => field += 1,
+            byte => {
+                if let Some(value) = fields.get_mut(field) {
+                    *value = grown(*value, byte);
+                }
+            }
         }
-        fields[field] = grown(fields[field], byte);
-        field = field_after(field, byte);
     }
     fields
 }
 
-// Where the first line that begins with a letter starts; 0 where there is none.
-pub(crate) fn place_of(text: &[u8], letter: u8) -> usize {
-    let mut before = b'\n';
-    for at in 0..text.len() {
-        let byte = text[at];
-        if before == b'\n' && byte == letter {
-            return at;
-        }
-        before = byte;
-    }
-    0
+// What a field of 16 bits holds, and one of a letter.
+pub(crate) fn short(field: u32) -> u16 {
+    (field % 65_536) as u16
 }
 
-// Prints the words from a place to the next quote; returns the place after it.
-pub(crate) fn print_words(rt: HostRuntime, text: &[u8], start: usize) -> io::Result<usize> {
-    for end in start..text.len() {
-        if text[end] == b'"' {
-            show::words(rt, &text[start..end])?;
-            return Ok(end + 1);
-        }
+pub(crate) fn letter(field: u32) -> u8 {
+    (field % 256) as u8
+}
+
+// The words of a case, up to the next quote, and what follows them; none of a text that does not begin with a quote.
+pub(crate) fn case_of(text: &[u8]) -> Option<(&[u8], &[u8])> {
+    let case = text.strip_prefix(b"\"")?;
+    match case.iter().position(|byte| *byte == b'"') {
+        Some(end) => Some((&case[..end], &case[end + 1..])),
+        None => Some((&[], case)),
     }
-    Ok(start)
+}
+
+// The fields of the first line that begins with a letter, of the first line where there is none.
+pub(crate) fn fields_of(text: &[u8], letter: u8) -> [u32; FIELDS] {
+    let mut lines = text.split(|byte| *byte == b'\n');
+    let line = lines.find(|line| line.first() == Some(&letter));
+    fields(line.unwrap_or(text))
 }

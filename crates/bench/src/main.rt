@@ -9,55 +9,70 @@ mod proposals;
 mod show;
 mod tables;
 
-use kinds::Table;
 use line::FIELDS;
 use std::io;
+use std::io::Write;
 
-// A case on a table of tasks; field 8 has its step.
-fn run_on(rt: HostRuntime, table: Table, fields: [u32; FIELDS], what: u8) -> io::Result<()> {
+// What a case runs.
+#[derive(Clone, Copy)]
+enum What {
+    Both,
+    Margin,
+    FirstFit,
+    Planner,
+    Check,
+    Wide,
+}
+
+impl What {
+    // What a letter stands for.
+    fn of(letter: u8) -> Option<What> {
+        match letter {
+            b'B' => Some(What::Both),
+            b'M' => Some(What::Margin),
+            b'F' => Some(What::FirstFit),
+            b'P' => Some(What::Planner),
+            b'C' => Some(What::Check),
+            b'W' => Some(What::Wide),
+            _ => None,
+        }
+    }
+}
+
+// A case; field 1 has the letter of what is run, field 8 the step.
+fn run<W: Write>(to: &mut W, text: &[u8], fields: [u32; FIELDS]) -> io::Result<()> {
+    let Some(what) = What::of(line::letter(fields[1])) else {
+        return Ok(());
+    };
+    let table = tables::table_of(text, fields);
     let settings = tables::settings_of(fields);
     let step = fields[8];
     match what {
-        b'B' => {
-            finders::plain(rt, table, settings)?;
-            finders::quick(rt, table, settings)
+        What::Both => {
+            finders::plain(to, table, settings)?;
+            finders::quick(to, table, settings)
         }
-        b'M' => show::margin(rt, margin::margin_at(table, settings, step)),
-        b'F' => proposals::first_fit(rt, table, settings),
-        b'P' => proposals::planner(rt, table, settings, step),
-        b'C' => proposals::check(rt, table, settings, step, fields),
-        _ => Ok(()),
+        What::Margin => show::margin(to, margin::margin_at(table, settings, step)),
+        What::FirstFit => proposals::first_fit(to, table, settings),
+        What::Planner => proposals::planner(to, table, settings, step),
+        What::Check => proposals::check(to, table, settings, step, fields),
+        What::Wide => finders::wide(to, fields),
     }
-}
-
-// The case whose quoted words start at a place; field 1 has what is run.
-fn run(rt: HostRuntime, text: &[u8], start: usize) -> io::Result<()> {
-    let fields = line::read(text, line::print_words(rt, text, start)?);
-    let what = (fields[1] % 256) as u8;
-    match what {
-        b'W' => finders::wide(rt, fields)?,
-        _ => run_on(rt, tables::table_of(text, fields), fields, what)?,
-    }
-    show::words(rt, b"\n")
-}
-
-// Each line that begins with a quote is a case.
-fn run_all(rt: HostRuntime, text: &[u8]) -> io::Result<()> {
-    let mut before = b'\n';
-    for at in 0..text.len() {
-        let byte = text[at];
-        if before == b'\n' {
-            if byte == b'"' {
-                run(rt, text, at + 1)?;
-            }
-        }
-        before = byte;
-    }
-    Ok(())
 }
 
 fn main(rt: HostRuntime) -> io::Result<()> {
     let mut text = [0u8; 8192];
     let n = lent_input::read_full(&mut rt.stdin(), &mut text)?;
-    run_all(rt, &text[..n])
+    let text = &text[..n];
+    let mut out = rt.stdout();
+    let mut rest = text;
+    for line in text.split(|byte| *byte == b'\n') {
+        if let Some((words, fields)) = line::case_of(rest) {
+            out.write_all(words)?;
+            run(&mut out, text, line::fields(fields))?;
+            writeln!(out)?;
+        }
+        rest = rest.get(line.len() + 1..).unwrap_or(&[]);
+    }
+    Ok(())
 }

@@ -1,13 +1,13 @@
-// The release clock in numbers: the clock table crosses by value, both ways. Contracts cite `specs/Clocked`.
+// The release clock in numbers, since an enum does not cross to C: the clock table crosses by value, both ways. Contracts cite
+// `specs/Clocked`.
 #![tactic(auto)]
 
 ghost use Rattle.std.specs.Prelude.{◌≡◌};
 ghost use Rattle.clock.specs.Start.{started};
 ghost use Rattle.c_clock.specs.Clocked.{told_start, ToldCallIs};
 
-use c_numbers::tell_verdict;
-use clock::{Clock, Release};
-use kinds::Verdict;
+use c_numbers::ToldVerdict;
+use clock::Clock;
 
 // Number, place and the clock that is started, of zeros where the start is refused.
 #[repr(C)]
@@ -34,47 +34,26 @@ pub fn clock_start_told(periods: &[u32], tick: u32) -> ToldStart
     ensures { told_start result ≡ started periods.now tick }
 {
     let begun = clock::start(periods, tick);
-    let answer = begun.answer;
-    let clock = begun.clock;
-    let told = tell_verdict(answer);
+    let told = ToldVerdict::from(begun);
     ToldStart {
         number: told.number,
         place: told.place,
-        clock,
+        clock: begun.unwrap_or(clock::no_clock()),
     }
 }
 
 // A call with the present tick.
-pub fn clock_call_told(clock: Clock, present: u32) -> ToldCall
+pub fn clock_call_told(mut clock: Clock, present: u32) -> ToldCall
     ensures { ToldCallIs clock present result }
 {
-    let called = clock::call(clock, present);
-    let answer = called.answer;
-    let after = called.clock;
-    match answer {
-        Release::Of(task) => ToldCall {
-            number: 0,
-            due: 1,
-            task,
-            place: 0,
-            clock: after,
-        },
-        Release::NoneDue => ToldCall {
-            number: 0,
-            due: 0,
-            task: 0,
-            place: 0,
-            clock: after,
-        },
-        Release::Refused(refusal) => {
-            let told = tell_verdict(Verdict::Refused(refusal));
-            ToldCall {
-                number: told.number,
-                due: 0,
-                task: 0,
-                place: told.place,
-                clock: after,
-            }
-        }
+    let called = clock.call(present);
+    let told = ToldVerdict::from(called);
+    let due = called.unwrap_or(None);
+    ToldCall {
+        number: told.number,
+        due: u32::from(due.is_some()),
+        task: due.unwrap_or(0),
+        place: told.place,
+        clock,
     }
 }

@@ -1,11 +1,12 @@
-// Joins and leaves in numbers: the table and the index beside it cross by value, both ways. Contracts cite `specs/Kept`.
+// Joins and leaves in numbers, since an enum does not cross to C: the table and the index beside it cross by value, both ways. Contracts cite
+// `specs/Kept`.
 #![tactic(auto)]
 
 ghost use Rattle.std.specs.Prelude.{◌≡◌};
 ghost use Rattle.keep.specs.Keep.{joined, left, handed_change};
 ghost use Rattle.c_kept.specs.Kept.{told_change};
 
-use c_numbers::tell_verdict;
+use c_numbers::ToldVerdict;
 use keep::{Changed, Kept};
 use kinds::Task;
 
@@ -19,16 +20,16 @@ pub struct ToldChange {
 }
 
 // A change in numbers.
-fn tell_change(changed: Changed) -> ToldChange
-    ensures { told_change result ≡ handed_change changed }
-{
-    let answer = changed.answer;
-    let kept = changed.kept;
-    let told = tell_verdict(answer);
-    ToldChange {
-        number: told.number,
-        place: told.place,
-        kept,
+impl From<Changed> for ToldChange {
+    ghost from_gives = { λ changed told. told_change told ≡ handed_change changed };
+
+    fn from(changed: Changed) -> ToldChange {
+        let told = ToldVerdict::from(changed.answer);
+        ToldChange {
+            number: told.number,
+            place: told.place,
+            kept: changed.kept,
+        }
     }
 }
 
@@ -36,12 +37,12 @@ fn tell_change(changed: Changed) -> ToldChange
 pub fn join_told(kept: Kept, w: u16, q: u16, task: Task) -> ToldChange
     ensures { told_change result ≡ joined w q kept task }
 {
-    tell_change(keep::join(kept, w, q, task))
+    keep::join(kept, w, q, task).into()
 }
 
 // Lets the task at a place leave a table.
 pub fn leave_told(kept: Kept, w: u16, q: u16, place: usize) -> ToldChange
     ensures { told_change result ≡ left w q kept place }
 {
-    tell_change(keep::leave(kept, w, q, place))
+    keep::leave(kept, w, q, place).into()
 }

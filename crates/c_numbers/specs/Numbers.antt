@@ -1,8 +1,9 @@
 -- Settings, verdicts and counts in numbers that cross to C.
 -- Assumes nothing.
-use Rattle.std.specs.Prelude.{ℕ, List, ◌≡◌}
+use Rattle.std.specs.Prelude.{ℕ, List, ◌≡◌, Result, Ok, Err}
+use Rattle.kinds.specs.declared.Refusal.{Refusal}
 use Rattle.kinds.specs.declared.Settings.{Settings}
-use Rattle.kinds.specs.Answer.{Handed, NumberAndPlace}
+use Rattle.kinds.specs.Answer.{Handed, NumberAndPlace, Verdict}
 use Rattle.kinds.specs.Policy.{policy_of}
 use Rattle.kinds.specs.Settings.{settings}
 use Rattle.c_numbers.specs.declared.Station.{Station}
@@ -14,6 +15,11 @@ station_settings s = settings (policy_of s.policy) s.m s.w s.q s.edition
 
 abbrev pub told_verdict : ToldVerdict → NumberAndPlace
 told_verdict r = record { number = r.number; place = r.place; value = tt }
+
+-- whether an answer accepts, or its refusal
+abbrev pub verdict_of : {A : Type 0} → Result A Refusal → Verdict
+verdict_of (Ok x) = Ok tt
+verdict_of (Err r) = Err r
 
 -- number and place, with a value beside them
 abbrev pub beside : {A : Type 0} → NumberAndPlace → A → Handed A

@@ -1,11 +1,12 @@
-// What the calls of several rooms tell: settings, verdicts and counts in numbers. Contracts cite `specs/Numbers`.
+// What the calls of several rooms tell: settings, verdicts and counts in numbers, since an enum does not cross to C. Contracts cite
+// `specs/Numbers`.
 #![tactic(auto)]
 
 ghost use Rattle.std.specs.Prelude.{◌≡◌};
 ghost use Rattle.kinds.specs.Answer.{handed_verdict, handed_count};
-ghost use Rattle.c_numbers.specs.Numbers.{station_settings, told_verdict, told_count};
+ghost use Rattle.c_numbers.specs.Numbers.{station_settings, verdict_of, told_verdict, told_count};
 
-use kinds::{Counted, Policy, Settings, Verdict};
+use kinds::{Policy, Refusal, Settings};
 
 // The settings as numbers.
 #[repr(C)]
@@ -36,51 +37,43 @@ pub struct ToldCount {
 }
 
 // The settings that a station's numbers stand for.
-pub fn settings_of(station: Station) -> Settings
-    ensures { result ≡ station_settings station }
-{
-    Settings::new(
-        Policy::of(station.policy),
-        station.m,
-        station.w,
-        station.q,
-        station.edition,
-    )
+impl From<Station> for Settings {
+    ghost from_gives = { λ station s. s ≡ station_settings station };
+
+    fn from(station: Station) -> Settings {
+        let policy = Policy::from(station.policy);
+        Settings::new(policy, station.m, station.w, station.q, station.edition)
+    }
 }
 
-// A verdict in numbers.
-pub fn tell_verdict(verdict: Verdict) -> ToldVerdict
-    ensures { told_verdict result ≡ handed_verdict verdict }
-{
-    match verdict {
-        Verdict::Accepted => ToldVerdict {
-            number: 0,
-            place: 0,
-        },
-        Verdict::Refused(refusal) => ToldVerdict {
-            number: refusal.number() as u32,
-            place: refusal.place(),
-        },
+// The number and the place of any answer: of a refusal its own, of an acceptance zeros.
+impl<T: Copy> From<Result<T, Refusal>> for ToldVerdict {
+    ghost from_gives = { λ answer told. told_verdict told ≡ handed_verdict (verdict_of answer) };
+
+    fn from(answer: Result<T, Refusal>) -> ToldVerdict {
+        match answer {
+            Ok(_) => ToldVerdict {
+                number: 0,
+                place: 0,
+            },
+            Err(refusal) => ToldVerdict {
+                number: u32::from(refusal.number()),
+                place: refusal.place(),
+            },
+        }
     }
 }
 
 // A count in numbers.
-pub fn tell_count(counted: Counted) -> ToldCount
-    ensures { told_count result ≡ handed_count counted }
-{
-    match counted {
-        Counted::Count(count) => ToldCount {
-            number: 0,
-            place: 0,
-            count,
-        },
-        Counted::Refused(refusal) => {
-            let told = tell_verdict(Verdict::Refused(refusal));
-            ToldCount {
-                number: told.number,
-                place: told.place,
-                count: 0,
-            }
+impl From<Result<usize, Refusal>> for ToldCount {
+    ghost from_gives = { λ counted told. told_count told ≡ handed_count counted };
+
+    fn from(counted: Result<usize, Refusal>) -> ToldCount {
+        let told = ToldVerdict::from(counted);
+        ToldCount {
+            number: told.number,
+            place: told.place,
+            count: counted.unwrap_or(0),
         }
     }
 }

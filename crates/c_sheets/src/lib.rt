@@ -12,9 +12,9 @@ ghost use Rattle.c_numbers.specs.Numbers.{told_verdict, ToldCounts};
 ghost use Rattle.c_sheets.specs.Sheets.{sheet_of, told_sheet, in_numbers, told_reading, told_part};
 ghost use Rattle.c_sheets.specs.Back.{back_handed, after_back};
 
-use c_numbers::{Station, ToldCount, ToldVerdict, settings_of, tell_count, tell_verdict};
+use c_numbers::{Station, ToldCount, ToldVerdict};
 use change_over::Which;
-use kinds::{Results, Sheet, Table};
+use kinds::{Results, Settings, Sheet, Table};
 
 // A sheet in numbers: how many numbers its settings section has, and its sections.
 #[repr(C)]
@@ -45,41 +45,38 @@ pub struct ToldPart {
 }
 
 // The sheet that the numbers stand for.
-fn sheet_of(x: StationSheet) -> Sheet
-    ensures { result ≡ sheet_of x }
-{
-    let station = x.station;
-    let table = x.table;
-    let results = x.results;
-    let settings = settings_of(station);
-    Sheet {
-        count: x.count,
-        settings,
-        table,
-        results,
+impl From<StationSheet> for Sheet {
+    ghost from_gives = { λ numbers sheet. sheet ≡ sheet_of numbers };
+
+    fn from(numbers: StationSheet) -> Sheet {
+        Sheet {
+            count: numbers.count,
+            settings: Settings::from(numbers.station),
+            table: numbers.table,
+            results: numbers.results,
+        }
     }
 }
 
 // A sheet in numbers.
-fn numbers_of(sheet: Sheet) -> StationSheet
-    ensures { result ≡ told_sheet sheet }
-{
-    let settings = sheet.settings;
-    let policy = settings.policy;
-    let table = sheet.table;
-    let results = sheet.results;
-    let station = Station {
-        policy: policy.number(),
-        m: settings.m,
-        w: settings.swap,
-        q: settings.notch,
-        edition: settings.edition,
-    };
-    StationSheet {
-        count: sheet.count,
-        station,
-        table,
-        results,
+impl From<Sheet> for StationSheet {
+    ghost from_gives = { λ sheet numbers. numbers ≡ told_sheet sheet };
+
+    fn from(sheet: Sheet) -> StationSheet {
+        let settings = sheet.settings;
+        let station = Station {
+            policy: u16::from(settings.policy),
+            m: settings.m,
+            w: settings.swap,
+            q: settings.notch,
+            edition: settings.edition,
+        };
+        StationSheet {
+            count: sheet.count,
+            station,
+            table: sheet.table,
+            results: sheet.results,
+        }
     }
 }
 
@@ -88,14 +85,11 @@ pub fn read_told(bytes: &[u8]) -> ToldReading
     ensures { told_reading result ≡ in_numbers (read_sheet bytes.now) }
 {
     let reading = sheet::read(bytes);
-    let verdict = reading.verdict;
-    let x = reading.sheet;
-    let told = tell_verdict(verdict);
-    let sheet = numbers_of(x);
+    let told = ToldVerdict::from(reading.verdict);
     ToldReading {
         number: told.number,
         place: told.place,
-        sheet,
+        sheet: StationSheet::from(reading.sheet),
     }
 }
 
@@ -103,7 +97,7 @@ pub fn read_told(bytes: &[u8]) -> ToldReading
 pub fn write_told(sheet: StationSheet, out: &mut [u8]) -> ToldCount
     ensures { ToldCounts (write_sheet (sheet_of sheet) (length out.old)) (after_write (sheet_of sheet) out.old) result out.new }
 {
-    tell_count(writer::write(sheet_of(sheet), out))
+    ToldCount::from(writer::write(Sheet::from(sheet), out))
 }
 
 // Reads a station sheet and writes it back, by the two calls that C makes: the same bytes, whatever bytes read.
@@ -113,30 +107,28 @@ pub fn write_back_told(bytes: &[u8], out: &mut [u8]) -> ToldCount
 {
     field::all_bytes(bytes);
     let reading = read_told(bytes);
-    let none = 0;
     if reading.number != 0 {
         return ToldCount {
             number: reading.number,
             place: reading.place,
-            count: none,
+            count: 0,
         };
     }
-    let sheet = reading.sheet;
-    write_told(sheet, out)
+    write_told(reading.sheet, out)
 }
 
 // Fills in the sheet that was read, or refuses it; a refusal writes nothing.
 pub fn fill_told(bytes: &[u8], out: &mut [u8; sheet::LONGEST]) -> ToldCount
     ensures { ToldCounts (counted (planned bytes.now)) (after_fill (planned bytes.now) out.old) result out.new }
 {
-    tell_count(fill::fill_in(bytes, out))
+    ToldCount::from(fill::fill_in(bytes, out))
 }
 
 // Whether a filled sheet has the results that the plain finder gives.
 pub fn check_told(bytes: &[u8]) -> ToldVerdict
     ensures { told_verdict result ≡ checked bytes.now }
 {
-    tell_verdict(filled_sheet::check(bytes))
+    ToldVerdict::from(filled_sheet::check(bytes))
 }
 
 // Which part of which sheet the change-over answers.

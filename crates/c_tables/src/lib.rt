@@ -16,8 +16,9 @@ ghost use Rattle.reason.specs.WideReason.{wide_reason_of, wide_reason_number};
 ghost use Rattle.c_numbers.specs.Numbers.{station_settings};
 ghost use Rattle.c_tables.specs.Told.{told_handed, told_margin, ToldMeets, ToldLooked, ToldProposal, ToldRelieved};
 
-use c_numbers::{Station, ToldVerdict, settings_of, tell_verdict};
-use kinds::{Answer, Margin, Table, Task, Verdict};
+use c_numbers::{Station, ToldVerdict};
+use kinds::{Refusal, Table, Task};
+use relief::Relief;
 use wide_task::{WideTable, WideTask};
 
 // Number, step, looks and place. A refusal's step is 0; the plain finder makes no looks.
@@ -50,25 +51,15 @@ pub struct ToldRelief {
 }
 
 // An answer in numbers, with its looks.
-fn tell(answer: Answer, looks: u32) -> Told
+fn tell(answer: Result<u32, Refusal>, looks: u32) -> Told
     ensures { (told_handed result ≡ handed answer) × (result.looks ≡ looks) }
 {
-    match answer {
-        Answer::Accepted(step) => Told {
-            number: 0,
-            step,
-            looks,
-            place: 0,
-        },
-        Answer::Refused(refusal) => {
-            let told = tell_verdict(Verdict::Refused(refusal));
-            Told {
-                number: told.number,
-                step: 0,
-                looks,
-                place: told.place,
-            }
-        }
+    let told = ToldVerdict::from(answer);
+    Told {
+        number: told.number,
+        step: answer.unwrap_or(0),
+        looks,
+        place: told.place,
     }
 }
 
@@ -83,7 +74,7 @@ pub fn plain_told(
         result periods.new processors.new }
 {
     tell(
-        plain_finder::find(table, settings_of(station), periods, processors),
+        plain_finder::find(table, station.into(), periods, processors),
         0,
     )
 }
@@ -98,29 +89,20 @@ pub fn quick_told(
     ensures { ToldLooked (station_settings station) table.rows table.n periods.old processors.old
         result periods.new processors.new }
 {
-    let looked = quick_finder::find(table, settings_of(station), periods, processors);
-    let answer = looked.answer;
-    tell(answer, looked.looks)
+    let looked = quick_finder::find(table, station.into(), periods, processors);
+    tell(looked.answer, looked.looks)
 }
 
 // The margin on a table by value.
 pub fn margin_told(table: Table, station: Station, step: u32) -> ToldMargin
     ensures { told_margin result ≡ margin_handed (station_settings station) table.rows table.n step }
 {
-    match margin::margin_at(table, settings_of(station), step) {
-        Margin::Is(margin) => ToldMargin {
-            number: 0,
-            place: 0,
-            margin,
-        },
-        Margin::Refused(refusal) => {
-            let told = tell_verdict(Verdict::Refused(refusal));
-            ToldMargin {
-                number: told.number,
-                place: told.place,
-                margin: 0,
-            }
-        }
+    let margin = margin::margin_at(table, station.into(), step);
+    let told = ToldVerdict::from(margin);
+    ToldMargin {
+        number: told.number,
+        place: told.place,
+        margin: margin.unwrap_or(0),
     }
 }
 
@@ -128,9 +110,9 @@ pub fn margin_told(table: Table, station: Station, step: u32) -> ToldMargin
 pub fn relief_told(table: Table, station: Station, without: &mut [u32]) -> ToldRelief
     ensures { ToldRelieved (relieved (station_settings station) table.rows table.n without.old) result without.new }
 {
-    let relief = relief::relief_of(table, settings_of(station), without);
-    let verdict = relief.verdict;
-    let told = tell_verdict(verdict);
+    let answer = relief::relief_of(table, station.into(), without);
+    let told = ToldVerdict::from(answer);
+    let relief = answer.unwrap_or(Relief::NONE);
     ToldRelief {
         number: told.number,
         least: relief.least,
@@ -151,7 +133,7 @@ pub fn check_proposal_told(
         (checker.outcome (station_settings station) table.rows table.n step proposal.now loads.old)
         result loads.new }
 {
-    tell_verdict(proposal::check(table, settings_of(station), step, proposal, loads))
+    proposal::check(table, station.into(), step, proposal, loads).into()
 }
 
 // The finder for tasks that need several cores, on a table by value.
@@ -167,7 +149,7 @@ pub fn reason_told(task: Task, w: u16, q: u16) -> u32
     ensures { result ≡ reason_number (reason_of w q task) }
 {
     let reason = reason::reason_of(task, w, q);
-    reason.number() as u32
+    reason.map_or(0, |reason| u32::from(reason.number()))
 }
 
 // The same of a task that needs several cores.
@@ -175,13 +157,13 @@ pub fn wide_reason_told(task: WideTask) -> u32
     ensures { result ≡ wide_reason_number (wide_reason_of task) }
 {
     let reason = reason::wide_reason_of(task);
-    reason.number() as u32
+    reason.map_or(0, |reason| u32::from(reason.number()))
 }
 
 // The share of a record at any step; 0 where it is not good.
 pub fn share_told(task: Task, station: Station, step: u32) -> u32
     ensures { result ≡ share_under (station_settings station) task step }
 {
-    let share = share::share_at(task, settings_of(station), step);
+    let share = share::share_at(task, station.into(), step);
     share.parts as u32
 }

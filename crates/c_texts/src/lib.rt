@@ -3,10 +3,11 @@
 
 ghost use Rattle.c_texts.specs.Texts.{ToldReads, ToldExports};
 
-use c_numbers::{ToldCount, tell_count};
+use c_numbers::ToldCount;
 use kinds::Table;
 
-// What an import by value tells, with the table; a refused one has the table of no tasks.
+// What an import by value tells, with the table; a refused one has the table of no tasks, as both go on to C: the numbers, and the rows to a
+// lent slice.
 #[derive(Clone, Copy)]
 pub struct ToldImport {
     pub told: ToldCount,
@@ -18,11 +19,9 @@ pub fn import_told(text: &[u8], room: usize) -> ToldImport
     ensures { ToldReads text.now room result }
 {
     let imported = office::import(text, room);
-    let answer = imported.answer;
-    let table = imported.table;
     ToldImport {
-        told: tell_count(answer),
-        table,
+        told: imported.answer.into(),
+        table: imported.table,
     }
 }
 
@@ -30,5 +29,5 @@ pub fn import_told(text: &[u8], room: usize) -> ToldImport
 pub fn export_told(table: Table, out: &mut [u8]) -> ToldCount
     ensures { ToldExports table.rows table.n out.old result out.new }
 {
-    tell_count(office::export(table, out))
+    office::export(table, out).into()
 }

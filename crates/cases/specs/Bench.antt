@@ -1,14 +1,13 @@
 -- Document 01, "Bench settings to try": the cases with a star as one table, and the claim that each line of it is right: A to E and I of the
 -- calls, admission included, and F, G and H of the rule of policy 3, which is withdrawn.
 -- Assumes nothing.
-use Rattle.std.specs.Prelude.{ℕ, Bool, true, List, [], ◌∷◌, map, ◌≡◌, ℤ, pos, negsuc, length, replicate}
+use Rattle.std.specs.Prelude.{ℕ, Bool, true, List, [], ◌∷◌, map, ◌≡◌, ℤ, pos, negsuc, length, replicate, Ok}
 use Rattle.ground.specs.Choice.{pick}
 use Rattle.ground.specs.Folds.{list_to}
 use Rattle.kinds.specs.declared.Settings.{Settings}
 use Rattle.kinds.specs.declared.Task.{Task}
 use Rattle.kinds.specs.declared.Policy.{Policy}
 use Rattle.kinds.specs.declared.Policy.TheVariants.{Pooled, GlobalEdf, GlobalRm}
-use Rattle.kinds.specs.declared.Verdict.TheVariants.{Accepted}
 use Rattle.kinds.specs.Answer.{Handed, accepted}
 use Rattle.kinds.specs.Limits.{share_edition}
 use Rattle.kinds.specs.Policy.{meant, is_withdrawn}
@@ -48,7 +47,7 @@ goes_past s = is_withdrawn (meant s.policy)
 -- what a finder promises, admission included; past admission, what the rule gives
 abbrev pub answered : Settings → List Task → ℕ → plan.Outcome
 answered s tasks n =
-    let least = plan.decided Accepted (least_under s tasks n) in
+    let least = plan.decided (Ok tt) (least_under s tasks n) in
     pick (goes_past s)
     (record {
       handed = least;

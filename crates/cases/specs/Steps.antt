@@ -1,7 +1,6 @@
 -- Document 01's bench cases J and K, which have no star: full compression, which steps pass, and what is granted.
 -- Assumes nothing.
-use Rattle.std.specs.Prelude.{ℕ, List, [], ◌∷◌, ◌≡◌, length}
-use Rattle.ground.specs.declared.Step.TheVariants.{At}
+use Rattle.std.specs.Prelude.{ℕ, List, [], ◌∷◌, ◌≡◌, length, Some}
 use Rattle.ground.specs.Choice.{pick}
 use Rattle.ground.specs.Folds.{list_to}
 use Rattle.kinds.specs.declared.Policy.TheVariants.{Pooled, FirstFit}
@@ -41,6 +40,6 @@ pub record StepsOfJ : Type 0 where
 pub record StepsOfK : Type 0 where
   pub full : full_compression case_k.tasks 7 ≡ 15
   pub all : passing case_k (list_to (λ k. k) 16) ≡ 5 ∷ 6 ∷ []
-  pub answer : least_step case_k.policy case_k.m (shares case_k.tasks) 7 15 ≡ At 5
+  pub answer : least_step case_k.policy case_k.m (shares case_k.tasks) 7 15 ≡ Some 5
   pub periods : periods_at 1 case_k.tasks 7 5 ≡ 4286 ∷ 1000 ∷ 1000 ∷ 1000 ∷ 1000 ∷ 1000 ∷ 1000 ∷ []
   pub processors : processors_at case_k.policy case_k.m (shares case_k.tasks) 7 5 ≡ 1 ∷ 2 ∷ 2 ∷ 3 ∷ 1 ∷ 2 ∷ 3 ∷ []

@@ -1,13 +1,11 @@
 -- The part that a change-over names stands in the sheet that it is a part of, `part-fits`, and no second answer meets the promise.
 -- Assumes nothing.
-use Rattle.ground.proofs.Kit.{ℕ, ◌+◌, ◌-◌, ◌*◌, ◌≤◌, List, ◌≡◌, refl, sym, ◌∙◌, arith, length, take, drop}
+use Rattle.ground.proofs.Kit.{ℕ, ◌+◌, ◌-◌, ◌*◌, ◌≤◌, Option, Some, None, List, ◌≡◌, refl, sym, ◌∙◌, arith, length, take, drop}
 use Rattle.kinds.specs.Limits.{most_settings, most_tasks}
 use Rattle.sheet.specs.Sections.{task_size, records_place, results_place}
 use Rattle.change_over.specs.declared.Which.{Which}
 use Rattle.change_over.specs.declared.Which.TheVariants.{Standing, Proposed}
 use Rattle.change_over.specs.declared.Part.{Part}
-use Rattle.change_over.specs.declared.Section.{Section}
-use Rattle.change_over.specs.declared.Section.TheVariants.{Tasks, Nothing}
 use Rattle.change_over.specs.ChangeOver.{section_of, tasks_part, tasks_or, empty_front, change_over, one_of, IsPart}
 use Rattle.change_over.proofs.Sections.{section-fits}
 
@@ -18,16 +16,16 @@ tasks-part which settings n from size a b = λ i. record { which = which; from =
 
 -- the three answers
 module _ (standing proposed : List ℕ) where
-  pub takes-proposed : (settings n : ℕ) → section_of proposed ≡ Tasks settings n → tasks_part Proposed settings n ≡ change_over standing proposed
+  pub takes-proposed : (settings n : ℕ) → section_of proposed ≡ Some (settings, n) → tasks_part Proposed settings n ≡ change_over standing proposed
   unfolding change_over
   takes-proposed settings n p = rw p
 
-  pub takes-standing : section_of proposed ≡ Nothing → (settings n : ℕ) → section_of standing ≡ Tasks settings n
+  pub takes-standing : section_of proposed ≡ None → (settings n : ℕ) → section_of standing ≡ Some (settings, n)
       → tasks_part Standing settings n ≡ change_over standing proposed
   unfolding change_over
   takes-standing p settings n q = rw (p, q)
 
-  pub takes-nothing : section_of proposed ≡ Nothing → section_of standing ≡ Nothing → empty_front ≡ change_over standing proposed
+  pub takes-nothing : section_of proposed ≡ None → section_of standing ≡ None → empty_front ≡ change_over standing proposed
   unfolding change_over
   takes-nothing p q = rw (p, q)
 
@@ -36,12 +34,12 @@ module _ (standing proposed : List ℕ) where
   Fits part =
       (part.from + part.size ≤ results_place most_settings most_tasks) × (part.from + part.size ≤ length (one_of part.which standing proposed))
 
-  tasks-fit : (which : Which) (section : Section) (other : Part) → section_of (one_of which standing proposed) ≡ section → Fits other
+  tasks-fit : (which : Which) (section : Option (ℕ × ℕ)) (other : Part) → section_of (one_of which standing proposed) ≡ section → Fits other
       → Fits (tasks_or which section other)
-  tasks-fit which (Tasks settings n) other e fits =
-      let few = section-fits (one_of which standing proposed) settings n e in
+  tasks-fit which (Some section) other e fits =
+      let few = section-fits (one_of which standing proposed) section.0 section.1 e in
       (omega (arith, few), omega (arith, few))
-  tasks-fit which Nothing other e fits = fits
+  tasks-fit which None other e fits = fits
 
   pub part-fits : (part : Part) → part ≡ change_over standing proposed → Fits part
   unfolding change_over

@@ -1,58 +1,56 @@
 -- What the reader and the plain finder say of a sheet together, and that the task section of one that both accept stands in it: `section-fits`.
 -- Assumes nothing.
-use Rattle.ground.proofs.Kit.{ℕ, ◌≤◌, Bool, true, false, List, ◌≡◌, refl, sym, ◌∙◌, ap, arith, length, ne_eqb, eqb-true}
+use Rattle.ground.proofs.Kit.{ℕ, ◌≤◌, Bool, true, false, List, ◌≡◌, refl, sym, ◌∙◌, ap, arith, length, ne_eqb, eqb-true, Option, Some, None, Result, Ok, Err}
+use Rattle.std.specs.Result.{IfOk, IfErr, result_ok}
+use Rattle.std.proofs.lemmas.Option.{same_Some, none-some}
 use Rattle.ground.specs.Choice.{pick}
 use Rattle.ground.proofs.Cases.{both_true}
 use Rattle.kinds.specs.declared.Refusal.{Refusal}
 use Rattle.kinds.specs.declared.Sheet.{Sheet}
-use Rattle.kinds.specs.declared.Answer.{Answer}
-use Rattle.kinds.specs.declared.Answer.TheVariants as answer
 use Rattle.kinds.specs.Limits.{most_settings, most_tasks}
 use Rattle.kinds.specs.Refusal.{number_of}
-use Rattle.kinds.specs.Answer.{accepted, refused, handed, is_accepted, handed_with}
+use Rattle.kinds.specs.Answer.{accepted, handed, Answer}
 use Rattle.kinds.proofs.Refusals.{refusal-numbered}
 use Rattle.plain_finder.specs.Asked.{asked}
-use Rattle.kinds.specs.declared.Verdict.{Verdict}
-use Rattle.kinds.specs.declared.Verdict.TheVariants as verdict
 use Rattle.sheet.specs.declared.Reading.{Reading}
 use Rattle.sheet.specs.Sections.{results_place}
 use Rattle.sheet.specs.Reading.{sheet_in, read_sheet, handed_reading}
+use Rattle.sheet.proofs.Handed.{handed-as, accepted-as}
 use Rattle.sheet.proofs.Whole.{whole, few-settings}
 use Rattle.sheet.proofs.Numbered.{accepted-by-number}
-use Rattle.change_over.specs.declared.Section.TheVariants.{Tasks, Nothing}
 use Rattle.change_over.specs.ChangeOver.{acceptable, section_of}
 
+-- by what the reader hands back
 module _ (s : List ℕ) (r : Reading) (read : handed_reading r ≡ read_sheet s) where
   -- a sheet that does not read
-  pub unread : (q : Refusal) → r.verdict ≡ verdict.Refused q → Nothing ≡ section_of s
+  pub unread : (x : Result Sheet Refusal) → IfErr x (λ q. r.verdict ≡ Err q) → None ≡ result_ok x → None ≡ section_of s
   unfolding section_of acceptable
-  unread q v =
-      let e : refused r.sheet q ≡ read_sheet s = ap (λ (w : Verdict). handed_with w r.sheet) (sym v) ∙ read in
-      rw (← e, ne_eqb (number_of q) 0 (λ z. omega (arith, refusal-numbered q)))
+  unread (Ok y) v e = absurd (none-some y e)
+  unread (Err q) v e = rw (handed-as s r read (Err q) v, ne_eqb (number_of q) 0 (λ z. omega (arith, refusal-numbered q)))
 
-  module _ (v : r.verdict ≡ verdict.Accepted) where
-    reads : accepted r.sheet ≡ read_sheet s
-    reads = ap (λ (w : Verdict). handed_with w r.sheet) (sym v) ∙ read
+  -- one that reads
+  pub reads : {y : Sheet} (x : Result Sheet Refusal) → IfOk x (λ z. (r.verdict ≡ (Ok tt)) × (z ≡ r.sheet)) → Some y ≡ result_ok x → read_sheet s ≡ accepted y
+  reads (Ok z) h e = accepted-as s r read z h ∙ ap accepted (sym (same_Some _ z e))
+  reads (Err q) h e = absurd (none-some _ (sym e))
 
-    -- one that reads, by what the plain finder answers
-    answered : (a : Answer) → handed a ≡ asked r.sheet → pick (is_accepted a) (Tasks r.sheet.count r.sheet.table.n) Nothing ≡ section_of s
-    unfolding section_of acceptable
-    answered (answer.Accepted k) e = rw (← reads, ← e)
-    answered (answer.Refused q) e = rw (← reads, ← e, ne_eqb (number_of q) 0 (λ z. omega (arith, refusal-numbered q)))
+-- and by what the plain finder answers
+module _ (s : List ℕ) (x : Sheet) (read : read_sheet s ≡ accepted x) where
+  pub accepts : {k : ℕ} (a : Answer) → handed a ≡ asked x → Some k ≡ result_ok a → Some (x.count, x.table.n) ≡ section_of s
+  unfolding section_of acceptable
+  accepts (Ok step) e h = rw (read, ← e) refl
+  accepts (Err q) e h = absurd (none-some _ (sym h))
 
-    module _ (a : Answer) (e : handed a ≡ asked r.sheet) (b : Bool) (is : b ≡ is_accepted a) where
-      pub accepts : b ≡ true → Tasks r.sheet.count r.sheet.table.n ≡ section_of s
-      accepts t = rw (sym is ∙ t) at (answered a e)
+  pub refuses : (a : Answer) → handed a ≡ asked x → None ≡ result_ok a → None ≡ section_of s
+  unfolding section_of acceptable
+  refuses (Ok step) e h = absurd (none-some step h)
+  refuses (Err q) e h = rw (read, ← e, ne_eqb (number_of q) 0 (λ z. omega (arith, refusal-numbered q))) refl
 
-      pub refuses : b ≡ false → Nothing ≡ section_of s
-      refuses t = rw (sym is ∙ t) at (answered a e)
-
-picked : (test : Bool) (b m c n : ℕ) → pick test (Tasks b m) Nothing ≡ Tasks c n → (test ≡ true) × ((b ≡ c) × (m ≡ n))
-picked true b m c n e = (refl, (cc, cc))
-picked false b m c n e = absurd (let z : ◌≡◌ {A = ℕ} 0 1 = cc in omega arith)
+picked : (test : Bool) (b m c n : ℕ) → pick {A = Option (ℕ × ℕ)} test (Some (b, m)) None ≡ Some (c, n) → (test ≡ true) × ((b ≡ c) × (m ≡ n))
+picked true b m c n e = let p = same_Some _ _ e in (refl, (ap (λ x. x.0) p, ap (λ x. x.1) p))
+picked false b m c n e = absurd (none-some _ e)
 
 -- the records of an acceptable sheet stand in it
-pub section-fits : (s : List ℕ) (settings n : ℕ) → section_of s ≡ Tasks settings n
+pub section-fits : (s : List ℕ) (settings n : ℕ) → section_of s ≡ Some (settings, n)
     → (settings ≤ most_settings) × ((n ≤ most_tasks) × (results_place settings n ≤ length s))
 unfolding section_of acceptable sheet_in
 section-fits s settings n e =

@@ -1,6 +1,6 @@
 -- Document 01, "Change-over": which part of which lent sheet is the answer.
 -- Assumes nothing.
-use Rattle.std.specs.Prelude.{ℕ, ◌+◌, ◌*◌, Bool, List, ◌≡◌, eqb, take, drop}
+use Rattle.std.specs.Prelude.{ℕ, ◌+◌, ◌*◌, Bool, Option, Some, None, List, ◌≡◌, eqb, take, drop}
 use Rattle.ground.specs.Choice.{pick, both}
 use Rattle.plain_finder.specs.Asked.{asked}
 use Rattle.sheet.specs.Sections.{task_size, records_place}
@@ -8,24 +8,22 @@ use Rattle.sheet.specs.Reading.{read_sheet}
 use Rattle.change_over.specs.declared.Which.{Which}
 use Rattle.change_over.specs.declared.Which.TheVariants.{Standing, Proposed}
 use Rattle.change_over.specs.declared.Part.{Part}
-use Rattle.change_over.specs.declared.Section.{Section}
-use Rattle.change_over.specs.declared.Section.TheVariants.{Tasks, Nothing}
 
 -- "if it reads and the plain finder accepts it": number 0 from both
 unfoldable pub acceptable : List ℕ → Bool
 acceptable s = both (eqb (read_sheet s).number 0) (eqb (asked (read_sheet s).value).number 0)
 
 -- how many settings and tasks an acceptable sheet has
-unfoldable pub section_of : List ℕ → Section
-section_of s = pick (acceptable s) (Tasks (read_sheet s).value.count (read_sheet s).value.table.n) Nothing
+unfoldable pub section_of : List ℕ → Option (ℕ × ℕ)
+section_of s = pick (acceptable s) (Some ((read_sheet s).value.count, (read_sheet s).value.table.n)) None
 
 -- "the task section (records only)" of an acceptable sheet, else another part
 abbrev pub tasks_part : Which → ℕ → ℕ → Part
 tasks_part which settings n = record { which = which; from = records_place settings; size = task_size * n }
 
-abbrev pub tasks_or : Which → Section → Part → Part
-tasks_or which (Tasks settings n) other = tasks_part which settings n
-tasks_or which Nothing other = other
+abbrev pub tasks_or : Which → Option (ℕ × ℕ) → Part → Part
+tasks_or which (Some section) other = tasks_part which section.0 section.1
+tasks_or which None other = other
 
 -- "the empty front of the standing sheet"
 abbrev pub empty_front : Part

@@ -5,8 +5,6 @@ ghost use Rattle.std.specs.Prelude.{◌≡◌, ◌≤◌};
 ghost use Rattle.kinds.specs.Limits.{most_settings, most_tasks};
 ghost use Rattle.change_over.specs.ChangeOver.{section_of, tasks_part, change_over, IsPart};
 
-use kinds::Verdict;
-
 // The two lent sheets.
 #[derive(Clone, Copy)]
 pub enum Which {
@@ -22,31 +20,14 @@ pub struct Part {
     pub size: usize,
 }
 
-// How many settings and tasks a sheet has that reads and that the plain finder accepts.
-#[derive(Clone, Copy)]
-enum Section {
-    Tasks(usize, usize),
-    Nothing,
-}
-
-// Reads a sheet, and asks the plain finder for outputs that are just long enough.
-fn section_of(bytes: &[u8]) -> Section
+// How many settings and tasks a sheet has that reads and that the plain finder accepts, asked for outputs that are just long enough.
+fn section_of(bytes: &[u8]) -> Option<(usize, usize)>
     ensures { result ≡ section_of bytes.now }
 {
-    let reading = sheet::read(bytes);
-    let verdict = reading.verdict;
-    let Verdict::Accepted = verdict else {
-        return Section::Nothing;
-    };
-    let x = reading.sheet;
-    let table = x.table;
-    let n = table.n;
-    let settings = x.settings;
-    let answer = plain_finder::decide(table, settings, n);
-    if answer.accepted() {
-        return Section::Tasks(x.count, n);
-    }
-    Section::Nothing
+    let x = sheet::read(bytes).accepted().ok()?;
+    let n = x.table.n;
+    plain_finder::decide(x.table, x.settings, n).ok()?;
+    Some((x.count, n))
 }
 
 // The task section of a sheet with so many settings and n tasks.
@@ -63,15 +44,14 @@ fn tasks_of(which: Which, settings: usize, n: usize) -> Part
 pub fn part_of(standing: &[u8], proposed: &[u8]) -> Part
     ensures { result ≡ change_over standing.now proposed.now }
 {
-    if let Section::Tasks(settings, n) = section_of(proposed) {
+    if let Some((settings, n)) = section_of(proposed) {
         return tasks_of(Which::Proposed, settings, n);
     }
-    if let Section::Tasks(settings, n) = section_of(standing) {
+    if let Some((settings, n)) = section_of(standing) {
         return tasks_of(Which::Standing, settings, n);
     }
-    let which = Which::Standing;
     Part {
-        which,
+        which: Which::Standing,
         from: 0,
         size: 0,
     }
@@ -82,10 +62,8 @@ pub fn change_over<'a>(standing: &'a [u8], proposed: &'a [u8]) -> &'a [u8]
     ensures { IsPart (change_over standing.now proposed.now)
         standing.now proposed.now standing.entry.ref_ptr proposed.entry.ref_ptr result.now result.ref_ptr }
 {
-    let part = part_of(standing, proposed);
-    let from = part.from;
-    let end = from + part.size;
-    let which = part.which;
+    let Part { which, from, size } = part_of(standing, proposed);
+    let end = from + size;
     match which {
         Which::Standing => &standing[from..end],
         Which::Proposed => &proposed[from..end],

@@ -13,10 +13,8 @@ use std::io::{Cursor, Write};
 const NOT_TEXT: i32 = 84;
 
 fn opened(rt: HostRuntime, name: &[u8]) -> io::Result<File> {
-    match str::from_utf8(name) {
-        Ok(path) => File::open(&rt, path),
-        Err(_) => Err(io::Error::from_raw_os_error(NOT_TEXT)),
-    }
+    let path = str::from_utf8(name).map_err(|_| io::Error::from_raw_os_error(NOT_TEXT))?;
+    File::open(&rt, path)
 }
 
 // How many bytes stand in front of an error's number, which is in brackets behind its words.
@@ -52,10 +50,7 @@ fn read_named(rt: HostRuntime, i: usize, out: &mut [u8]) -> usize
     let mut name = [0u8; 4096];
     let n = lent_input::word(&rt, i, &mut name);
     match opened(rt, &name[..n]) {
-        Ok(mut file) => match lent_input::read_full(&mut file, out) {
-            Ok(k) => k,
-            Err(_) => 0,
-        },
+        Ok(mut file) => lent_input::read_full(&mut file, out).unwrap_or(0),
         Err(error) => {
             let _ = tell_unopened(&mut rt.stderr(), &name[..n], error);
             0

@@ -1,16 +1,15 @@
 -- What is handed on: `accepted-checked`, `refused-keeps`, `refused-first` and `refused-last` say what `HandsOn` means, the others that it
 -- holds of what the call leaves.
 -- Assumes nothing.
-use Rattle.ground.proofs.Kit.{ℕ, ◌≤◌, ◌<◌, min, List, ◌++◌, ◌≡◌, refl, sym, ◌∙◌, ap, subst, ◌⊎◌, arith, length, get_or, take, drop, length-take-le}
+use Rattle.kinds.specs.Answer.{Verdict}
+use Rattle.ground.proofs.Kit.{ℕ, ◌≤◌, ◌<◌, min, List, ◌++◌, ◌≡◌, refl, sym, ◌∙◌, ap, subst, ◌⊎◌, arith, length, get_or, take, drop, length-take-le, Ok, Err}
 use lib.Seq.{length_front, drop_at, get_or-take}
 use Rattle.ground.specs.Folds.{list_to}
 use Rattle.ground.proofs.Cases.{by_le}
-use Rattle.ground.proofs.Buffer.{list-long, list_at}
+use Rattle.ground.proofs.Buffer.{list-long, list_at, list-taken}
 use Rattle.kinds.specs.declared.Task.{Task}
 use Rattle.kinds.specs.declared.Settings.{Settings}
 use Rattle.kinds.specs.declared.Refusal.{Refusal}
-use Rattle.kinds.specs.declared.Verdict.{Verdict}
-use Rattle.kinds.specs.declared.Verdict.TheVariants.{Accepted, Refused}
 use Rattle.kinds.specs.Limits.{most_tasks}
 use Rattle.kinds.specs.Refusal.{number_of}
 use Rattle.proposal.specs.Proposal.{admission, Outcome, outcome, Meets}
@@ -20,26 +19,26 @@ use Rattle.checked_proposal.specs.Planned.{HandsOn}
 
 module _ (s : Settings) (rows : List Task) (n k : ℕ) (old old_loads : List ℕ) where
   -- what is handed on is accepted by the checker, with these loads
-  pub accepted-checked : (proposal loads : List ℕ) → HandsOn s rows n k old old_loads Accepted proposal loads
-      → Meets (outcome s rows n k proposal old_loads) Accepted loads
-  accepted-checked proposal loads h = subst (λ (p : List ℕ). Meets (outcome s rows n k p old_loads) Accepted loads) (sym h.leaves) h.checked
+  pub accepted-checked : (proposal loads : List ℕ) → HandsOn s rows n k old old_loads (Ok tt) proposal loads
+      → Meets (outcome s rows n k proposal old_loads) (Ok tt) loads
+  accepted-checked proposal loads h = subst (λ (p : List ℕ). Meets (outcome s rows n k p old_loads) (Ok tt) loads) (sym h.leaves) h.checked
 
   -- nothing past the n entries moves
-  pub accepted-past : (proposal loads : List ℕ) → HandsOn s rows n k old old_loads Accepted proposal loads → drop n proposal ≡ drop n old
+  pub accepted-past : (proposal loads : List ℕ) → HandsOn s rows n k old old_loads (Ok tt) proposal loads → drop n proposal ≡ drop n old
   accepted-past proposal loads h = ap (drop n) h.leaves ∙ h.past
 
   -- a refused call leaves both outputs as they were
-  pub refused-keeps : (r : Refusal) (proposal loads : List ℕ) → HandsOn s rows n k old old_loads (Refused r) proposal loads
+  pub refused-keeps : (r : Refusal) (proposal loads : List ℕ) → HandsOn s rows n k old old_loads (Err r) proposal loads
       → (proposal ≡ old) × (loads ≡ old_loads)
   refused-keeps r proposal loads h = (h.leaves, refused-leaves s rows n k h.planned old_loads r loads h.checked)
 
   -- refusals 2, 3, 5 and 6 are given exactly where the checker gives them, whatever is proposed
-  pub refused-first : (r : Refusal) → admission s rows n (length old) (length old_loads) ≡ Refused r → (v : Verdict) (proposal loads : List ℕ)
-      → HandsOn s rows n k old old_loads v proposal loads → v ≡ Refused r
+  pub refused-first : (r : Refusal) → admission s rows n (length old) (length old_loads) ≡ Err r → (v : Verdict) (proposal loads : List ℕ)
+      → HandsOn s rows n k old old_loads v proposal loads → v ≡ Err r
   refused-first r e v proposal loads h = first-refused s rows n k h.planned old_loads r (rw h.long e) v loads h.checked
 
-  pub refused-last : admission s rows n (length old) (length old_loads) ≡ Accepted → (r : Refusal) (proposal loads : List ℕ)
-      → HandsOn s rows n k old old_loads (Refused r) proposal loads → (number_of r ≡ 13) ⊎ (number_of r ≡ 14)
+  pub refused-last : admission s rows n (length old) (length old_loads) ≡ (Ok tt) → (r : Refusal) (proposal loads : List ℕ)
+      → HandsOn s rows n k old old_loads (Err r) proposal loads → (number_of r ≡ 13) ⊎ (number_of r ≡ 14)
   refused-last a r proposal loads h = last-refused s rows n k h.planned old_loads (rw h.long a) r loads h.checked
 
   -- the planner's processors, as many of them as are lent, and the lent proposal with the first n of them
@@ -71,9 +70,9 @@ module _ (s : Settings) (rows : List Task) (n k : ℕ) (old old_loads : List ℕ
     short-alike : min (length old) most_tasks < n → outcome s rows n k part old_loads ≡ outcome s rows n k old old_loads
     short-alike l = outcome-short s rows n k part old old_loads (λ few. omega (arith, part-long)) (λ few. omega arith)
 
-    refused-handed : (r : Refusal) (loads : List ℕ) → Meets (outcome s rows n k part old_loads) (Refused r) loads
-        → HandsOn s rows n k old old_loads (Refused r) old loads
-    refused-handed r loads w =
+    pub hands-refused : (r : Refusal) (loads : List ℕ) → Meets (outcome s rows n k part old_loads) (Err r) loads
+        → HandsOn s rows n k old old_loads (Err r) old loads
+    hands-refused r loads w =
         by_le n (min (length old) most_tasks)
         (λ l.
         let few : n ≤ most_tasks = omega arith in
@@ -82,7 +81,7 @@ module _ (s : Settings) (rows : List Task) (n k : ℕ) (old old_loads : List ℕ
           planned = front;
           long = front_long few entries;
           past = front-past few entries;
-          checked = subst (λ (o : Outcome). Meets o (Refused r) loads) (front-alike few entries) w;
+          checked = subst (λ (o : Outcome). Meets o (Err r) loads) (front-alike few entries) w;
           leaves = refl;
         })
         (λ l.
@@ -90,32 +89,26 @@ module _ (s : Settings) (rows : List Task) (n k : ℕ) (old old_loads : List ℕ
           planned = old;
           long = refl;
           past = refl;
-          checked = subst (λ (o : Outcome). Meets o (Refused r) loads) (short-alike l) w;
+          checked = subst (λ (o : Outcome). Meets o (Err r) loads) (short-alike l) w;
           leaves = refl;
         })
 
-    pub hands-refused : (v : Verdict) (r : Refusal) → v ≡ Refused r → (loads : List ℕ)
-        → Meets (outcome s rows n k (take (min (length old) most_tasks) made) old_loads) v loads → HandsOn s rows n k old old_loads v old loads
-    hands-refused v r e loads w =
-        subst (λ (a : Verdict). HandsOn s rows n k old old_loads a old loads) (sym e)
-        (refused-handed r loads (subst (λ (a : Verdict). Meets (outcome s rows n k part old_loads) a loads) e w))
-
     -- what is accepted has an entry for each task
-    pub accepted-fits : (loads : List ℕ) → Meets (outcome s rows n k (take (min (length old) most_tasks) made) old_loads) Accepted loads
+    pub accepted-fits : (loads : List ℕ) → Meets (outcome s rows n k (take (min (length old) most_tasks) made) old_loads) (Ok tt) loads
         → (n ≤ most_tasks) × (n ≤ length old)
     accepted-fits loads w =
         let a = accepted-exactly s rows n k part old_loads (sym w.answers) in
         let p = (admitted s rows n (length part) (length old_loads) a.0).passed in
         (p.few.few, omega (arith, p.entries, part-long))
 
-    pub hands-accepted : (loads : List ℕ) → Meets (outcome s rows n k (take (min (length old) most_tasks) made) old_loads) Accepted loads
-        → (proposal : List ℕ) → proposal ≡ list_to (λ i. get_or made i 0) n ++ drop n old → HandsOn s rows n k old old_loads Accepted proposal loads
-    hands-accepted loads w proposal e =
+    pub hands-accepted : (loads : List ℕ) → Meets (outcome s rows n k (take (min (length old) most_tasks) made) old_loads) (Ok tt) loads
+        → (copied : List ℕ) → copied ≡ take n made → HandsOn s rows n k old old_loads (Ok tt) (copied ++ drop n old) loads
+    hands-accepted loads w copied e =
         let fits = accepted-fits loads w in
         record {
           planned = front;
           long = front_long fits.0 fits.1;
           past = front-past fits.0 fits.1;
-          checked = subst (λ (o : Outcome). Meets o Accepted loads) (front-alike fits.0 fits.1) w;
-          leaves = e;
+          checked = subst (λ (o : Outcome). Meets o (Ok tt) loads) (front-alike fits.0 fits.1) w;
+          leaves = ap (λ (l : List ℕ). l ++ drop n old) (e ∙ sym (list-taken 0 made n (omega (arith, fits.0, room))));
         }

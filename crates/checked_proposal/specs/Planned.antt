@@ -1,16 +1,15 @@
 -- What a call hands on of a planner that promises nothing: the checker's answer on what it proposed, for every input.
 -- Assumes nothing.
-use Rattle.std.specs.Prelude.{ℕ, List, ◌≡◌, length, drop}
+use Rattle.kinds.specs.Answer.{Verdict}
+use Rattle.std.specs.Prelude.{ℕ, List, ◌≡◌, length, drop, Ok, Err}
 use Rattle.kinds.specs.declared.Task.{Task}
 use Rattle.kinds.specs.declared.Settings.{Settings}
-use Rattle.kinds.specs.declared.Verdict.{Verdict}
-use Rattle.kinds.specs.declared.Verdict.TheVariants.{Accepted, Refused}
 use Rattle.proposal.specs.Proposal.{outcome, Meets}
 
 -- what stands in the lent proposal after a call: the planned one where that is accepted, else what stood there
 abbrev pub left_by : Verdict → List ℕ → List ℕ → List ℕ
-left_by Accepted planned old = planned
-left_by (Refused r) planned old = old
+left_by (Ok _) planned old = planned
+left_by (Err r) planned old = old
 
 -- some proposal is planned, which is as long as the lent one and differs from it in the first n entries only; verdict and loads are the
 -- checker's on it

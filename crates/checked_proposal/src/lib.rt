@@ -4,7 +4,7 @@
 
 ghost use Rattle.checked_proposal.specs.Planned.{HandsOn};
 
-use kinds::{Settings, Table, Verdict};
+use kinds::{Refusal, Settings, Table};
 
 // Writes a processor for each task at a step, and the m loads, where the checker accepts what the planner proposes; a refused call writes
 // nothing. Refusals 2, 3, 5 and 6 are the checker's; 13 and 14 can remain, since nothing is promised of the planner.
@@ -14,16 +14,14 @@ pub fn plan_or_refuse(
     step: u32,
     proposal: &mut [u16],
     loads: &mut [u32],
-) -> Verdict
+) -> Result<(), Refusal>
     ensures { HandsOn settings table.rows table.n step proposal.old loads.old
         result proposal.new loads.new }
 {
+    let n = table.n;
     let planned = planner::propose(table, settings, step);
-    let entries = ground::shorter(proposal.len(), Table::MOST_TASKS);
-    let verdict = proposal::check(table, settings, step, &planned[..entries], loads);
-    let Verdict::Accepted = verdict else {
-        return verdict;
-    };
-    outcome::write_front(planned, table.n, proposal);
-    Verdict::Accepted
+    let entries = proposal.len().min(Table::MOST_TASKS);
+    proposal::check(table, settings, step, &planned[..entries], loads)?;
+    proposal[..n].copy_from_slice(&planned[..n]);
+    Ok(())
 }

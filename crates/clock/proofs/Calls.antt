@@ -1,6 +1,6 @@
 -- The call: its three answers, the document's sentences, and that no second answer fits.
 -- Assumes nothing.
-use Rattle.ground.proofs.Kit.{ℕ, ◌+◌, ◌%◌, ◌≤◌, ◌<◌, List, [], ◌∷◌, ◌≡◌, refl, sym, ◌∙◌, ap, arith, length, get_or-set_same, get_or-set_other, lt-ltb, le-ltb}
+use Rattle.ground.proofs.Kit.{ℕ, ◌+◌, ◌%◌, ◌≤◌, ◌<◌, List, [], ◌∷◌, ◌≡◌, refl, sym, ◌∙◌, ap, arith, length, take, length-take-le, get_or-set_same, get_or-set_other, lt-ltb, le-ltb, Option, None, Some, Ok, Err}
 use Rattle.ground.proofs.Cases.{by_le}
 use Rattle.ground.proofs.Folds.{le-max-to}
 use Rattle.kinds.specs.declared.Refusal.{Refusal}
@@ -9,14 +9,13 @@ use Rattle.kinds.specs.Answer.{Handed, accepted, refused}
 use Rattle.kinds.specs.Limits.{most_tasks}
 use Rattle.kinds.proofs.Answers.{not-refused, refused-one}
 use Rattle.clock.specs.declared.Clock.{Clock}
-use Rattle.clock.specs.declared.Release.{Release}
-use Rattle.clock.specs.declared.Release.TheVariants as release
-use Rattle.clock.specs.declared.Called.{Called}
-use Rattle.clock.specs.Ticks.{turn, half_turn, behind, latest}
-use Rattle.clock.specs.Call.{next_of, period_of, late_at, Due, HandsBack, released, moved_on, afterwards, after_call, handed_release, CallIs}
-use Rattle.clock.specs.Handover.{LatestIs}
+use Rattle.clock.specs.Ticks.{turn, half_turn, behind, late, latest}
+use Rattle.clock.specs.Handover.{latest_of}
+use Rattle.clock.specs.Call.{next_of, period_of, late_at, Due, HandsBack, released, moved_on, afterwards, after_call, Release, handed_release, CallIs}
+use Rattle.std.specs.Option.{option_to_list}
+use Rattle.std.proofs.lemmas.List.{get_or-take}
 use Rattle.clock.proofs.Wrap.{late_due, due-late}
-use Rattle.clock.proofs.Greatest.{Most, latest-none, latest-first, by-latest}
+use Rattle.clock.proofs.Greatest.{Most, by-latest, latest-cong}
 
 none-one : {X : Type 0} (i : ℕ) → [] ≡ i ∷ [] → X
 none-one i e = let z : ◌≡◌ {A = ℕ} 0 1 = cc in absurd (omega arith)
@@ -37,26 +36,17 @@ module _ (c : Clock) (present : ℕ) where
   unfolding after_call
   after-by tasks e = ap (afterwards c) (sym e)
 
-  -- what the three returns of the call hand back
-  pub called-many : most_tasks < c.n → CallIs c present (record { answer = release.Refused (TooManyTasks c.n); clock = c })
+  -- what the two returns of the call hand back
+  pub called-many : most_tasks < c.n → CallIs c present (Err (TooManyTasks c.n)) c
   called-many h =
       let e = released-many h in
       record { answers = sym e; leaves = after-by [] (ap (λ (x : Handed (List ℕ)). x.value) e) }
 
-  module _ (late task : ℕ) (few : c.n ≤ most_tasks) (l : LatestIs c present late task) where
-    pub called-none : late ≡ 0 → CallIs c present (record { answer = release.NoneDue; clock = c })
-    called-none z =
-        let e : released c present ≡ accepted [] =
-        released-few few ∙ ap accepted (latest-none (late_at c present) c.n (sym l.greatest ∙ z)) in
-        record { answers = sym e; leaves = after-by [] (ap (λ (x : Handed (List ℕ)). x.value) e) }
-
-    pub called-one : (late ≡ 0 → ⊥) → (after : Clock) → after ≡ moved_on c task → CallIs c present (record { answer = release.Of task; clock = after })
-    called-one z after m =
-        let h : 0 < late = by_le 1 late (λ g. g) (λ g. absurd (z (omega arith))) in
-        let t : latest (late_at c present) c.n ≡ task ∷ [] =
-        latest-first (late_at c present) c.n (omega (arith, l.greatest)) ∙ ap (λ (i : ℕ). i ∷ []) (sym (l.lowest h)) in
-        let e : released c present ≡ accepted (task ∷ []) = released-few few ∙ ap accepted t in
-        record { answers = sym e; leaves = m ∙ after-by (task ∷ []) (ap (λ (x : Handed (List ℕ)). x.value) e) }
+  pub called-few : c.n ≤ most_tasks → (task : Option ℕ) → option_to_list task ≡ latest (late_at c present) c.n → (left : Clock)
+      → left ≡ afterwards c (option_to_list task) → CallIs c present (Ok task) left
+  called-few few task l left m =
+      let e : released c present ≡ accepted (option_to_list task) = released-few few ∙ ap accepted (sym l) in
+      record { answers = sym e; leaves = m ∙ after-by (option_to_list task) (ap (λ (x : Handed (List ℕ)). x.value) e) }
 
   -- the two cases of a call that is not refused
   hands : (i : ℕ) → 0 < late_at c present i → Most (late_at c present) c.n i → HandsBack c present i
@@ -135,20 +125,21 @@ module _ (c : Clock) (present : ℕ) where
     unfolding moved_on
     periods-stay = rw moved_on_lem (refl, refl)
 
+-- the call looks at the next releases that count
+pub latest-front : (c : Clock) (present : ℕ) → c.n ≤ length c.next → latest_of present (take c.n c.next) ≡ latest (late_at c present) c.n
+latest-front c present h =
+    rw (length-take-le c.n c.next h)
+    (latest-cong _ (late_at c present) c.n (λ i l. ap (late present) (get_or-take c.n c.next i 0 l)))
+
 -- no second answer, nor a second clock
 release-one : (v w : Release) → handed_release v ≡ handed_release w → v ≡ w
-release-one (release.Of i) (release.Of j) e = ap release.Of (same-one i j (ap (λ (x : Handed (List ℕ)). x.value) e))
-release-one (release.Of i) release.NoneDue e = none-one i (sym (ap (λ (x : Handed (List ℕ)). x.value) e))
-release-one release.NoneDue (release.Of j) e = none-one j (ap (λ (x : Handed (List ℕ)). x.value) e)
-release-one release.NoneDue release.NoneDue e = refl
-release-one (release.Of i) (release.Refused r) e = not-refused (i ∷ []) [] r e
-release-one release.NoneDue (release.Refused r) e = not-refused [] [] r e
-release-one (release.Refused r) (release.Of j) e = not-refused (j ∷ []) [] r (sym e)
-release-one (release.Refused r) release.NoneDue e = not-refused [] [] r (sym e)
-release-one (release.Refused r) (release.Refused q) e = ap release.Refused (refused-one [] r q e)
+release-one (Ok (Some i)) (Ok (Some j)) e = ap (λ (k : ℕ). Ok (Some k)) (same-one i j (ap (λ (x : Handed (List ℕ)). x.value) e))
+release-one (Ok (Some i)) (Ok None) e = none-one i (sym (ap (λ (x : Handed (List ℕ)). x.value) e))
+release-one (Ok None) (Ok (Some j)) e = none-one j (ap (λ (x : Handed (List ℕ)). x.value) e)
+release-one (Ok None) (Ok None) e = refl
+release-one (Ok v) (Err r) e = not-refused (option_to_list v) [] r e
+release-one (Err r) (Ok w) e = not-refused (option_to_list w) [] r (sym e)
+release-one (Err r) (Err q) e = ap Err (refused-one [] r q e)
 
-pub call-one : (c : Clock) (present : ℕ) (r q : Called) → CallIs c present r → CallIs c present q → r ≡ q
-call-one c present r q a b =
-    let v = release-one r.answer q.answer (a.answers ∙ sym b.answers) in
-    let x : r.clock ≡ q.clock = a.leaves ∙ sym b.leaves in
-    λ i. record { answer = v i; clock = x i }
+pub call-one : (c : Clock) (present : ℕ) (r q : Release) (left other : Clock) → CallIs c present r left → CallIs c present q other → (r ≡ q) × (left ≡ other)
+call-one c present r q left other a b = (release-one r q (a.answers ∙ sym b.answers), a.leaves ∙ sym b.leaves)

@@ -1,14 +1,16 @@
 -- The task that is most late, the lowest on a tie: what `latest` says, and the walk that works it out.
 -- Assumes nothing.
-use Rattle.ground.proofs.Kit.{ℕ, suc, ◌+◌, ◌-◌, ◌≤◌, ◌<◌, Bool, [], ◌∷◌, ◌≡◌, sym, ◌∙◌, ap, arith, eqb, eq-eqb, ne_eqb, eqb-true}
+use Rattle.ground.proofs.Kit.{ℕ, suc, ◌+◌, ◌-◌, ◌≤◌, ◌<◌, Bool, [], ◌∷◌, ◌≡◌, sym, ◌∙◌, ap, arith, rules, eqb, ltb, ltb-true, ltb-false, true, false, eq-eqb, ne_eqb, eqb-true, Option, None, Some}
 use borrow.Author.Tests.{eqb-false}
 use Rattle.ground.specs.First.{first_below, IsFirst}
 use Rattle.ground.specs.Folds.{max_to}
 use Rattle.ground.proofs.Cases.{by_le, by-eq, true-false}
 use Rattle.ground.proofs.First.{first-is, first-unique, first_cong}
 use Rattle.ground.proofs.Folds.{max_none, max-more, le-max-to, max-reached, max-cong}
-use Rattle.kinds.specs.Limits.{most_tasks}
+use Rattle.std.specs.Option.{IfSome, MatchOption, option_map, option_to_list}
+use Rattle.std.specs.Bool.{IsTrue}
 use Rattle.clock.specs.Ticks.{latest}
+use Rattle.clock.specs.Handover.{late_of}
 
 -- task i is the most late of n, and each before it is less late
 pub record Most (f : ℕ → ℕ) (n i : ℕ) : Type 0 where
@@ -74,43 +76,55 @@ latest-cong f g n h =
     let w = first_cong (λ i. eqb (f i) (max_to g n)) (λ i. eqb (g i) (max_to g n)) n (λ i l. ap (λ (x : ℕ). eqb x (max_to g n)) (h i l)) in
     rw (m, w)
 
--- a walk over the tasks that has come to i
-pub record Walked (f : ℕ → ℕ) (i most task : ℕ) : Type 0 where
-  pub is : most ≡ max_to f i
-  pub of : 0 < most → Most f i task
-  pub low : task < most_tasks
+-- a walk over the tasks that has come to i: the latest so far with the ticks that it is behind, or none
+pub record Walked (f : ℕ → ℕ) (i : ℕ) (held : Option (ℕ × ℕ)) : Type 0 where
+  pub is : late_of (option_map (λ h. h.1) held) ≡ max_to f i
+  pub of : IfSome held (λ h. Most f i h.0)
 
-pub walked_none : (f : ℕ → ℕ) → Walked f 0 0 0
-walked_none f = record { is = sym (max_none f); of = λ h. absurd (omega arith); low = omega arith }
+-- whether a task that is due is later than the latest so far
+later : (ticks : ℕ) (held : Option (ℕ × ℕ)) (b : Bool) → MatchOption held (IsTrue b) (λ h. b ≡ ltb h.1 ticks)
+    → b ≡ ltb (late_of (option_map (λ h. h.1) held)) (suc ticks)
+later ticks None b e = search rules
+later ticks (Some h) b e = search rules
 
--- a task that is later than those before it
-pub walked_here : (f : ℕ → ℕ) (i most task late : ℕ) → i < most_tasks → late ≡ f i → most < late → Walked f i most task → Walked f (i + 1) late i
-walked_here f i most task late l e m w =
-    let x : max_to f (i + 1) ≡ late = omega (arith, max-more f i, w.is) in
-    record {
-      is = sym x;
-      of = λ h. record {
-        there = omega arith;
-        greatest = sym e ∙ sym x;
-        lowest = λ j g. omega (arith, le-max-to f i j g, w.is);
-      };
-      low = l;
-    }
+pub later-is : (ticks : ℕ) (held : Option (ℕ × ℕ)) (b : Bool) → MatchOption held (IsTrue b) (λ h. b ≡ ltb h.1 ticks) → b ≡ true
+    → late_of (option_map (λ h. h.1) held) < suc ticks
+later-is ticks held b e t = ltb-true _ _ (sym (later ticks held b e) ∙ t)
 
--- one that is not
-pub walked-past : (f : ℕ → ℕ) (i most task late : ℕ) → late ≡ f i → late ≤ most → Walked f i most task → Walked f (i + 1) most task
-walked-past f i most task late e m w =
-    let x : max_to f (i + 1) ≡ max_to f i = omega (arith, max-more f i, w.is) in
-    record {
-      is = w.is ∙ sym x;
-      of = λ h. record {
-        there = omega (arith, (w.of h).there);
-        greatest = (w.of h).greatest ∙ sym x;
-        lowest = λ j g. omega (arith, (w.of h).lowest j g);
-      };
-      low = w.low;
-    }
+pub later-not : (ticks : ℕ) (held : Option (ℕ × ℕ)) (b : Bool) → MatchOption held (IsTrue b) (λ h. b ≡ ltb h.1 ticks) → b ≡ false
+    → suc ticks ≤ late_of (option_map (λ h. h.1) held)
+later-not ticks held b e t = ltb-false _ _ (sym (later ticks held b e) ∙ t)
 
--- the whole walk
-pub walked_all : (f : ℕ → ℕ) (n most task : ℕ) → Walked f n most task → 0 < most → task ≡ first_below (λ i. eqb (f i) (max_to f n)) n
-walked_all f n most task w h = most-first f n task (w.of h)
+module _ (f : ℕ → ℕ) where
+  pub walked_none : Walked f 0 None
+  walked_none = record { is = sym (max_none f); of = tt }
+
+  -- a task that is later than those before it
+  pub walked_here : (i ticks : ℕ) (held : Option (ℕ × ℕ)) → suc ticks ≡ f i → late_of (option_map (λ h. h.1) held) < suc ticks → Walked f i held
+      → Walked f (i + 1) (Some (i, ticks))
+  walked_here i ticks held e m w =
+      let x : max_to f (i + 1) ≡ suc ticks = omega (arith, max-more f i, w.is) in
+      record {
+        is = sym x;
+        of = record { there = omega arith; greatest = sym e ∙ sym x; lowest = λ j g. omega (arith, le-max-to f i j g, w.is) };
+      }
+
+  -- one that is not
+  pub walked-past : (i : ℕ) (held : Option (ℕ × ℕ)) → f i ≤ late_of (option_map (λ h. h.1) held) → Walked f i held → Walked f (i + 1) held
+  walked-past i held m w = record { is = w.is ∙ sym (more i held m w); of = kept held m w }
+    where
+      more : (i : ℕ) (held : Option (ℕ × ℕ)) → f i ≤ late_of (option_map (λ h. h.1) held) → Walked f i held → max_to f (i + 1) ≡ max_to f i
+      more i held m w = omega (arith, max-more f i, w.is)
+
+      kept : (held : Option (ℕ × ℕ)) → f i ≤ late_of (option_map (λ h. h.1) held) → Walked f i held → IfSome held (λ h. Most f (i + 1) h.0)
+      kept None m w = tt
+      kept (Some h) m w =
+          let x = more i (Some h) m w in
+          record { there = omega (arith, w.of.there); greatest = w.of.greatest ∙ sym x; lowest = λ j g. omega (arith, w.of.lowest j g, x) }
+
+  -- the whole walk
+  pub walked_all : (i n : ℕ) (held : Option (ℕ × ℕ)) → i ≡ n → Walked f i held → option_to_list (option_map (λ h. h.0) held) ≡ latest f n
+  walked_all i n None e w = sym (latest-none f n (omega (arith, w.is, ap (max_to f) e)))
+  walked_all i n (Some h) e w =
+      let m : Most f n h.0 = rw e at w.of in
+      ap (λ (t : ℕ). t ∷ []) (most-first f n h.0 m) ∙ sym (latest-first f n (omega (arith, w.is, ap (max_to f) e)))

@@ -1,13 +1,10 @@
 -- Laws of ticks that wrap at 32 bits. The last carries lateness over to time that does not wrap.
 -- Assumes nothing.
-use Rattle.ground.proofs.Kit.{ℕ, suc, ◌+◌, ◌-◌, ◌%◌, ◌≤◌, ◌<◌, ◌≡◌, ◌∙◌, arith, lt-ltb, le-ltb}
-use Rattle.ground.proofs.Cases.{by_le}
+use Rattle.ground.proofs.Kit.{ℕ, suc, ◌+◌, ◌-◌, ◌%◌, ◌≤◌, ◌<◌, ◌≡◌, ◌∙◌, arith, ltb, lt-ltb, le-ltb}
+use Rattle.ground.proofs.Cases.{by_bool, by_le}
+use Rattle.std.specs.Bool.{then_some}
 use Rattle.clock.specs.Ticks.{turn, half_turn, behind, late}
-
--- the wrapping subtract gives present minus next
-pub sub_is : (r present next : ℕ) → r < turn → next < turn → (r + next) % turn ≡ present → r ≡ behind present next
-unfolding behind
-sub_is r present next l m e = omega arith
+use Rattle.clock.specs.Handover.{late_of}
 
 -- a task that is due, and one that is not
 pub late_due : (present next : ℕ) → behind present next < half_turn → late present next ≡ suc (behind present next)
@@ -17,6 +14,11 @@ late_due present next h = rw (lt-ltb (behind present next) half_turn h)
 pub late-not : (present next : ℕ) → half_turn ≤ behind present next → late present next ≡ 0
 unfolding late
 late-not present next h = rw (le-ltb (behind present next) half_turn h)
+
+-- both in one
+pub late-then : (present next : ℕ) → late_of (then_some (ltb (behind present next) half_turn) (behind present next)) ≡ late present next
+unfolding late
+late-then present next = by_bool (ltb (behind present next) half_turn) (λ t. rw t) (λ f. rw f)
 
 pub due-late : (present next : ℕ) → 0 < late present next → behind present next < half_turn
 due-late present next h =

@@ -1,14 +1,12 @@
 -- A call with the present tick: which task is due, which is handed back, and the clock after it, for every clock and tick.
 -- Assumes nothing.
-use Rattle.std.specs.Prelude.{◌≡◌, ℕ, ◌+◌, ◌%◌, ◌<◌, ◌≤◌, List, [], ◌∷◌, nat_lt, slice_index, slice_set}
+use Rattle.std.specs.Prelude.{◌≡◌, ℕ, ◌+◌, ◌%◌, ◌<◌, ◌≤◌, List, [], ◌∷◌, nat_lt, slice_index, slice_set, Option, option_to_list, Result, Ok, Err}
 use Rattle.ground.specs.Choice.{pick}
+use Rattle.kinds.specs.declared.Refusal.{Refusal}
 use Rattle.kinds.specs.declared.Refusal.TheVariants.{TooManyTasks}
 use Rattle.kinds.specs.Answer.{Handed, accepted, refused}
 use Rattle.kinds.specs.Limits.{most_tasks}
 use Rattle.clock.specs.declared.Clock.{Clock}
-use Rattle.clock.specs.declared.Release.{Release}
-use Rattle.clock.specs.declared.Release.TheVariants as release
-use Rattle.clock.specs.declared.Called.{Called}
 use Rattle.clock.specs.Ticks.{turn, half_turn, behind, late, latest}
 
 -- task i: its next release, its period, and how late it is at the present tick
@@ -51,13 +49,16 @@ afterwards c (i ∷ rest) = moved_on c i
 unfoldable pub after_call : Clock → ℕ → Clock
 after_call c present = afterwards c (released c present).value
 
+-- an answer: the task that is handed back, none where none is due, or the refusal
+abbrev pub Release : Type 0
+Release = Result (Option ℕ) Refusal
+
 -- an answer in document 01's numbers
 abbrev pub handed_release : Release → Handed (List ℕ)
-handed_release (release.Of i) = accepted (i ∷ [])
-handed_release release.NoneDue = accepted []
-handed_release (release.Refused r) = refused [] r
+handed_release (Ok task) = accepted (option_to_list task)
+handed_release (Err r) = refused [] r
 
--- the promise of a call
-pub record CallIs (c : Clock) (present : ℕ) (r : Called) : Type 0 where
-  pub answers : handed_release r.answer ≡ released c present
-  pub leaves : r.clock ≡ after_call c present
+-- the promise of a call: what it answers, and the clock that it leaves
+pub record CallIs (c : Clock) (present : ℕ) (r : Release) (left : Clock) : Type 0 where
+  pub answers : handed_release r ≡ released c present
+  pub leaves : left ≡ after_call c present

@@ -1,20 +1,13 @@
 -- What the functions hand each other.
 -- Assumes nothing.
-use Rattle.std.specs.Prelude.{◌≡◌, ℕ, ◌<◌, ◌≤◌, nat_eq}
-use Rattle.ground.specs.First.{first_below}
-use Rattle.ground.specs.Folds.{max_to}
-use Rattle.kinds.specs.Limits.{most_tasks}
-use Rattle.clock.specs.declared.Clock.{Clock}
-use Rattle.clock.specs.Ticks.{half_turn, late}
-use Rattle.clock.specs.Call.{late_at}
+use Rattle.std.specs.Prelude.{ℕ, suc, List, Option, None, Some, slice_index, length}
+use Rattle.clock.specs.Ticks.{late, latest}
 
--- how late a task is, with the bound that its caller needs
-pub record LateIs (present next r : ℕ) : Type 0 where
-  pub is : r ≡ late present next
-  pub most : r ≤ half_turn
+-- how late a task is that is so many ticks behind, or not due
+abbrev pub late_of : Option ℕ → ℕ
+late_of None = 0
+late_of (Some ticks) = suc ticks
 
--- the greatest lateness, and the lowest task that has it
-pub record LatestIs (c : Clock) (present late task : ℕ) : Type 0 where
-  pub greatest : late ≡ max_to (late_at c present) c.n
-  pub lowest : 0 < late → task ≡ first_below (λ i. nat_eq (late_at c present i) (max_to (late_at c present) c.n)) c.n
-  pub low : task < most_tasks
+-- of the tasks with these next releases the one that is most late at the present tick
+abbrev pub latest_of : ℕ → List ℕ → List ℕ
+latest_of present next = latest (λ i. late present (slice_index next i)) (length next)

@@ -1,14 +1,14 @@
 -- The start of a clock: what it hands back, for every list of periods.
 -- Assumes nothing.
-use Rattle.std.specs.Prelude.{ℕ, Bool, not, List, length, replicate, nat_le, nat_lt, slice_index}
+use Rattle.std.specs.Prelude.{ℕ, Bool, not, List, length, replicate, nat_le, nat_lt, slice_index, Result, Ok, Err}
 use Rattle.ground.specs.Choice.{both}
 use Rattle.ground.specs.First.{first_below}
 use Rattle.ground.specs.Laid.{padded}
+use Rattle.kinds.specs.declared.Refusal.{Refusal}
 use Rattle.kinds.specs.declared.Refusal.TheVariants.{TooManyTasks, BadPeriod}
-use Rattle.kinds.specs.Answer.{Handed, accepted, refused, check, handed_with}
+use Rattle.kinds.specs.Answer.{Handed, accepted, refused, check}
 use Rattle.kinds.specs.Limits.{longest_period, most_tasks}
 use Rattle.clock.specs.declared.Clock.{Clock}
-use Rattle.clock.specs.declared.Started.{Started}
 
 -- the period of task i
 abbrev pub every : List ℕ → ℕ → ℕ
@@ -41,6 +41,7 @@ started periods tick =
     (check (nat_lt (first_bad periods) (length periods)) (refused no_clock (BadPeriod (first_bad periods)))
     (accepted (clock_from periods tick)))
 
--- a start in document 01's numbers, with the clock beside its verdict
-abbrev pub handed_start : Started → Handed Clock
-handed_start r = handed_with r.answer r.clock
+-- a start in document 01's numbers, with the clock of zeros beside a refusal
+abbrev pub handed_start : Result Clock Refusal → Handed Clock
+handed_start (Ok c) = accepted c
+handed_start (Err r) = refused no_clock r

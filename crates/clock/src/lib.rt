@@ -2,14 +2,14 @@
 // `started` of `specs/Start`, and `released` and `after_call` of `specs/Call`; what they mean for time that does not wrap is in `clock_time`.
 #![tactic(auto)]
 
-ghost use Rattle.std.specs.Prelude.{◌≡◌, ◌≤◌, length};
+ghost use Rattle.std.specs.Prelude.{◌≡◌, ◌≤◌, ◌<◌, length, option_to_list, IfSome};
 ghost use Rattle.kinds.specs.Limits.{most_tasks};
-ghost use Rattle.clock.specs.Ticks.{half_turn};
-ghost use Rattle.clock.specs.Start.{is_period, first_bad, no_clock, clock_from, started, handed_start};
+ghost use Rattle.clock.specs.Ticks.{half_turn, late};
+ghost use Rattle.clock.specs.Start.{is_period, no_clock, clock_from, started, handed_start};
 ghost use Rattle.clock.specs.Call.{CallIs};
-ghost use Rattle.clock.specs.Handover.{LateIs, LatestIs};
+ghost use Rattle.clock.specs.Handover.{late_of, latest_of};
 
-use kinds::{Refusal, Table, Task, Verdict};
+use kinds::{Refusal, Table, Task};
 
 // The clock table by value: for each task its period and its next release, of which the first n count. It is laid out as C lays it out.
 #[repr(C)]
@@ -23,35 +23,20 @@ pub struct Clock {
 impl Clock {
     // Ask 12: due "when present minus next, wrapping at 32 bits, is below 2,147,483,648".
     pub const HALF_TURN: u32 = 2_147_483_648;
-}
 
-// The answer to a start, and the clock: of zeros where it is refused.
-#[derive(Clone, Copy)]
-pub struct Started {
-    pub answer: Verdict,
-    pub clock: Clock,
-}
-
-// What a call answers: the task that is handed back, or that none is due, or the refusal.
-#[derive(Clone, Copy)]
-pub enum Release {
-    Of(usize),
-    NoneDue,
-    Refused(Refusal),
-}
-
-// The answer to a call, and the clock after it.
-#[derive(Clone, Copy)]
-pub struct Called {
-    pub answer: Release,
-    pub clock: Clock,
-}
-
-// The greatest lateness, and the lowest task that has it.
-#[derive(Clone, Copy)]
-struct Latest {
-    late: u32,
-    task: usize,
+    // Hands back the due task that is furthest behind at the present tick, if one is due, and moves its next release on by its period.
+    pub fn call(&mut self, present: u32) -> Result<Option<usize>, Refusal>
+        ensures { CallIs self.old present result self.new }
+    {
+        if Table::MOST_TASKS < self.n {
+            return Err(Refusal::TooManyTasks(self.n));
+        }
+        let Some(task) = most_late(&self.next[..self.n], present) else {
+            return Ok(None);
+        };
+        self.next[task] = self.next[task].wrapping_add(self.periods[task]);
+        Ok(Some(task))
+    }
 }
 
 // The half turn that definitions name is the one that the code names.
@@ -63,21 +48,7 @@ pub fn limits()
 pub fn is_period(ticks: u32) -> bool
     ensures { result ≡ is_period ticks }
 {
-    1 <= ticks && ticks <= Task::LONGEST_PERIOD
-}
-
-// The first period that a clock does not take, or how many there are.
-fn first_bad(periods: &[u32]) -> usize
-    ensures { result ≡ first_bad periods.now }
-{
-    let n = periods.len();
-    for i in 0..n {
-        let ticks = periods[i];
-        if !is_period(ticks) {
-            return i;
-        }
-    }
-    n
+    (1..=Task::LONGEST_PERIOD).contains(&ticks)
 }
 
 // A clock without tasks, all zeros.
@@ -85,8 +56,8 @@ pub fn no_clock() -> Clock
     ensures { result ≡ no_clock }
 {
     Clock {
-        periods: [0u32; Table::MOST_TASKS],
-        next: [0u32; Table::MOST_TASKS],
+        periods: [0; Table::MOST_TASKS],
+        next: [0; Table::MOST_TASKS],
         n: 0,
     }
 }
@@ -97,12 +68,10 @@ fn clock_from(periods: &[u32], tick: u32) -> Clock
     ensures { result ≡ clock_from periods.now tick }
 {
     let n = periods.len();
-    let mut held = [0u32; Table::MOST_TASKS];
-    let mut next = [0u32; Table::MOST_TASKS];
-    for i in 0..n {
-        held[i] = periods[i];
-        next[i] = tick;
-    }
+    let mut held = [0; Table::MOST_TASKS];
+    held[..n].copy_from_slice(periods);
+    let mut next = [0; Table::MOST_TASKS];
+    next[..n].fill(tick);
     Clock {
         periods: held,
         next,
@@ -111,84 +80,40 @@ fn clock_from(periods: &[u32], tick: u32) -> Clock
 }
 
 // Starts a clock for these periods at a tick.
-pub fn start(periods: &[u32], tick: u32) -> Started
+pub fn start(periods: &[u32], tick: u32) -> Result<Clock, Refusal>
     ensures { handed_start result ≡ started periods.now tick }
 {
     let n = periods.len();
     if Table::MOST_TASKS < n {
-        return Started {
-            answer: Verdict::Refused(Refusal::TooManyTasks(n)),
-            clock: no_clock(),
-        };
+        return Err(Refusal::TooManyTasks(n));
     }
-    let bad = first_bad(periods);
-    if bad < n {
-        return Started {
-            answer: Verdict::Refused(Refusal::BadPeriod(bad)),
-            clock: no_clock(),
-        };
-    }
-    Started {
-        answer: Verdict::Accepted,
-        clock: clock_from(periods, tick),
+    match periods.iter().position(|ticks| !is_period(*ticks)) {
+        Some(bad) => Err(Refusal::BadPeriod(bad)),
+        None => Ok(clock_from(periods, tick)),
     }
 }
 
-// 0 where a task with this next release is not due, else one more than the ticks that it is behind.
-fn lateness(present: u32, next: u32) -> u32
-    ensures { LateIs present next result }
+// How many ticks a task with this next release is behind, if it is due.
+fn ticks_behind(present: u32, next: u32) -> Option<u32>
+    ensures { late_of result ≡ late present next }
 {
-    let ticks = std::num::wrapping_sub_u32(present, next);
-    if ticks < Clock::HALF_TURN {
-        ticks + 1
-    } else {
-        0
-    }
+    let ticks = present.wrapping_sub(next);
+    (ticks < Clock::HALF_TURN).then_some(ticks)
 }
 
-// The task that is most late, the lowest on a tie.
-fn most_late(clock: Clock, present: u32) -> Latest
-    requires { clock.n ≤ most_tasks }
-    ensures { LatestIs clock present result.late result.task }
+// The task that is most late, the lowest on a tie; none where none is due.
+fn most_late(next: &[u32], present: u32) -> Option<usize>
+    ensures listed { option_to_list result ≡ latest_of present next.now }
+    ensures within { IfSome result (λ i. i < length next.now) }
 {
-    let n = clock.n;
-    let mut most: u32 = 0;
-    let mut task: usize = 0;
-    for i in 0..n {
-        let late = lateness(present, clock.next[i]);
-        if most < late {
-            most = late;
-            task = i;
+    let mut latest: Option<(usize, u32)> = None;
+    for (task, at) in next.iter().enumerate() {
+        if let Some(ticks) = ticks_behind(present, *at) {
+            if latest.is_none_or(|(_, most)| most < ticks) {
+                latest = Some((task, ticks));
+            }
         }
     }
-    Latest { late: most, task }
-}
-
-// Hands back the due task that is furthest behind at the present tick, and moves its next release on by its period.
-pub fn call(clock: Clock, present: u32) -> Called
-    ensures { CallIs clock present result }
-{
-    let n = clock.n;
-    if Table::MOST_TASKS < n {
-        return Called {
-            answer: Release::Refused(Refusal::TooManyTasks(n)),
-            clock,
-        };
-    }
-    let latest = most_late(clock, present);
-    if latest.late == 0 {
-        return Called {
-            answer: Release::NoneDue,
-            clock,
-        };
-    }
-    let i = latest.task;
-    let next = clock.next[i];
-    let period = clock.periods[i];
-    let mut after = clock;
-    after.next[i] = std::num::wrapping_add_u32(next, period);
-    Called {
-        answer: Release::Of(i),
-        clock: after,
-    }
+    let (task, _) = latest?;
+    Some(task)
 }

@@ -13,7 +13,7 @@ use Rattle.rule.proofs.Shares.{share-saturated, share-above}
 use Rattle.division.specs.declared.Line.{Line}
 use Rattle.springs.specs.declared.Spring.{Spring}
 use Rattle.springs.specs.Spring.{share_on, saturation_on}
-use Rattle.springs.specs.Handover.{Within}
+use Rattle.springs.specs.Allowed.{Within}
 use Rattle.division.specs.Division.{slope, need}
 use Rattle.division.specs.Handover.{LineIs, NeedIs}
 

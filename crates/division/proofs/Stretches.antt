@@ -13,7 +13,7 @@ use Rattle.policy.specs.Weighed.{weighed, weighed_at}
 use Rattle.policy.proofs.Weighing.{weighed-stays}
 use Rattle.springs.specs.declared.Spring.{Spring}
 use Rattle.springs.specs.Spring.{share_on, saturation_on, shares_on, saturations}
-use Rattle.springs.proofs.Springs.{shares-fall}
+use Rattle.springs.proofs.Shares.{shares-fall}
 use Rattle.division.specs.Next.{Next}
 use Rattle.division.specs.Division.{slope, slope_sum, need, need_to, divided}
 use Rattle.division.proofs.Lines.{share-line, slope-some, need-iff, need-flat, both_ways}

@@ -2,8 +2,9 @@
 -- Assumes nothing.
 use Rattle.std.specs.Prelude.{ℕ, zero, suc, ◌+◌, ◌-◌, max, min, ltb}
 use Rattle.ground.specs.Choice.{pick}
-use Rattle.ground.specs.Folds.{sum_to}
+use Rattle.ground.specs.Folds.{sum_to, AddedUp}
 use Rattle.ground.specs.Rounding.{ceil_div}
+use Rattle.kinds.specs.Limits.{greatest_elasticity}
 use Rattle.policy.specs.declared.Weights.{Weights}
 use Rattle.policy.specs.Sides.{left_of}
 use Rattle.springs.specs.declared.Spring.{Spring}
@@ -15,6 +16,10 @@ slope s p = pick (ltb p (saturation_on s)) s.elasticity 0
 
 abbrev pub slope_sum : (ℕ → Spring) → ℕ → ℕ → ℕ
 slope_sum springs n p = sum_to (λ i. slope (springs i) p) n
+
+-- the same as a walk works it out
+abbrev pub FallIs : (ℕ → Spring) → ℕ → ℕ → ℕ → Type 0
+FallIs springs n p r = AddedUp (λ i. slope (springs i) p) greatest_elasticity n r
 
 -- the steps that are needed after p if the task with the share x and the slope d has the max; the sum falls by `fall`
 unfoldable pub need : Weights → ℕ → ℕ → ℕ → ℕ → ℕ

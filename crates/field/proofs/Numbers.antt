@@ -1,29 +1,12 @@
 -- Laws of numbers and their bytes, for every size. The last two are the two ways of the round trip.
 -- Assumes nothing.
-use Rattle.ground.proofs.Kit.{ℕ, zero, suc, ◌+◌, ◌*◌, ◌/◌, ◌%◌, ◌≤◌, ◌<◌, List, [], ◌∷◌, ◌++◌, ◌≡◌, refl, ◌∙◌, ap, add-one, arith, length, get_or, take, drop}
+use Rattle.ground.proofs.Kit.{ℕ, zero, suc, ◌+◌, ◌-◌, ◌*◌, ◌/◌, ◌%◌, ◌≤◌, ◌<◌, List, [], ◌∷◌, ◌++◌, ◌≡◌, refl, sym, ◌∙◌, ap, add-one, arith, length, get_or, take, drop}
+use Rattle.ground.proofs.Kit.{length-take-le, length-drop, take-append-drop}
 use native.Mathlib.Nat.{add_assoc, div-lt_iff_lt-mul, div-add-mod'}
 use lib.ListN.{get_or-append}
-use lib.Seq.{drop-cons, get_or-append-add}
+use lib.Seq.{drop-cons, get_or-append-add, take_all}
+use Rattle.std.specs.List.{slice_range}
 use Rattle.field.specs.Number.{Bytes, number_at, bytes_of, limit}
-
--- entries that are bytes, up to the end, make a list of bytes: what is read past the end is 0
-pub all-bytes : (s : List ℕ) → ((i : ℕ) → i < length s → get_or s i 0 < 256) → Bytes s
-all-bytes [] h i = omega arith
-all-bytes (x ∷ s) h zero = h 0 (omega arith)
-all-bytes (x ∷ s) h (suc i) = all-bytes s (λ j l. h (suc j) (omega arith)) i
-
--- 2 and 4 bytes, written out
-module _ (s : List ℕ) (at : ℕ) where
-  pub number-two : number_at 2 s at ≡ get_or s at 0 + 256 * get_or s (at + 1) 0
-  unfolding number_at
-  number-two = omega arith
-
-  pub number-four : number_at 4 s at ≡ get_or s at 0 + 256 * (get_or s (at + 1) 0 + 256 * (get_or s (at + 2) 0 + 256 * get_or s (at + 3) 0))
-  unfolding number_at
-  number-four =
-      let two : at + 1 + 1 ≡ at + 2 = omega arith in
-      let three : at + 2 + 1 ≡ at + 3 = omega arith in
-      rw (two, three) (omega arith)
 
 pub bytes-long : (size v : ℕ) → length (bytes_of size v) ≡ size
 unfolding bytes_of
@@ -43,6 +26,17 @@ module _ (p q : List ℕ) where
   number-front zero k h = refl
   number-front (suc size) k h =
       rw (get_or-append p q 0 k (omega arith), number-front size (k + 1) (omega arith))
+
+-- a number at a place stands at the front of what is left from there on
+pub number-drop : (size : ℕ) (s : List ℕ) (at : ℕ) → at ≤ length s → number_at size (drop at s) 0 ≡ number_at size s at
+number-drop size s at h =
+    let a : length (take at s) + 0 ≡ at = omega (arith, length-take-le at s h) in
+    sym (number-skip (take at s) (drop at s) size 0) ∙ rw (a, take-append-drop) refl
+
+pub number-left : (size : ℕ) (s : List ℕ) (at : ℕ) → at ≤ length s → number_at size (slice_range s at (length s)) 0 ≡ number_at size s at
+number-left size s at h =
+    let rest : take (length s - at) (drop at s) ≡ drop at s = take_all (length s - at) (drop at s) (simp length-drop (omega arith)) in
+    ap (λ (l : List ℕ). number_at size l 0) rest ∙ number-drop size s at h
 
 -- the bytes of the number at a place are the bytes there
 pub bytes_back : (s : List ℕ) → Bytes s → (size at : ℕ) → at + size ≤ length s → bytes_of size (number_at size s at) ≡ take size (drop at s)

@@ -5,7 +5,7 @@ use Rattle.ground.proofs.Kit.{ℕ, ◌+◌, ◌≤◌, ◌<◌, List, [], ◌++�
 use Rattle.ground.proofs.Kit.{length-take-le}
 use lib.Seq.{take_all, take_at, drop_at, take-add, drop-drop}
 use Rattle.field.specs.Number.{Bytes, number_at, bytes_of, limit}
-use Rattle.field.proofs.Numbers.{number-skip, number-front, bytes_back, number-back}
+use Rattle.field.proofs.Numbers.{number-drop, number-front, bytes_back, number-back}
 
 -- the run of so many bytes that stands at a place
 pub record Part (s : List ℕ) (at size : ℕ) (run : List ℕ) : Type 0 where
@@ -58,14 +58,10 @@ module _ {s : List ℕ} {at : ℕ} (m n : ℕ) (xs ys : List ℕ) (long : length
 -- a number depends on its own bytes only
 number-part : (size : ℕ) (s : List ℕ) (at : ℕ) → at + size ≤ length s → number_at size s at ≡ number_at size (take size (drop at s)) 0
 number-part size s at h =
-    let a : length (take at s) ≡ at = length-take-le at s (omega arith) in
-    let e : length (take at s) + 0 ≡ at = omega arith in
     let d : length (take size (drop at s)) ≡ size = length-take-le size (drop at s) (simp length-drop (omega arith)) in
-    ap (λ (l : List ℕ). number_at size l at) (sym (take-append-drop at s))
-    ∙ (ap (number_at size (take at s ++ drop at s)) (sym e)
-    ∙ (number-skip (take at s) (drop at s) size 0
+    sym (number-drop size s at (omega arith))
     ∙ (ap (λ (l : List ℕ). number_at size l 0) (sym (take-append-drop size (drop at s)))
-    ∙ number-front (take size (drop at s)) (drop size (drop at s)) size 0 (omega arith))))
+    ∙ number-front (take size (drop at s)) (drop size (drop at s)) size 0 (omega arith))
 
 -- the number whose bytes stand at a place stands there
 pub part-number : (size v : ℕ) {s : List ℕ} {at : ℕ} → v < limit size → Part s at size (bytes_of size v) → number_at size s at ≡ v

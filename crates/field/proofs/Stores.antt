@@ -1,8 +1,9 @@
 -- Laws of runs of bytes stored in a buffer: two runs one after the other are one run, and a run from the front is what `stored-front` says.
 -- Assumes nothing.
-use Rattle.ground.proofs.Kit.{ℕ, suc, ◌+◌, ◌≤◌, List, [], ◌∷◌, ◌++◌, ◌≡◌, refl, sym, ◌∙◌, ap, arith, length, set, drop, length-append}
+use Rattle.ground.proofs.Kit.{ℕ, suc, ◌+◌, ◌-◌, ◌≤◌, List, [], ◌∷◌, ◌++◌, append_assoc, ◌≡◌, refl, sym, ◌∙◌, ap, arith, length, set, drop, length-append}
 use native.Mathlib.Nat.{add-zero}
 use lib.Seq.{sets, sets-eq, length-sets}
+use borrow.Rule.Slice.PartMut.{post_of, put_mid, Post-is}
 use Rattle.ground.specs.Folds.{join_to}
 use Rattle.ground.proofs.Joins.{join-none, join_more, join-longer}
 use Rattle.field.specs.Handover.{stored, Put}
@@ -28,6 +29,19 @@ stored-front out run size e h =
 pub put-none : (out : List ℕ) (at : ℕ) → Put out at 0 [] at out
 unfolding stored
 put-none out at = record { next-is = sym (add-zero at); run_long = refl; new_is = refl }
+
+-- a run that replaces the part of a buffer from its place on
+pub put-part : (out run : List ℕ) (at size end : ℕ) → length run ≡ size → end ≡ at + size → end ≤ length out
+    → Put out at size run end (put_mid at (end - at) out run)
+unfolding stored
+put-part out run at size end long e h =
+    let l : at + length run ≡ end = omega arith in
+    let after : post_of at (end - at) out ≡ drop (at + length run) out = Post-is at end out (omega arith) ∙ ap (λ (n : ℕ). drop n out) (sym l) in
+    record {
+      next-is = e;
+      run_long = long;
+      new_is = rw (after, ← append_assoc) (sym (sets-eq run out at (omega arith)));
+    }
 
 -- a run after a run is one run
 pub put_then : {out mid new : List ℕ} {at m next n end : ℕ} {xs ys : List ℕ} → Put out at m xs next mid → Put mid next n ys end new
@@ -58,10 +72,3 @@ put-no-run f out at = rw (join-none f) (put-none out at)
 pub put-run : (f : ℕ → List ℕ) (i : ℕ) {out mid new : List ℕ} {at next end : ℕ} → Put out at (length (join_to f i)) (join_to f i) next mid
     → Put mid next (length (f i)) (f i) end new → Put out at (length (join_to f (i + 1))) (join_to f (i + 1)) end new
 put-run f i p q = put-sized (sym (join-longer f i)) (rw (join_more f i) (put_then p q))
-
--- a place 2 or 3 on, as `sets` counts it
-pub two-on : (at : ℕ) → at + 2 ≡ suc (suc at)
-two-on at = omega arith
-
-pub three-on : (at : ℕ) → at + 3 ≡ suc (suc (suc at))
-three-on at = omega arith

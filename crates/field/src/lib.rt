@@ -2,95 +2,96 @@
 // cite `specs/Number`, `specs/Field` and `specs/Handover`.
 #![tactic(auto)]
 
-ghost use Rattle.std.specs.Prelude.{◌≡◌, ◌+◌, ◌-◌, ◌≤◌, ◌<◌, length};
-ghost use Rattle.field.specs.Number.{Bytes, bytes_of};
-ghost use Rattle.field.specs.Field.{field16, field32};
+ghost use Rattle.std.specs.Prelude.{◌≡◌, ◌+◌, ◌≤◌, ℕ, length, refl};
+ghost use Rattle.field.specs.Number.{Bytes, bytes_of, number_at};
+ghost use Rattle.field.specs.Field.{front_by, field_by};
 ghost use Rattle.field.specs.Handover.{Put};
 
-// A field of 2 bytes: its value and the place after it, or that it is not there.
-#[derive(Clone, Copy)]
-pub enum Field16 {
-    Value(u16, usize),
-    Missing,
+// A kind of number that fields hold: how many bytes it takes, the value that a number is, and the number that a value is.
+pub trait Number: Copy {
+    const SIZE: usize;
+
+    ghost SIZE: { ℕ };
+
+    ghost of: { ℕ → Self };
+
+    ghost number: { Self → ℕ };
+
+    // The number at the front of a slice.
+    fn first(s: &[u8]) -> Option<Self>
+        ensures { result ≡ front_by SIZE of s.now };
+
+    // Fills a field with the number's bytes.
+    fn fill(self, field: &mut [u8])
+        requires { length field.old ≡ SIZE }
+        ensures { field.new ≡ bytes_of SIZE (number self) };
+
+    ghost back: { (v : Self) → of (number v) ≡ v };
 }
 
-// A field of 4 bytes: its value and the place after it, or that it is not there.
-#[derive(Clone, Copy)]
-pub enum Field32 {
-    Value(u32, usize),
-    Missing,
+impl Number for u16 {
+    const SIZE: usize = 2;
+
+    ghost SIZE = { 2 };
+
+    ghost of = { λ n. n };
+
+    ghost number = { λ v. v };
+
+    #[tactic(auto, unfolding(crate::specs::Number::number_at, crate::specs::Field::front_by))]
+    fn first(s: &[u8]) -> Option<u16> {
+        Some(u16::from_le_bytes(*s.first_chunk()?))
+    }
+
+    #[tactic(auto, unfolding(crate::specs::Number::bytes_of))]
+    fn fill(self, field: &mut [u8]) {
+        field.copy_from_slice(&self.to_le_bytes());
+    }
+
+    ghost back = { λ v. refl };
+}
+
+impl Number for u32 {
+    const SIZE: usize = 4;
+
+    ghost SIZE = { 4 };
+
+    ghost of = { λ n. n };
+
+    ghost number = { λ v. v };
+
+    #[tactic(auto, unfolding(crate::specs::Number::number_at, crate::specs::Field::front_by))]
+    fn first(s: &[u8]) -> Option<u32> {
+        Some(u32::from_le_bytes(*s.first_chunk()?))
+    }
+
+    #[tactic(auto, unfolding(crate::specs::Number::bytes_of))]
+    fn fill(self, field: &mut [u8]) {
+        field.copy_from_slice(&self.to_le_bytes());
+    }
+
+    ghost back = { λ v. refl };
 }
 
 // Every lent slice of bytes is a list of bytes: each of its entries is below 256.
 pub fn all_bytes(s: &[u8])
     ensures { Bytes s.now }
+{}
+
+// The number at a place, and the place after it.
+pub fn read<N: Number>(s: &[u8], at: usize) -> Option<(N, usize)>
+    ensures { result ≡ field_by N.SIZE (λ s at. N.of (number_at N.SIZE s at)) s.now at }
 {
-    for i in 0..s.len() {
-        wide16(s[i]);
-    }
+    let number = N::first(s.get(at..)?)?;
+    Some((number, at + N::SIZE))
 }
 
-fn wide16(byte: u8) -> u16
-    ensures { (result ≡ byte) × (result < 256) }
+// Stores a number at a place, and nothing else; returns the place after it.
+pub fn put<N: Number>(out: &mut [u8], at: usize, v: N) -> usize
+    requires { at + N.SIZE ≤ length out.old }
+    ensures { Put out.old at N.SIZE (bytes_of N.SIZE (N.number v)) result out.new }
 {
-    byte as u16
-}
-
-fn wide32(byte: u8) -> u32
-    ensures { (result ≡ byte) × (result < 256) }
-{
-    byte as u32
-}
-
-// How many bytes stand from a place on.
-fn left(s: &[u8], at: usize) -> usize
-    ensures { result ≡ length s.now - at }
-{
-    if s.len() < at { 0 } else { s.len() - at }
-}
-
-// The number of 2 bytes at a place.
-pub fn read_u16(s: &[u8], at: usize) -> Field16
-    ensures { result ≡ field16 s.now at }
-{
-    if left(s, at) < 2 {
-        return Field16::Missing;
-    }
-    Field16::Value(wide16(s[at]) + 256 * wide16(s[at + 1]), at + 2)
-}
-
-// The number of 4 bytes at a place.
-pub fn read_u32(s: &[u8], at: usize) -> Field32
-    ensures { result ≡ field32 s.now at }
-{
-    if left(s, at) < 4 {
-        return Field32::Missing;
-    }
-    let high = wide32(s[at + 2]) + 256 * wide32(s[at + 3]);
-    Field32::Value(
-        wide32(s[at]) + 256 * (wide32(s[at + 1]) + 256 * high),
-        at + 4,
-    )
-}
-
-// Stores a number in the 2 bytes at a place, and nothing else; returns the place after it.
-pub fn put_u16(out: &mut [u8], at: usize, v: u16) -> usize
-    requires { at + 2 ≤ length out.old }
-    ensures { Put out.old at 2 (bytes_of 2 v) result out.new }
-{
-    out[at] = (v % 256) as u8;
-    out[at + 1] = (v / 256 % 256) as u8;
-    at + 2
-}
-
-// Stores a number in the 4 bytes at a place, and nothing else; returns the place after it.
-pub fn put_u32(out: &mut [u8], at: usize, v: u32) -> usize
-    requires { at + 4 ≤ length out.old }
-    ensures { Put out.old at 4 (bytes_of 4 v) result out.new }
-{
-    out[at] = (v % 256) as u8;
-    out[at + 1] = (v / 256 % 256) as u8;
-    out[at + 2] = (v / 256 / 256 % 256) as u8;
-    out[at + 3] = (v / 256 / 256 / 256 % 256) as u8;
-    at + 4
+    let next = at + N::SIZE;
+    v.fill(&mut out[at..next]);
+    next
 }

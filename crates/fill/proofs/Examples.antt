@@ -15,7 +15,8 @@ use Rattle.plain_finder.specs.Asked.{asked}
 use Rattle.field.specs.Number.{number_at, bytes_of}
 use Rattle.sheet.specs.Sections.{settings_fit, results_fit}
 use Rattle.sheet.specs.Reading.{settings_count, task_count, result_count, sheet_in, read_rows, read_sheet}
-use Rattle.writer.specs.Encode.{task_bytes, granted_bytes, rows_bytes, settings_bytes, encode}
+use Rattle.sheet.specs.Rows.{task_bytes, granted_bytes, rows_bytes}
+use Rattle.writer.specs.Encode.{settings_bytes, encode}
 use Rattle.numeral.specs.Decimal.{digits_in, decimal}
 use Rattle.fill.specs.Results.{results_of, with_plan}
 use Rattle.refusal_line.specs.Line.{refusal_line}

@@ -1,4 +1,5 @@
 pub mod Fills
+pub mod Made
 pub mod Plans
 pub mod Readings
 pub mod Beyond

@@ -1,21 +1,20 @@
 -- What the plain finder leaves in two outputs is the plan of the definition, and its sheet can always be written.
 -- Assumes nothing.
-use Rattle.ground.proofs.Kit.{ℕ, ◌+◌, ◌≤◌, ◌<◌, min, true, List, [], ◌++◌, ◌≡◌, refl, sym, ◌∙◌, ap, ap₂, arith, eqb, length, get_or, set, drop, eq-eqb}
-use Rattle.ground.proofs.Kit.{ne_eqb, lt-ltb}
-use lib.ListN.{get_or-append}
-use Rattle.ground.specs.Laid.{padded_to}
+use Rattle.ground.proofs.Kit.{ℕ, ◌≤◌, ◌<◌, min, true, List, [], ◌++◌, ◌≡◌, refl, sym, ◌∙◌, ap, ap₂, arith, eqb, length, get_or, drop, eq-eqb, Ok, Err}
+use Rattle.ground.proofs.Kit.{ne_eqb, lt-ltb, le-ltb, ltb, false}
+use lib.ListN.{get_or-append, get_or-eq_default}
+use Rattle.std.specs.Result.{is_err}
+use Rattle.ground.specs.Choice.{pick}
 use Rattle.ground.proofs.Buffer.{list-long}
 use Rattle.ground.proofs.Cases.{by_bool, by_le}
-use Rattle.ground.proofs.Laid.{over-more, over-cong}
+use Rattle.ground.proofs.Laid.{over-cong, padded-to-is}
 use Rattle.kinds.specs.declared.Granted.{Granted}
 use Rattle.kinds.specs.declared.Results.{Results}
 use Rattle.kinds.specs.declared.Sheet.{Sheet}
 use Rattle.kinds.specs.declared.Refusal.{Refusal}
-use Rattle.kinds.specs.declared.Answer.{Answer}
-use Rattle.kinds.specs.declared.Answer.TheVariants as answer
 use Rattle.kinds.specs.Limits.{most_tasks}
 use Rattle.kinds.specs.Refusal.{number_of}
-use Rattle.kinds.specs.Answer.{Handed, accepted, refused, handed}
+use Rattle.kinds.specs.Answer.{Handed, accepted, refused, handed, Answer, Counted}
 use Rattle.kinds.proofs.Refusals.{refusal-numbered}
 use Rattle.kinds.proofs.Answers.{handed-one}
 use Rattle.kinds.proofs.Chain.{comes-first, goes_on}
@@ -28,7 +27,6 @@ use Rattle.plain_finder.proofs.Asked.{asked-roomy}
 use Rattle.sheet.specs.Sections.{longest_sheet, settings_fit, results_fit}
 use Rattle.sheet.specs.Rows.{granted, no_granted, no_results}
 use Rattle.sheet.proofs.Stages.{settings-few}
-use Rattle.kinds.specs.declared.Counted.{Counted}
 use Rattle.writer.specs.Encode.{encode, length_of}
 use Rattle.writer.specs.Writing.{write_sheet, Writes}
 use Rattle.writer.proofs.Rows.{encode-long}
@@ -37,14 +35,25 @@ use Rattle.fill.specs.declared.SheetPlan.{SheetPlan}
 use Rattle.fill.specs.Results.{entry_at, results_of, plan_periods, plan_processors, with_plan, after_plan, Plans}
 use Rattle.fill.specs.Fill.{planned_sheet, Fills}
 
--- the rows of a results section, one by one
-module _ (periods processors : List ℕ) (rows : List Granted) (i : ℕ) (is : rows ≡ padded_to no_granted most_tasks (entry_at periods processors) i) where
-  pub rows_more : set rows i (entry_at periods processors i) ≡ padded_to no_granted most_tasks (entry_at periods processors) (i + 1)
-  rows_more = ap (λ (l : List Granted). set l i (entry_at periods processors i)) is ∙ sym (over-more no_results (entry_at periods processors) i)
+-- the rows of a results section: an entry in each of the first n places, and the others unused
+pub results-are : (periods processors : List ℕ) (n : ℕ) (rows : List Granted) → n ≤ most_tasks → length rows ≡ most_tasks
+    → ((i : ℕ) (d : Granted) → i < most_tasks → get_or rows i d ≡ pick (ltb i n) (entry_at periods processors i) no_granted)
+    → record { rows = rows; n = n } ≡ results_of periods processors n
+unfolding results_of
+results-are periods processors n rows few long each =
+    let same = padded-to-is no_granted most_tasks (entry_at periods processors) n rows few long
+    (λ i l. sym (rw (lt-ltb i n l) at (each i no_granted (omega arith))))
+    (λ i h. by_le most_tasks i (λ past. get_or-eq_default rows no_granted {n = i} (omega arith)) (λ l. rw (le-ltb i n h) at (each i no_granted l))) in
+    ap (λ (l : List Granted). record { rows = l; n = n }) (sym same)
 
-  pub rows-done : (n : ℕ) → i ≡ n → record { rows = rows; n = n } ≡ results_of periods processors n
-  unfolding results_of
-  rows-done n e = rw (← e) (ap (λ (l : List Granted). record { rows = l; n = i }) is)
+-- what an answer is, by its test
+pub refused_by : (a : Answer) → is_err a ≡ true → (q : Refusal) × (a ≡ Err q)
+refused_by (Ok k) e = absurd (let z : ◌≡◌ {A = ℕ} 0 1 = cc in omega arith)
+refused_by (Err q) e = (q, refl)
+
+pub accepted_by : (a : Answer) → is_err a ≡ false → (k : ℕ) × (a ≡ Ok k)
+accepted_by (Ok k) e = (k, refl)
+accepted_by (Err q) e = absurd (let z : ◌≡◌ {A = ℕ} 0 1 = cc in omega arith)
 
 -- a sheet with other results
 abbrev pub with_results : Sheet → Results → Sheet
@@ -83,14 +92,14 @@ module _ (x : Sheet) (ps qs ps' qs' : List ℕ) (long-ps : length ps ≡ most_ta
   answered = m.answers ∙ asked-of-most x (min (length ps) (length qs)) (omega arith)
 
   -- a refusal of the plain finder leaves the sheet as it was
-  pub plan-refused : (q : Refusal) → a ≡ answer.Refused q → Plans x (record { answer = a; sheet = x })
+  pub plan-refused : (q : Refusal) → a ≡ Err q → Plans x (record { answer = a; sheet = x })
   unfolding after_plan
   plan-refused q e =
       let is : asked x ≡ refused 0 q = sym answered ∙ ap handed e in
       let not-accepted = ne_eqb (number_of q) 0 (λ z. omega (arith, refusal-numbered q)) in
       record { answers = answered; fills = rw (is, not-accepted) }
 
-  module _ (k : ℕ) (e : a ≡ answer.Accepted k) where
+  module _ (k : ℕ) (e : a ≡ Ok k) where
     step_is : asked x ≡ accepted k
     step_is = sym answered ∙ ap handed e
 
@@ -136,11 +145,11 @@ module _ (x : Sheet) (ps qs ps' qs' : List ℕ) (long-ps : length ps ≡ most_ta
 
 -- what comes of a sheet that was filled in: its refusal, or its bytes
 module _ (x : Sheet) (p : SheetPlan) (plans : Plans x p) where
-  pub filling-refused : (q : Refusal) → p.answer ≡ answer.Refused q → planned_sheet x ≡ refused [] q
+  pub filling-refused : (q : Refusal) → p.answer ≡ Err q → planned_sheet x ≡ refused [] q
   unfolding planned_sheet
   filling-refused q e = sym (comes-first [] (asked x) (λ k. accepted (encode (with_plan x k))) 0 q (sym plans.answers ∙ ap handed e))
 
-  module _ (k : ℕ) (e : p.answer ≡ answer.Accepted k) where
+  module _ (k : ℕ) (e : p.answer ≡ Ok k) where
     filled_at : asked x ≡ accepted k
     filled_at = sym plans.answers ∙ ap handed e
 

@@ -1,13 +1,12 @@
 -- What comes of a reading: its refusal, or the filled sheet; and the line that the program writes for a refusal.
 -- Assumes nothing.
-use Rattle.ground.proofs.Kit.{ℕ, List, [], ◌≡◌, sym, ◌∙◌, ap}
+use Rattle.ground.proofs.Kit.{ℕ, List, [], ◌≡◌, sym, ◌∙◌, ap, Ok, Err}
 use Rattle.kinds.specs.declared.Sheet.{Sheet}
 use Rattle.kinds.specs.declared.Refusal.{Refusal}
 use Rattle.kinds.specs.Refusal.{number_of, place_of}
 use Rattle.kinds.specs.Answer.{Handed, accepted, refused}
 use Rattle.kinds.proofs.Chain.{comes-first, goes_on}
 use Rattle.plain_finder.specs.Asked.{asked}
-use Rattle.kinds.specs.declared.Verdict.TheVariants as verdict
 use Rattle.sheet.specs.declared.Reading.{Reading}
 use Rattle.sheet.specs.Reading.{read_sheet, handed_reading}
 use Rattle.sheet.proofs.Handed.{handed-as}
@@ -40,8 +39,8 @@ filled-planned s x k read e = ap (λ (h : Handed (List ℕ)). or_line h (λ b. b
 
 -- as the reader hands it back
 module _ (s : List ℕ) (r : Reading) (read : handed_reading r ≡ read_sheet s) where
-  pub reading-refused : (q : Refusal) → r.verdict ≡ verdict.Refused q → planned s ≡ refused [] q
-  reading-refused q v = planned-refused s r.sheet q (handed-as s r read (verdict.Refused q) v)
+  pub reading-refused : (q : Refusal) → r.verdict ≡ Err q → planned s ≡ refused [] q
+  reading-refused q v = planned-refused s r.sheet q (handed-as s r read (Err q) v)
 
-  pub reading-accepted : r.verdict ≡ verdict.Accepted → planned s ≡ planned_sheet r.sheet
-  reading-accepted v = planned-accepted s r.sheet (handed-as s r read verdict.Accepted v)
+  pub reading-accepted : r.verdict ≡ (Ok tt) → planned s ≡ planned_sheet r.sheet
+  reading-accepted v = planned-accepted s r.sheet (handed-as s r read (Ok tt) v)

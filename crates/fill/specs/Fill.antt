@@ -2,10 +2,9 @@
 -- Assumes nothing.
 use Rattle.std.specs.Prelude.{ℕ, ◌≤◌, List, [], ◌≡◌, length}
 use Rattle.kinds.specs.declared.Sheet.{Sheet}
-use Rattle.kinds.specs.Answer.{Handed, accepted, unrefused, handed_count, after}
+use Rattle.kinds.specs.Answer.{Handed, accepted, unrefused, handed_count, after, Counted}
 use Rattle.plain_finder.specs.Asked.{asked}
 use Rattle.sheet.specs.Reading.{read_sheet}
-use Rattle.kinds.specs.declared.Counted.{Counted}
 use Rattle.writer.specs.Encode.{encode}
 use Rattle.refusal_line.specs.Line.{or_line}
 use Rattle.fill.specs.Results.{with_plan}

@@ -8,7 +8,8 @@ ghost use Rattle.refusal_line.specs.Fronts.{Fronts};
 ghost use Rattle.fill.specs.Results.{results_of, Plans};
 ghost use Rattle.fill.specs.Fill.{planned, filled, Fills};
 
-use kinds::{Answer, Counted, Granted, Results, Sheet, Table, Verdict};
+use kinds::{Granted, Refusal, Results, Sheet, Table};
+use std::array;
 
 // The results section of the first n entries of a plan's two outputs.
 fn results_of(
@@ -19,20 +20,24 @@ fn results_of(
     requires { n ≤ most_tasks }
     ensures { result ≡ results_of periods processors n }
 {
-    let mut rows = [Granted::NONE; Table::MOST_TASKS];
-    for i in 0..n {
-        rows[i] = Granted {
-            period: periods[i],
-            processor: processors[i],
-        };
-    }
+    let rows = array::from_fn(|i| {
+        if i < n {
+            Granted {
+                period: periods[i],
+                processor: processors[i],
+            }
+        } else {
+            Granted::NONE
+        }
+    });
     Results { rows, n }
 }
 
-// The plain finder's answer to a sheet, and the sheet with that plan for its results; as it was where it is refused.
+// The plain finder's answer to a sheet, and the sheet with that plan for its results. It is no Result: the sheet of a refusal is promised to be
+// handed back as it was (`Plans`).
 #[derive(Clone, Copy)]
 pub struct SheetPlan {
-    pub answer: Answer,
+    pub answer: Result<u32, Refusal>,
     pub sheet: Sheet,
 }
 
@@ -40,48 +45,31 @@ pub struct SheetPlan {
 pub fn fill_sheet(x: Sheet) -> SheetPlan
     ensures { Plans x result }
 {
-    let table = x.table;
-    let settings = x.settings;
     let mut periods = [0u32; Table::MOST_TASKS];
     let mut processors = [0u16; Table::MOST_TASKS];
-    let answer = plain_finder::find(table, settings, &mut periods, &mut processors);
-    if let Answer::Refused(_) = answer {
+    let answer = plain_finder::find(x.table, x.settings, &mut periods, &mut processors);
+    if answer.is_err() {
         return SheetPlan { answer, sheet: x };
     }
-    let results = results_of(periods, processors, table.n);
-    let sheet = Sheet {
-        count: x.count,
-        settings,
-        table,
-        results,
-    };
+    let results = results_of(periods, processors, x.table.n);
+    let sheet = Sheet { results, ..x };
     SheetPlan { answer, sheet }
 }
 
 // Fills in the sheet that was read, or refuses it; a refusal writes nothing.
-pub fn fill_in(input: &[u8], out: &mut [u8; sheet::LONGEST]) -> Counted
+pub fn fill_in(input: &[u8], out: &mut [u8; sheet::LONGEST]) -> Result<usize, Refusal>
     ensures { Fills (planned input.now) out.old result out.new }
 {
     let reading = sheet::read(input);
-    let verdict = reading.verdict;
-    if let Verdict::Refused(refusal) = verdict {
-        return Counted::Refused(refusal);
-    }
+    reading.verdict?;
     let plan = fill_sheet(reading.sheet);
-    let answer = plan.answer;
-    match answer {
-        Answer::Refused(refusal) => Counted::Refused(refusal),
-        Answer::Accepted(_) => writer::write(plan.sheet, out),
-    }
+    plan.answer?;
+    writer::write(plan.sheet, out)
 }
 
 // What the program writes for what it read, the filled sheet or the line of its refusal; returns how many bytes.
 pub fn fill(input: &[u8], out: &mut [u8; sheet::LONGEST]) -> usize
     ensures { Fronts (filled input.now) out.old result out.new }
 {
-    let written = fill_in(input, out);
-    match written {
-        Counted::Refused(refusal) => refusal_line::put_refusal(out, refusal),
-        Counted::Count(k) => k,
-    }
+    refusal_line::count_or_line(fill_in(input, out), out)
 }

@@ -1,10 +1,9 @@
 -- The computed answer is an acceptance exactly where Ask 14's sentence holds: `accepted-agrees` and `agrees-accepted`; and 19 names the
 -- first result that differs: `first-differing`.
 -- Assumes nothing.
-use Rattle.ground.proofs.Kit.{ℕ, ◌≤◌, ◌<◌, true, false, not, List, ◌≡◌, refl, sym, ◌∙◌, ap, ap₂, arith, eqb, leb, eq-eqb, eqb-true, le-leb, leb-true}
+use Rattle.ground.specs.Least.{Step}
+use Rattle.ground.proofs.Kit.{ℕ, ◌≤◌, ◌<◌, true, false, not, List, ◌≡◌, refl, sym, ◌∙◌, ap, ap₂, arith, eqb, leb, eq-eqb, eqb-true, le-leb, leb-true, Ok, Err, Some, None}
 use Rattle.ground.proofs.Kit.{not-false}
-use Rattle.ground.specs.declared.Step.{Step}
-use Rattle.ground.specs.declared.Step.TheVariants.{At, Nothing}
 use Rattle.ground.specs.Choice.{either}
 use Rattle.ground.specs.First.{first_below, IsFirst}
 use Rattle.ground.proofs.First.{first-is, first-none}
@@ -12,12 +11,10 @@ use Rattle.ground.proofs.Cases.{by_bool, true-false}
 use Rattle.kinds.specs.declared.Granted.{Granted}
 use Rattle.kinds.specs.declared.Sheet.{Sheet}
 use Rattle.kinds.specs.declared.Refusal.TheVariants.{NoResults, WrongResult}
-use Rattle.kinds.specs.declared.Verdict.{Verdict}
-use Rattle.kinds.specs.declared.Verdict.TheVariants as verdict
 use Rattle.kinds.specs.Limits.{most_tasks}
 use Rattle.kinds.specs.Task.{at}
 use Rattle.kinds.specs.Policy.{meant}
-use Rattle.kinds.specs.Answer.{accepted}
+use Rattle.kinds.specs.Answer.{accepted, Verdict}
 use Rattle.kinds.proofs.Refusals.{refusal-numbered}
 use Rattle.kinds.proofs.Chain.{goes_on, both-accept, judged-passed}
 use Rattle.share.specs.Share.{period_at}
@@ -40,9 +37,9 @@ use Rattle.filled_sheet.proofs.Compared.{planned-at}
 
 -- number 0 from the plain finder is an acceptance
 decided-numbered : (a : Verdict) (step : Step) → (decided a step).number ≡ 0 → decided a step ≡ accepted (decided a step).value
-decided-numbered (verdict.Refused r) step z = absurd (omega (arith, refusal-numbered r))
-decided-numbered verdict.Accepted (At k) z = refl
-decided-numbered verdict.Accepted Nothing z = absurd (omega arith)
+decided-numbered (Err r) step z = absurd (omega (arith, refusal-numbered r))
+decided-numbered (Ok _) (Some k) z = refl
+decided-numbered (Ok _) None z = absurd (omega arith)
 
 asked-by-number : (x : Sheet) → (asked x).number ≡ 0 → asked x ≡ accepted (asked x).value
 unfolding asked found

@@ -1,12 +1,10 @@
 -- The program's line for each verdict, and that the longest sheet's bytes and one more tell all.
 -- Assumes nothing.
-use Rattle.ground.proofs.Kit.{ℕ, ◌+◌, List, ◌≡◌, sym, ◌∙◌, ap, take}
+use Rattle.ground.proofs.Kit.{ℕ, ◌+◌, List, ◌≡◌, sym, ◌∙◌, ap, take, Ok, Err}
 use Rattle.kinds.specs.declared.Sheet.{Sheet}
 use Rattle.kinds.specs.declared.Refusal.{Refusal}
 use Rattle.kinds.specs.Refusal.{number_of, place_of}
-use Rattle.kinds.specs.Answer.{Handed, unrefused, handed_verdict, NumberAndPlace}
-use Rattle.kinds.specs.declared.Verdict.{Verdict}
-use Rattle.kinds.specs.declared.Verdict.TheVariants as verdict
+use Rattle.kinds.specs.Answer.{Handed, unrefused, handed_verdict, NumberAndPlace, Verdict}
 use Rattle.sheet.specs.Sections.{longest_sheet}
 use Rattle.sheet.proofs.Beyond.{front_reads}
 use Rattle.refusal_line.specs.Line.{refusal_line, or_line}
@@ -19,11 +17,11 @@ module _ (s : List ℕ) (v : Verdict) (is : handed_verdict v ≡ checked s) wher
   unfolding told
   line-is w e = ap (λ (h : NumberAndPlace). or_line h (λ u. accepted_line)) (sym is ∙ ap handed_verdict e)
 
-  pub accepted-line : v ≡ verdict.Accepted → told s ≡ accepted_line
-  accepted-line e = line-is verdict.Accepted e
+  pub accepted-line : v ≡ (Ok tt) → told s ≡ accepted_line
+  accepted-line e = line-is (Ok tt) e
 
-  pub refused-line : (q : Refusal) → v ≡ verdict.Refused q → told s ≡ refusal_line (number_of q) (place_of q)
-  refused-line q e = line-is (verdict.Refused q) e ∙ line_of (tt {0}) q (λ u. accepted_line)
+  pub refused-line : (q : Refusal) → v ≡ Err q → told s ≡ refusal_line (number_of q) (place_of q)
+  refused-line q e = line-is (Err q) e ∙ line_of (tt {0}) q (λ u. accepted_line)
 
 -- what is said of any input is said of the longest sheet's bytes and one more of it
 pub front-checks : (s : List ℕ) → checked (take (longest_sheet + 1) s) ≡ checked s

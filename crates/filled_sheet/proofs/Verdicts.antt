@@ -2,8 +2,7 @@
 -- Assumes nothing.
 use Rattle.ground.proofs.Kit.{ℕ, List, ◌≡◌, sym, ◌∙◌}
 use Rattle.kinds.specs.declared.Sheet.{Sheet}
-use Rattle.kinds.specs.declared.Verdict.{Verdict}
-use Rattle.kinds.specs.Answer.{handed_verdict}
+use Rattle.kinds.specs.Answer.{handed_verdict, Verdict}
 use Rattle.kinds.proofs.Answers.{verdict-one}
 use Rattle.fill.specs.declared.SheetPlan.{SheetPlan}
 use Rattle.filled_sheet.specs.Checked.{checked_by, checked}

@@ -1,7 +1,7 @@
 -- Document 02, Ask 14: which filled sheets are accepted, and by which number and place the others are refused.
 -- Assumes nothing.
-use Rattle.std.specs.Prelude.{ℕ, Bool, not, List, eqb, leb, get_or}
-use Rattle.ground.specs.Choice.{either}
+use Rattle.std.specs.Prelude.{ℕ, Bool, not, List, Option, Some, None, eqb, ltb, leb, get_or}
+use Rattle.ground.specs.Choice.{pick, either}
 use Rattle.ground.specs.First.{first_below}
 use Rattle.kinds.specs.declared.Granted.{Granted}
 use Rattle.kinds.specs.declared.Sheet.{Sheet}
@@ -20,6 +20,10 @@ differ a b = either (not (eqb a.period b.period)) (not (eqb a.processor b.proces
 -- two results sections differ in row i
 abbrev pub unlike : List Granted → List Granted → ℕ → Bool
 unlike rows others i = differ (get_or rows i no_granted) (get_or others i no_granted)
+
+-- the first of n rows in which two results sections differ, if there is one
+abbrev pub first_unlike : List Granted → List Granted → ℕ → Option ℕ
+first_unlike rows others n = pick (ltb (first_below (unlike rows others) n) n) (Some (first_below (unlike rows others) n)) None
 
 -- result i of a sheet differs from that of the sheet with the results that are due
 abbrev pub differs_at : Sheet → Sheet → ℕ → Bool

@@ -9,7 +9,8 @@ ghost use Rattle.fit.specs.Handover.{Loads, FitIs};
 
 use kinds::{Settings, Share, Table};
 
-// How a trial ended: whether every task is placed, and the processor of each task that was, from 1.
+// How a trial ended: whether every task is placed, and the processor of each task that was, from 1. No Option: `shortfall` shows the processors
+// also where a task is left without one.
 #[derive(Clone, Copy)]
 pub struct Fit {
     pub placed: bool,
@@ -25,6 +26,7 @@ pub fn first_fit(loads: &[u32], n: usize, m: usize) -> Fit
     let mut held = [0u32; Settings::MOST_PROCESSORS as usize];
     let mut processors = [0u16; Table::MOST_TASKS];
     let mut i: usize = 0;
+    // document 01's form: the walk over the processors, inside that over the tasks, ends both by a label, and i says where
     'tasks: while i < n {
         let load = loads[i];
         let mut j: usize = 0;
@@ -37,7 +39,7 @@ pub fn first_fit(loads: &[u32], n: usize, m: usize) -> Fit
             }
             j += 1;
         }
-        held[j] = held[j] + load;
+        held[j] += load;
         processors[i] = (j + 1) as u16;
         i += 1;
     }

@@ -5,8 +5,7 @@
 
 ghost use Rattle.std.specs.Prelude.{◌≡◌, ◌≤◌, length, take};
 
-use kinds::Counted;
-use loosen::fields;
+use loosen::fields::Kind;
 use std::io;
 
 // The sheet of a text, or the line of its refusal.
@@ -14,7 +13,7 @@ fn enter(policy: &[u8], processors: &[u8], given: &[u8], out: &mut [u8; sheet::L
     ensures { (result ≤ length out.new) × (result ≡ length (take result out.new)) }
 {
     let mut exact = [0u8; office::LONGEST];
-    let Counted::Count(k) = tidy::tidied(given, &mut exact) else {
+    let Ok(k) = tidy::tidied(given, &mut exact) else {
         return office_sheet::enter(policy, processors, given, out);
     };
     office_sheet::enter(policy, processors, &exact[..k], out)
@@ -27,7 +26,7 @@ fn main(rt: HostRuntime) -> io::Result<()> {
     let m = lent_input::word(&rt, 2, &mut processors);
     let mut given = [0u8; tidy::LONGEST + 1];
     let n = lent_input::read_full(&mut rt.stdin(), &mut given)?;
-    tidy_words::tell(&mut rt.stderr(), &given[..n], fields::OF_TASK);
+    tidy_words::tell(&mut rt.stderr(), &given[..n], Kind::Task);
     let mut out = [0u8; sheet::LONGEST];
     let k = enter(&policy[..p], &processors[..m], &given[..n], &mut out);
     rt.write_all(&out[..k])

@@ -1,8 +1,8 @@
 -- A buffer that is written from the front: the first i entries are f's, the rest is as it was.
 -- Assumes nothing.
-use Rattle.ground.proofs.Kit.{ℕ, zero, suc, ◌+◌, ◌-◌, ◌≤◌, ◌<◌, List, [], ◌∷◌, ◌++◌, append-nil, append_assoc, ◌≡◌, refl, ◌∙◌, ap, add-one, arith}
-use Rattle.ground.proofs.Kit.{length, get_or, set, drop, length-set, length-append}
-use lib.Seq.{set_at, drop-cons, get_or_at, get_or-append-add, get_or-drop, ext_get_or}
+use Rattle.ground.proofs.Kit.{ℕ, zero, suc, ◌+◌, ◌-◌, ◌≤◌, ◌<◌, List, [], ◌∷◌, ◌++◌, append-nil, append_assoc, ◌≡◌, refl, sym, ◌∙◌, ap, add-one, arith}
+use Rattle.ground.proofs.Kit.{length, get_or, set, take, drop, length-set, length-append}
+use lib.Seq.{set_at, drop-cons, take-suc, get_or_at, get_or-append-add, get_or-drop, ext_get_or}
 use Rattle.ground.specs.Folds.{list_to}
 use Rattle.ground.proofs.Cases.{by_le}
 
@@ -41,6 +41,12 @@ pub list_all : {A : Type 0} (none : A) (xs : List A) → list_to (λ i. get_or x
 list_all {A} none xs =
     let entry : ℕ → A = λ i. get_or xs i none in
     ext_get_or none _ _ (list-long entry (length xs)) (λ i l. list-in none entry (length xs) i (rw (list-long entry (length xs)) at l))
+
+-- its front
+pub list-taken : {A : Type 0} (none : A) (xs : List A) (n : ℕ) → n ≤ length xs → list_to (λ i. get_or xs i none) n ≡ take n xs
+unfolding list_to
+list-taken none xs zero h = refl
+list-taken none xs (suc n) h = rw (list-taken none xs n (omega arith)) (sym (take-suc xs n none h))
 
 pub list-past : (f : ℕ → ℕ) (n i : ℕ) (old : List ℕ) → n ≤ i → get_or (list_to f n ++ drop n old) i 0 ≡ get_or old i 0
 list-past f n i old h =

@@ -1,9 +1,8 @@
 -- Halving the range of a rising test gives its least step: a pass keeps the middle and what is below, a failure what is above. The tests
 -- that it makes are counted, and few.
 -- Assumes nothing.
-use Rattle.ground.proofs.Kit.{ℕ, zero, suc, ◌+◌, ◌-◌, ◌^◌, ◌≤◌, ◌<◌, Bool, true, false, ◌≡◌, refl, sym, ◌∙◌, ap, arith, lt-ltb, le-ltb}
+use Rattle.ground.proofs.Kit.{ℕ, zero, suc, ◌+◌, ◌-◌, ◌^◌, ◌≤◌, ◌<◌, Bool, true, false, ◌≡◌, refl, sym, ◌∙◌, ap, arith, lt-ltb, le-ltb, Some, None}
 use native.Mathlib.Nat.{two-pow-succ}
-use Rattle.ground.specs.declared.Step.TheVariants.{At, Nothing}
 use Rattle.ground.specs.Least.{least_up_to, Rising}
 use Rattle.ground.specs.Halving.{middle, tests_from, tests_made}
 use Rattle.ground.proofs.Cases.{by_bool, by_le, true-false}
@@ -44,12 +43,12 @@ module _ (test : ℕ → Bool) (K from to : ℕ) (s : Halved test K from to) whe
       }
 
   -- one step is left: it is the least, or none passes
-  pub halved-found : to ≤ from → from ≤ K → At from ≡ least_up_to test K
+  pub halved-found : to ≤ from → from ≤ K → Some from ≡ least_up_to test K
   halved-found h l =
       let e : to ≡ from = omega (arith, s.order) in
       least-here test K from s.below l (rw e at (s.there (omega arith)))
 
-  pub halved_none : to ≤ from → K < from → Nothing ≡ least_up_to test K
+  pub halved_none : to ≤ from → K < from → None ≡ least_up_to test K
   halved_none h l = least-none test K from s.below l
 
 -- the tests made, one at a time

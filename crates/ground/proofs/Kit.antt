@@ -4,6 +4,7 @@ pub use Prim.Native.Nat.{ℕ, zero, suc, ◌+◌, ◌-◌, ◌*◌, ◌/◌, ◌
 pub use mathlib.Core.Bool.{Bool, true, false, not}
 pub use mathlib.Core.List.{List, [], ◌∷◌, ◌++◌, append-nil, append_assoc}
 pub use mathlib.Core.Path.{◌≡◌, refl, sym, ◌∙◌, ap, ap₂, subst}
+pub use Rattle.std.specs.Prelude.{Option, Some, None, Result, Ok, Err}
 pub use mathlib.Core.Logic.{◌⊎◌, inl, inr, ⊎_elim}
 pub use native.Mathlib.Nat.{le_trans, mul-le-mul, mul-le-mul_left, mul-le-mul_right}
 pub use native.Mathlib.Numerals.{add-one}

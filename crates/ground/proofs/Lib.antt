@@ -12,3 +12,4 @@ pub mod Laid
 pub mod First
 pub mod Least
 pub mod Halving
+pub mod Lists

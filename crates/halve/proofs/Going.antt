@@ -1,16 +1,18 @@
 -- The loop that halves: one look more, and its end.
 -- Assumes nothing.
-use Rattle.ground.proofs.Kit.{ℕ, ◌-◌, ◌≤◌, ◌<◌, Bool, List, arith}
-use Rattle.ground.specs.declared.Step.TheVariants.{At, Nothing}
+use Rattle.ground.proofs.Kit.{ℕ, ◌-◌, ◌≤◌, ◌<◌, Bool, ◌≡◌, ◌∙◌, ap, arith, Some, None}
 use Rattle.ground.specs.Least.{Rising}
 use Rattle.ground.specs.Halving.{middle}
 use Rattle.ground.proofs.Cases.{by_bool}
 use Rattle.ground.proofs.Halving.{Counted, middle-in, made-few, counted-pass, counted-fail, counted-few, counted-done}
 use Rattle.ground.proofs.Halving.{halved-found, halved_none}
 use Rattle.springs.specs.Spring.{charges_on}
-use Rattle.springs.specs.Columns.{spring_in}
-use Rattle.springs.specs.Handover.{Chargeable}
-use Rattle.springs.proofs.Springs.{charge-falls}
+use Rattle.springs.specs.Springs.{spring_in}
+use Rattle.springs.specs.declared.Spring.{Spring}
+use Rattle.springs.specs.declared.Springs.{Springs}
+use Rattle.springs.specs.Handover.{Beside}
+use Rattle.springs.proofs.Shares.{charge-falls}
+use Rattle.springs.proofs.Columns.{allowed-in, springs-beside}
 use Rattle.policy.specs.declared.Weights.{Weights}
 use Rattle.policy.specs.Weighed.{charged_at}
 use Rattle.policy.proofs.Weighing.{weighed-stays}
@@ -38,14 +40,21 @@ module _ (test : ℕ → Bool) (r : Range) (l : r.from < r.to) where
 
 -- nothing is left
 module _ (test : ℕ → Bool) (K : ℕ) (r : Range) (g : Going test K r) (d : r.to ≤ r.from) where
-  pub going-found : r.from ≤ K → HalvingEnds test K (record { step = At r.from; looks = r.looks })
+  pub going-found : r.from ≤ K → HalvingEnds test K (record { step = Some r.from; looks = r.looks })
   going-found h = record { least = halved-found test K r.from r.to g.halved d h; count = counted-done test K r.from r.to r.looks g d }
 
-  pub going-none : K < r.from → HalvingEnds test K (record { step = Nothing; looks = r.looks })
+  pub going-none : K < r.from → HalvingEnds test K (record { step = None; looks = r.looks })
   going-none h = record { least = halved_none test K r.from r.to g.halved d h; count = counted-done test K r.from r.to r.looks g d }
 
 -- the test on charges stays once it holds
-pub charged-rising : (w : Weights) (q : ℕ) (block : List ℕ) (n : ℕ) → Chargeable q block n → Rising (charged_at w q (spring_in block) n)
-charged-rising w q block n h j k g t =
-    let charges = charges_on q (spring_in block) in
-    weighed-stays w (charges j) (charges k) n (λ i l. charge-falls q (spring_in block i) (h.allowed i l) k j g) t
+pub charged-rising : (w : Weights) (s : Springs) → Rising (charged_at w s.notch (spring_in s) s.n)
+charged-rising w s j k g t =
+    let charges = charges_on s.notch (spring_in s) in
+    weighed-stays w (charges j) (charges k) s.n (λ i l. charge-falls s.notch (spring_in s i) (allowed-in s i l) k j g) t
+
+-- and does not look at loads
+pub charged-beside : (w : Weights) (old new : Springs) → Beside old new → charged_at w new.notch (spring_in new) new.n ≡ charged_at w old.notch (spring_in old) old.n
+charged-beside w old new b =
+    ap {B = ℕ → Bool} (λ (q : ℕ). charged_at w q (spring_in new) new.n) b.notch
+    ∙ ap {B = ℕ → Bool} (λ (f : ℕ → Spring). charged_at w old.notch f new.n) (springs-beside old new b)
+    ∙ ap {B = ℕ → Bool} (λ (n : ℕ). charged_at w old.notch (spring_in old) n) b.count

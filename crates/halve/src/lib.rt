@@ -4,15 +4,15 @@
 
 ghost use Rattle.std.specs.Prelude.{◌≡◌, ◌≤◌, ◌<◌};
 ghost use Rattle.kinds.specs.Limits.{scale};
-ghost use Rattle.springs.specs.Columns.{spring_in, full_in};
-ghost use Rattle.springs.specs.Handover.{Chargeable, Beside};
+ghost use Rattle.springs.specs.Springs.{spring_in, full_in};
+ghost use Rattle.springs.specs.Handover.{Beside};
 ghost use Rattle.policy.specs.Handover.{Light};
 ghost use Rattle.policy.specs.Weighed.{charged_at};
 ghost use Rattle.halve.specs.Halves.{half, HalvingEnds};
 
-use ground::{Ended, Step};
+use ground::Ended;
 use policy::Weights;
-use springs::Columns;
+use springs::Springs;
 
 // The steps that are left, and the looks made.
 #[derive(Clone, Copy)]
@@ -23,13 +23,13 @@ pub struct Range {
 }
 
 // One look: tests the middle, keeps one half, and raises the count by one.
-fn look(w: Weights, notch: u16, block: &mut [u32; Columns::ROOM], n: usize, range: Range) -> Range
-    requires { Light w × Chargeable notch block.old n × (range.from < range.to) × (range.to ≤ scale) × (range.looks ≤ 20) }
-    ensures { (result ≡ half (charged_at w notch (spring_in block.old) n) range)
-        × Beside block.old block.new }
+fn look(w: Weights, springs: &mut Springs, range: Range) -> Range
+    requires { Light w × (range.from < range.to) × (range.to ≤ scale) × (range.looks ≤ 20) }
+    ensures { (result ≡ half (charged_at w springs.old.notch (spring_in springs.old) springs.old.n) range)
+        × Beside springs.old springs.new }
 {
     let middle = (range.from + range.to) / 2;
-    let passed = policy::weighs_charged(w, notch, block, n, middle);
+    let passed = w.hold_charged(springs, middle);
     let looks = range.looks + 1;
     if passed {
         return Range {
@@ -46,13 +46,14 @@ fn look(w: Weights, notch: u16, block: &mut [u32; Columns::ROOM], n: usize, rang
     }
 }
 
-// The least step that passes, and the looks that it took.
-pub fn least_step(w: Weights, notch: u16, block: &mut [u32; Columns::ROOM], n: usize) -> Ended
-    requires { Light w × Chargeable notch block.old n }
-    ensures { HalvingEnds (charged_at w notch (spring_in block.old) n) (full_in block.old n) result
-        × Beside block.old block.new }
+// The least step that passes, and the looks that it took, which `ground::least_passing` does not count.
+pub fn least_step(w: Weights, springs: &mut Springs) -> Ended
+    requires { Light w }
+    ensures { HalvingEnds (charged_at w springs.old.notch (spring_in springs.old) springs.old.n)
+        (full_in springs.old springs.old.n) result
+        × Beside springs.old springs.new }
 {
-    let full = springs::full_compression(block, n);
+    let full = springs.full_compression();
     let none = full + 1;
     let mut range = Range {
         from: 0,
@@ -60,15 +61,12 @@ pub fn least_step(w: Weights, notch: u16, block: &mut [u32; Columns::ROOM], n: u
         looks: 0,
     };
     while range.from < range.to {
-        range = look(w, notch, block, n, range);
+        range = look(w, springs, range);
     }
     let looks = range.looks;
     if range.from <= full {
-        let step = Step::At(range.from);
+        let step = Some(range.from);
         return Ended { step, looks };
     }
-    Ended {
-        step: Step::Nothing,
-        looks,
-    }
+    Ended { step: None, looks }
 }

@@ -1,7 +1,7 @@
 -- The two changes: what each of their returns hands back, what Ask 6 says of an accepted and of a refused one, that a place freed can be
 -- joined again, and that no second answer fits.
 -- Assumes nothing.
-use Rattle.ground.proofs.Kit.{ℕ, ◌+◌, ◌-◌, ◌≤◌, ◌<◌, Bool, true, false, List, ◌≡◌, refl, sym, ◌∙◌, ap, arith, eqb, leb, ltb, eq-eqb, ne_eqb, le-leb, lt-leb}
+use Rattle.ground.proofs.Kit.{ℕ, ◌+◌, ◌-◌, ◌≤◌, ◌<◌, Bool, true, false, List, ◌≡◌, refl, sym, ◌∙◌, ap, arith, eqb, leb, ltb, eq-eqb, ne_eqb, le-leb, lt-leb, Ok, Err}
 use Rattle.ground.proofs.Kit.{leb-true, leb-false, lt-ltb, le-ltb, ltb-false}
 use borrow.Author.Tests.{eqb-false}
 use Rattle.ground.specs.Laid.{padded_to}
@@ -10,9 +10,7 @@ use Rattle.kinds.specs.declared.Table.{Table}
 use Rattle.kinds.specs.declared.Index.{Index}
 use Rattle.kinds.specs.declared.Refusal.{Refusal}
 use Rattle.kinds.specs.declared.Refusal.TheVariants.{Misset, TooManyTasks, BadRecord, NoSuchRecord}
-use Rattle.kinds.specs.declared.Verdict.{Verdict}
-use Rattle.kinds.specs.declared.Verdict.TheVariants.{Accepted, Refused}
-use Rattle.kinds.specs.Answer.{Handed, accepted, refused, check, handed_verdict}
+use Rattle.kinds.specs.Answer.{Handed, accepted, refused, check, handed_verdict, Verdict}
 use Rattle.kinds.specs.Limits.{most_tasks}
 use Rattle.kinds.specs.Refusal.{number_of}
 use Rattle.kinds.specs.Task.{at, no_task, table, is_good}
@@ -89,7 +87,7 @@ pub record Joining (w q : ℕ) (rows : List Task) (n : ℕ) (t : Task) : Type 0 
   pub few : n < most_tasks
   pub none-bad : n + 1 ≤ first_bad w q (joined_rows rows n t) (n + 1)
 
-pub joining : (w q : ℕ) (rows : List Task) (n : ℕ) (t : Task) → may_join w q rows n t ≡ Accepted → Joining w q rows n t
+pub joining : (w q : ℕ) (rows : List Task) (n : ℕ) (t : Task) → may_join w q rows n t ≡ (Ok tt) → Joining w q rows n t
 unfolding may_join
 joining w q rows n t e =
     let a = unchecked _ _ _ e in
@@ -107,7 +105,7 @@ pub record Leaving (w q : ℕ) (rows : List Task) (n place : ℕ) : Type 0 where
   pub none-bad : n ≤ first_bad w q rows n
   pub there : place < n
 
-pub leaving : (w q : ℕ) (rows : List Task) (n place : ℕ) → may_leave w q rows n place ≡ Accepted → Leaving w q rows n place
+pub leaving : (w q : ℕ) (rows : List Task) (n place : ℕ) → may_leave w q rows n place ≡ (Ok tt) → Leaving w q rows n place
 unfolding may_leave
 leaving w q rows n place e =
     let a = unchecked _ _ _ e in
@@ -121,7 +119,7 @@ leaving w q rows n place e =
     }
 
 -- and what it has checked is enough
-pub may-leave : (w q : ℕ) (rows : List Task) (n place : ℕ) → Leaving w q rows n place → may_leave w q rows n place ≡ Accepted
+pub may-leave : (w q : ℕ) (rows : List Task) (n place : ℕ) → Leaving w q rows n place → may_leave w q rows n place ≡ (Ok tt)
 unfolding may_leave
 may-leave w q rows n place l =
     rw (
@@ -132,19 +130,19 @@ may-leave w q rows n place l =
     )
 
 -- a refusal that is another's number comes from further on in the chain
-passed-by : (test : Bool) (r : Refusal) (rest : Verdict) (s : Refusal) → (number_of r ≡ number_of s → ⊥) → check test (Refused r) rest ≡ Refused s
-    → (test ≡ false) × (rest ≡ Refused s)
+passed-by : (test : Bool) (r : Refusal) (rest : Verdict) (s : Refusal) → (number_of r ≡ number_of s → ⊥) → check test (Err r) rest ≡ Err s
+    → (test ≡ false) × (rest ≡ Err s)
 passed-by true r rest s d e = absurd (d (ap (λ (v : Verdict). (handed_verdict v).number) e))
 passed-by false r rest s d e = (refl, e)
 
 good-by : (test : Bool) (r : Refusal) (rest : Verdict) (s : Refusal) → (number_of r ≡ number_of s → ⊥)
-    → and_then (check test (Refused r) Accepted) rest ≡ Refused s → (test ≡ false) × (rest ≡ Refused s)
+    → and_then (check test (Err r) (Ok tt)) rest ≡ Err s → (test ≡ false) × (rest ≡ Err s)
 good-by true r rest s d e = absurd (d (ap (λ (v : Verdict). (handed_verdict v).number) e))
 good-by false r rest s d e = (refl, e)
 
-refused-by : (test : Bool) (r s : Refusal) → check test (Refused r) Accepted ≡ Refused s → test ≡ true
+refused-by : (test : Bool) (r s : Refusal) → ◌≡◌ {A = Verdict} (check test (Err r) (Ok tt)) (Err s) → test ≡ true
 refused-by true r s e = refl
-refused-by false r s e = not-admitted Accepted e refl
+refused-by false r s e = not-admitted (Ok tt) e refl
 
 -- "The lowest number comes first": where 12 is given, none of 2, 3 and 6 is, and the record is not there
 pub record Missing (w q : ℕ) (rows : List Task) (n place : ℕ) : Type 0 where
@@ -153,7 +151,7 @@ pub record Missing (w q : ℕ) (rows : List Task) (n place : ℕ) : Type 0 where
   pub none-bad : n ≤ first_bad w q rows n
   pub gone : n ≤ place
 
-pub twelve-last : (w q : ℕ) (rows : List Task) (n place p : ℕ) → may_leave w q rows n place ≡ Refused (NoSuchRecord p) → Missing w q rows n place
+pub twelve-last : (w q : ℕ) (rows : List Task) (n place p : ℕ) → may_leave w q rows n place ≡ Err (NoSuchRecord p) → Missing w q rows n place
 unfolding may_leave
 twelve-last w q rows n place p e =
     let r = NoSuchRecord p in
@@ -168,8 +166,8 @@ twelve-last w q rows n place p e =
     }
 
 -- Ask 6: "a place freed by a leave can be joined again"
-pub freed-joins : (w q : ℕ) (rows : List Task) (n place : ℕ) (t : Task) → may_leave w q rows n place ≡ Accepted → is_good w q t ≡ true
-    → may_join w q (left_rows rows n place) (n - 1) t ≡ Accepted
+pub freed-joins : (w q : ℕ) (rows : List Task) (n place : ℕ) (t : Task) → may_leave w q rows n place ≡ (Ok tt) → is_good w q t ≡ true
+    → may_join w q (left_rows rows n place) (n - 1) t ≡ (Ok tt)
 unfolding may_join
 freed-joins w q rows n place t e g =
     let l = leaving w q rows n place e in
@@ -192,7 +190,7 @@ module _ (w q : ℕ) (k : Kept) (t : Task) (s : Settled w k) where
   leaves-again j =
       let rows = k.table.rows in
       let n = k.table.n in
-      let l : may_leave w q (joined_rows rows n t) (n + 1) n ≡ Accepted =
+      let l : may_leave w q (joined_rows rows n t) (n + 1) n ≡ (Ok tt) =
       may-leave w q (joined_rows rows n t) (n + 1) n
       (record { some = j.some; few = omega (arith, j.few); none-bad = j.none-bad; there = omega arith }) in
       let back : left_rows (joined_rows rows n t) (n + 1) n ≡ rows = joined-left rows n t j.few ∙ sym s.rows_are in
@@ -206,8 +204,8 @@ module _ (w q : ℕ) (k : Kept) (t : Task) (s : Settled w k) where
       by : (v : Verdict) → may_join w q k.table.rows k.table.n t ≡ v
           → (changed v k (fresh w (joined_rows k.table.rows k.table.n t) (k.table.n + 1))).number ≡ 0
           → left w q (changed v k (fresh w (joined_rows k.table.rows k.table.n t) (k.table.n + 1))).value k.table.n ≡ accepted k
-      by Accepted e z = leaves-again (joining w q k.table.rows k.table.n t e)
-      by (Refused r) e z = absurd (omega (arith, refusal-numbered r))
+      by (Ok _) e z = leaves-again (joining w q k.table.rows k.table.n t e)
+      by (Err r) e z = absurd (omega (arith, refusal-numbered r))
 
 -- what an accepted change keeps, and that "A refused change alters nothing"
 pub record Sound (w : ℕ) (old : Kept) (h : Handed Kept) : Type 0 where
@@ -215,9 +213,9 @@ pub record Sound (w : ℕ) (old : Kept) (h : Handed Kept) : Type 0 where
   pub kept : (h.number ≡ 0 → ⊥) → h.value ≡ old
 
 changed-sound : (w : ℕ) (v : Verdict) (old : Kept) (rows : List Task) (n : ℕ)
-    → (v ≡ Accepted → rows ≡ padded_to no_task most_tasks (at rows) n) → Sound w old (changed v old (fresh w rows n))
-changed-sound w Accepted old rows n e = record { settled = λ z. record { rows_are = e refl; index_is = refl }; kept = λ d. absurd (d refl) }
-changed-sound w (Refused r) old rows n e = record { settled = λ z. absurd (omega (arith, refusal-numbered r)); kept = λ d. refl }
+    → (v ≡ (Ok tt) → rows ≡ padded_to no_task most_tasks (at rows) n) → Sound w old (changed v old (fresh w rows n))
+changed-sound w (Ok _) old rows n e = record { settled = λ z. record { rows_are = e refl; index_is = refl }; kept = λ d. absurd (d refl) }
+changed-sound w (Err r) old rows n e = record { settled = λ z. absurd (omega (arith, refusal-numbered r)); kept = λ d. refl }
 
 pub join-sound : (w q : ℕ) (k : Kept) (t : Task) → Sound w k (joined w q k t)
 unfolding joined

@@ -1,11 +1,9 @@
 -- "Given exactly when", of a join and of a leave: `join-exactly`, `leave-exactly`; the numbers that they give are `join-numbers`, `leave-numbers`.
 -- Assumes nothing.
-use Rattle.ground.proofs.Kit.{ℕ, ◌+◌, ◌-◌, Bool, true, false, List, [], ◌∷◌, ◌≡◌, refl, ◌∙◌, ap, leb, ltb}
+use Rattle.ground.proofs.Kit.{ℕ, ◌+◌, ◌-◌, Bool, true, false, List, [], ◌∷◌, ◌≡◌, refl, ◌∙◌, ap, leb, ltb, Ok, Err}
 use Rattle.kinds.specs.declared.Task.{Task}
 use Rattle.kinds.specs.declared.Refusal.TheVariants.{BadRecord, NoSuchRecord}
-use Rattle.kinds.specs.declared.Verdict.{Verdict}
-use Rattle.kinds.specs.declared.Verdict.TheVariants.{Accepted, Refused}
-use Rattle.kinds.specs.Answer.{check}
+use Rattle.kinds.specs.Answer.{check, Verdict}
 use Rattle.kinds.specs.Chain.{Check, first_by, first_of, handed_by, Exactly, numbers_given}
 use Rattle.kinds.proofs.Chains.{exactly, first-through}
 use Rattle.share.specs.Table.{first_bad}
@@ -16,7 +14,7 @@ use Rattle.keep.specs.Chain.{join_chain, leave_chain}
 
 -- a change that a chain judges
 changed-chain : (chain : List Check) (old new : Kept) → changed (first_of chain) old new ≡ handed_by old new chain
-changed-chain chain old new = first-through (λ v. changed v old new) Refused Accepted chain
+changed-chain chain old new = first-through (λ v. changed v old new) Err (Ok tt) chain
 
 module _ (w q : ℕ) (k : Kept) (t : Task) where
   -- a join is its chain
@@ -36,8 +34,8 @@ join-numbers w q rows n t = refl
 
 -- the last two checks of a leave, one after the other
 last-two : (bad missing : Bool) (first place : ℕ)
-    → and_then (check bad (Refused (BadRecord first)) Accepted) (check missing (Refused (NoSuchRecord place)) Accepted)
-    ≡ check bad (Refused (BadRecord first)) (check missing (Refused (NoSuchRecord place)) Accepted)
+    → and_then (check bad (Err (BadRecord first)) (Ok tt)) (check missing (Err (NoSuchRecord place)) (Ok tt))
+    ≡ check bad (Err (BadRecord first)) (check missing (Err (NoSuchRecord place)) (Ok tt))
 last-two true missing first place = refl
 last-two false missing first place = refl
 

@@ -1,5 +1,5 @@
 pub mod Rows
-pub mod Blocks
+pub mod Springs
 pub mod Changes
 pub mod Examples
 pub mod Exactly

@@ -1,15 +1,13 @@
 -- Ask 6: what a join and a leave hand back, for every table, index and call.
 -- Assumes nothing.
-use Rattle.std.specs.Prelude.{ℕ, ◌+◌, ◌-◌, List, eqb, leb, ltb}
+use Rattle.std.specs.Prelude.{ℕ, ◌+◌, ◌-◌, List, eqb, leb, ltb, Ok, Err}
 use Rattle.ground.specs.Choice.{pick}
 use Rattle.ground.specs.Laid.{padded_to}
 use Rattle.kinds.specs.declared.Task.{Task}
 use Rattle.kinds.specs.declared.Table.{Table}
 use Rattle.kinds.specs.declared.Index.{Index}
 use Rattle.kinds.specs.declared.Refusal.TheVariants.{Misset, TooManyTasks, NoSuchRecord}
-use Rattle.kinds.specs.declared.Verdict.{Verdict}
-use Rattle.kinds.specs.declared.Verdict.TheVariants.{Accepted, Refused}
-use Rattle.kinds.specs.Answer.{Handed, accepted, refused, check, handed_with}
+use Rattle.kinds.specs.Answer.{Handed, accepted, refused, check, handed_with, Verdict}
 use Rattle.kinds.specs.Limits.{most_tasks}
 use Rattle.kinds.specs.Task.{at, no_task, table}
 use Rattle.admission.specs.Admission.{and_then, records_good}
@@ -44,21 +42,21 @@ left_rows rows n place = padded_to no_task most_tasks (left_row rows place) (n -
 -- bad record, in the table or (at the count) joining, by 6"
 unfoldable pub may_join : ℕ → ℕ → List Task → ℕ → Task → Verdict
 may_join w q rows n t =
-    check (eqb q 0) (Refused Misset)
-    (check (leb most_tasks n) (Refused (TooManyTasks n))
+    check (eqb q 0) (Err Misset)
+    (check (leb most_tasks n) (Err (TooManyTasks n))
     (records_good w q (joined_rows rows n t) (n + 1)))
 
 -- "then a leave of a record that is not there by 12 at its number"
 unfoldable pub may_leave : ℕ → ℕ → List Task → ℕ → ℕ → Verdict
 may_leave w q rows n place =
-    check (eqb q 0) (Refused Misset)
-    (check (ltb most_tasks n) (Refused (TooManyTasks n))
-    (and_then (records_good w q rows n) (check (leb n place) (Refused (NoSuchRecord place)) Accepted)))
+    check (eqb q 0) (Err Misset)
+    (check (ltb most_tasks n) (Err (TooManyTasks n))
+    (and_then (records_good w q rows n) (check (leb n place) (Err (NoSuchRecord place)) (Ok tt))))
 
 -- "A refused change alters nothing"
 abbrev pub changed : Verdict → Kept → Kept → Handed Kept
-changed Accepted old new = accepted new
-changed (Refused r) old new = refused old r
+changed (Ok _) old new = accepted new
+changed (Err r) old new = refused old r
 
 -- number, place, and what is kept after a join, and after a leave
 unfoldable pub joined : ℕ → ℕ → Kept → Task → Handed Kept

@@ -9,8 +9,8 @@ ghost use Rattle.kinds.specs.Task.{no_task, table};
 ghost use Rattle.kinds.specs.Answer.{accepted, refused};
 ghost use Rattle.keep.specs.Keep.{kept, left_row, joined_rows, joined, left, handed_change};
 
-use kinds::{Index, Refusal, Table, Task, Verdict};
-use springs::Columns;
+use kinds::{Index, Refusal, Table, Task};
+use springs::Springs;
 
 // A table, and beside it the index of its tasks. It is laid out as C lays it out.
 #[repr(C)]
@@ -20,10 +20,10 @@ pub struct Kept {
     pub index: Index,
 }
 
-// The answer to a change, and what is kept after it.
+// The answer to a change, and what is kept after it: a refused change hands back what was kept, so that it is no `Result`.
 #[derive(Clone, Copy)]
 pub struct Changed {
-    pub answer: Verdict,
+    pub answer: Result<(), Refusal>,
     pub kept: Kept,
 }
 
@@ -32,7 +32,7 @@ fn refuse(kept: Kept, refusal: Refusal) -> Changed
     ensures { handed_change result ≡ refused kept refusal }
 {
     Changed {
-        answer: Verdict::Refused(refusal),
+        answer: Err(refusal),
         kept,
     }
 }
@@ -42,7 +42,7 @@ fn accept(table: Table, index: Index) -> Changed
     ensures { handed_change result ≡ accepted (kept table index) }
 {
     Changed {
-        answer: Verdict::Accepted,
+        answer: Ok(()),
         kept: Kept { table, index },
     }
 }
@@ -53,10 +53,10 @@ pub fn without(old: Table, place: usize, n: usize) -> Table
     ensures { result ≡ table (padded_to no_task most_tasks (left_row old.rows place) n) n }
 {
     let mut rows = [Task::NONE; Table::MOST_TASKS];
+    // Over the numbers: past the place the row after the gone one is read.
     for i in 0..n {
         let from = order::left_from(place, i);
-        let row = old.rows[from];
-        rows[i] = row;
+        rows[i] = old.rows[from];
     }
     Table { rows, n }
 }
@@ -86,12 +86,11 @@ pub fn join(kept: Kept, swap: u16, notch: u16, task: Task) -> Changed
         return refuse(kept, Refusal::TooManyTasks(n));
     }
     let after = with(old, task);
-    let mut block = [0u32; Columns::ROOM];
-    let bad = springs::springs_of(after, swap, notch, &mut block);
-    if bad <= n {
+    let mut springs = Springs::new(notch);
+    if let Err(bad) = springs.take_in(after, swap) {
         return refuse(kept, Refusal::BadRecord(bad));
     }
-    let index = order::index_of(&block, n + 1, n + 1);
+    let index = order::index_of(&springs, n + 1, n + 1);
     accept(after, index)
 }
 
@@ -107,15 +106,14 @@ pub fn leave(kept: Kept, swap: u16, notch: u16, place: usize) -> Changed
     if Table::MOST_TASKS < n {
         return refuse(kept, Refusal::TooManyTasks(n));
     }
-    let mut block = [0u32; Columns::ROOM];
-    let bad = springs::springs_of(old, swap, notch, &mut block);
-    if bad < n {
+    let mut springs = Springs::new(notch);
+    if let Err(bad) = springs.take_in(old, swap) {
         return refuse(kept, Refusal::BadRecord(bad));
     }
     if n <= place {
         return refuse(kept, Refusal::NoSuchRecord(place));
     }
-    let index = order::index_of(&block, place, n - 1);
+    let index = order::index_of(&springs, place, n - 1);
     let rest = without(old, place, n - 1);
     accept(rest, index)
 }

@@ -1,15 +1,13 @@
 -- A chain gives exactly one answer: that of the first check whose sentence holds, or an acceptance; `exactly` is what each call's own law cites.
 -- Assumes nothing.
-use Rattle.ground.proofs.Kit.{ℕ, zero, suc, ◌≤◌, ◌<◌, false, not, List, [], ◌∷◌, ◌++◌, ◌≡◌, refl, sym, ◌∙◌, ap, arith, leb, ltb, length, le-leb, lt-leb}
+use Rattle.ground.proofs.Kit.{ℕ, zero, suc, ◌≤◌, ◌<◌, false, not, List, [], ◌∷◌, ◌++◌, ◌≡◌, refl, sym, ◌∙◌, ap, arith, leb, ltb, length, le-leb, lt-leb, Ok, Err}
 use Rattle.ground.proofs.Kit.{lt-ltb, le-ltb}
 use mathlib.Core.List.Memᴰ
 use mathlib.Core.List.{Memᴰ}
 use Rattle.ground.proofs.Cases.{by_bool, by_le, by-eq, true-false}
 use Rattle.kinds.specs.declared.Refusal.{Refusal}
-use Rattle.kinds.specs.declared.Verdict.{Verdict}
-use Rattle.kinds.specs.declared.Verdict.TheVariants.{Accepted, Refused}
 use Rattle.kinds.specs.Refusal.{number_of}
-use Rattle.kinds.specs.Answer.{Handed, accepted, refused, handed_verdict}
+use Rattle.kinds.specs.Answer.{Handed, accepted, refused, handed_verdict, Verdict}
 use Rattle.kinds.specs.Chain.{Check, first_by, first_of, handed_by, check_at, GivenAt, NoneHolds, Exactly, numbers_given}
 use Rattle.kinds.proofs.Refusals.{refusal-numbered}
 
@@ -89,7 +87,7 @@ module _ {A B : Type 0} (f : A → B) (refuse : Refusal → A) (accept : A) wher
 
 -- a verdict that is a chain's
 pub verdict-exactly : (chain : List Check) (v : Verdict) → v ≡ first_of chain → Exactly chain tt tt (handed_verdict v)
-verdict-exactly chain v is = exactly chain tt tt (handed_verdict v) (ap handed_verdict is ∙ first-through handed_verdict Refused Accepted chain)
+verdict-exactly chain v is = exactly chain tt tt (handed_verdict v) (ap handed_verdict is ∙ first-through handed_verdict Err (Ok tt) chain)
 
 -- two chains, one after the other
 pub first_then : {A : Type 0} (refuse : Refusal → A) (accept : A) (xs ys : List Check)

@@ -1,13 +1,11 @@
 -- Document 01, "Numbers we hand back": "Checks run in this order", and each number is "given exactly when" its sentence holds; a chain is the checks
 -- of a call in that order, and `Exactly` says what the call hands back by it.
 -- Assumes nothing.
-use Rattle.std.specs.Prelude.{ℕ, ◌≤◌, ◌<◌, Bool, true, false, List, [], ◌∷◌, ◌≡◌, length, get_or}
+use Rattle.std.specs.Prelude.{ℕ, ◌≤◌, ◌<◌, Bool, true, false, List, [], ◌∷◌, ◌≡◌, length, get_or, Ok, Err}
 use Rattle.kinds.specs.declared.Refusal.{Refusal}
 use Rattle.kinds.specs.declared.Refusal.TheVariants.{NoSuchPolicy}
-use Rattle.kinds.specs.declared.Verdict.{Verdict}
-use Rattle.kinds.specs.declared.Verdict.TheVariants.{Accepted, Refused}
 use Rattle.kinds.specs.Refusal.{number_of}
-use Rattle.kinds.specs.Answer.{Handed, accepted, refused, check}
+use Rattle.kinds.specs.Answer.{Handed, accepted, refused, check, Verdict}
 
 infix 70 ◌when◌
 -- one check: a refusal, and the sentence that it is given for
@@ -26,7 +24,7 @@ first_by refuse accept (c ∷ rest) = check c.sentence (refuse c.refusal) (first
 
 -- as a verdict
 abbrev pub first_of : List Check → Verdict
-first_of chain = first_by Refused Accepted chain
+first_of chain = first_by Err (Ok tt) chain
 
 -- as number, place and value, with nothing for the value of a refusal
 abbrev pub handed_by : {A : Type 0} → A → A → List Check → Handed A

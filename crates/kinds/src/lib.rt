@@ -9,7 +9,6 @@ ghost use Rattle.kinds.specs.Task.{is_within, is_on_notch, is_good, priced, task
 ghost use Rattle.kinds.specs.Policy.{policy_of, policy_number, meant, is_first_fit, is_one_core};
 ghost use Rattle.kinds.specs.Settings.{settings, settings_of, numbers_of, tests_charge};
 ghost use Rattle.kinds.specs.Refusal.{handed_back, number_of, place_of};
-ghost use Rattle.kinds.specs.Answer.{is_accepted, step_of};
 
 // A share of one processor, in parts.
 #[derive(Clone, Copy)]
@@ -134,7 +133,7 @@ pub struct Index {
 }
 
 // A policy is a choice of its own; a number outside 1 to 5 is kept in the further choice.
-#[derive(Clone, Copy)]
+#[derive(Clone, Copy, Debug, PartialEq, Eq)]
 pub enum Policy {
     Pooled,
     GlobalEdf,
@@ -144,11 +143,11 @@ pub enum Policy {
     Further(u16),
 }
 
-impl Policy {
-    // The policy that a number on a sheet stands for.
-    pub fn of(number: u16) -> Policy
-        ensures { result ≡ policy_of number }
-    {
+// The policy that a number on a sheet stands for.
+impl From<u16> for Policy {
+    ghost from_gives = { λ number policy. policy ≡ policy_of number };
+
+    fn from(number: u16) -> Policy {
         match number {
             1 => Policy::Pooled,
             2 => Policy::GlobalEdf,
@@ -158,12 +157,14 @@ impl Policy {
             _ => Policy::Further(number),
         }
     }
+}
 
-    // The number that a policy is written as.
-    pub fn number(self) -> u16
-        ensures { result ≡ policy_number self }
-    {
-        match self {
+// The number that a policy is written as.
+impl From<Policy> for u16 {
+    ghost from_gives = { λ policy number. number ≡ policy_number policy };
+
+    fn from(policy: Policy) -> u16 {
+        match policy {
             Policy::Pooled => 1,
             Policy::GlobalEdf => 2,
             Policy::GlobalRm => 3,
@@ -172,45 +173,33 @@ impl Policy {
             Policy::Further(number) => number,
         }
     }
+}
 
+impl Policy {
     // Document 01: "a further choice holding 1 to 4 means that policy"; Ask 1: so does one holding 5.
     pub fn meant(self) -> Policy
         ensures { result ≡ meant self }
     {
-        Policy::of(self.number())
+        Policy::from(u16::from(self))
     }
 
     // Policy 4.
     pub fn is_first_fit(self) -> bool
         ensures { result ≡ is_first_fit self }
     {
-        match self {
-            Policy::Pooled => false,
-            Policy::GlobalEdf => false,
-            Policy::GlobalRm => false,
-            Policy::FirstFit => true,
-            Policy::OneCoreRm => false,
-            Policy::Further(_) => false,
-        }
+        matches!(self, Policy::FirstFit)
     }
 
     // Policy 5.
     pub fn is_one_core(self) -> bool
         ensures { result ≡ is_one_core self }
     {
-        match self {
-            Policy::Pooled => false,
-            Policy::GlobalEdf => false,
-            Policy::GlobalRm => false,
-            Policy::FirstFit => false,
-            Policy::OneCoreRm => true,
-            Policy::Further(_) => false,
-        }
+        matches!(self, Policy::OneCoreRm)
     }
 }
 
 // The station settings: the policy, how many processors there are, what a swap costs, the notch of the timer wheel, and the edition of the
-// charge.
+// charge, which is kept as the number that stands on a sheet: any may stand there, and the admission judges it in its turn.
 #[derive(Clone, Copy)]
 pub struct Settings {
     pub policy: Policy,
@@ -248,32 +237,6 @@ impl Settings {
         }
     }
 
-    // The settings that the numbers on a sheet stand for.
-    pub fn of(numbers: [u16; Settings::MOST]) -> Settings
-        ensures { result ≡ settings_of numbers }
-    {
-        let policy = Policy::of(numbers[0]);
-        let m = numbers[1];
-        let swap = numbers[2];
-        let notch = numbers[3];
-        let edition = numbers[4];
-        Settings {
-            policy,
-            m,
-            swap,
-            notch,
-            edition,
-        }
-    }
-
-    // The numbers that settings are written as.
-    pub fn numbers(self) -> [u16; Settings::MOST]
-        ensures { result ≡ numbers_of self }
-    {
-        let policy = self.policy;
-        [policy.number(), self.m, self.swap, self.notch, self.edition]
-    }
-
     // Ask 10: "Edition 2 tests each policy on the charge".
     pub fn tests_charge(self) -> bool
         ensures { result ≡ tests_charge self }
@@ -282,9 +245,35 @@ impl Settings {
     }
 }
 
+// The settings that the numbers on a sheet stand for.
+impl From<[u16; Settings::MOST]> for Settings {
+    ghost from_gives = { λ numbers settings. settings ≡ settings_of numbers };
+
+    fn from(numbers: [u16; Settings::MOST]) -> Settings {
+        let [policy, m, swap, notch, edition] = numbers;
+        Settings::new(Policy::from(policy), m, swap, notch, edition)
+    }
+}
+
+// The numbers that settings are written as.
+impl From<Settings> for [u16; Settings::MOST] {
+    ghost from_gives = { λ settings numbers. numbers ≡ numbers_of settings };
+
+    fn from(settings: Settings) -> [u16; Settings::MOST] {
+        let policy = u16::from(settings.policy);
+        [
+            policy,
+            settings.m,
+            settings.swap,
+            settings.notch,
+            settings.edition,
+        ]
+    }
+}
+
 // What an accepted plan grants a task: its period, and its processor, 0 for any.
 #[repr(C)]
-#[derive(Clone, Copy)]
+#[derive(Clone, Copy, Debug, PartialEq, Eq)]
 pub struct Granted {
     pub period: u32,
     pub processor: u16,
@@ -316,7 +305,7 @@ pub struct Sheet {
 }
 
 // One variant for each number of documents 01 and 02, with its place where that is not 0.
-#[derive(Clone, Copy)]
+#[derive(Clone, Copy, Debug, PartialEq, Eq)]
 pub enum Refusal {
     NoSuchPolicy,
     Misset,
@@ -382,55 +371,6 @@ impl Refusal {
     {
         self.handed_back().1
     }
-}
-
-// What a finder answers: the step of an accepted plan, or the refusal.
-#[derive(Clone, Copy)]
-pub enum Answer {
-    Accepted(u32),
-    Refused(Refusal),
-}
-
-impl Answer {
-    pub fn accepted(self) -> bool
-        ensures { result ≡ is_accepted self }
-    {
-        match self {
-            Answer::Accepted(_) => true,
-            Answer::Refused(_) => false,
-        }
-    }
-
-    // The step of an accepted plan; a refusal's step is 0.
-    pub fn step(self) -> u32
-        ensures { result ≡ step_of self }
-    {
-        match self {
-            Answer::Accepted(step) => step,
-            Answer::Refused(_) => 0,
-        }
-    }
-}
-
-// Yes, or the refusal.
-#[derive(Clone, Copy)]
-pub enum Verdict {
-    Accepted,
-    Refused(Refusal),
-}
-
-// A count, of rows or of bytes, or the refusal.
-#[derive(Clone, Copy)]
-pub enum Counted {
-    Count(usize),
-    Refused(Refusal),
-}
-
-// What the margin answers: a signed number, or the refusal.
-#[derive(Clone, Copy)]
-pub enum Margin {
-    Is(i64),
-    Refused(Refusal),
 }
 
 // The limits that definitions name are those that the code names.

@@ -4,6 +4,7 @@
 ghost use Rattle.std.specs.Prelude.{◌≡◌, ◌<◌, ◌≤◌, length, take, IfOk};
 ghost use Rattle.std.specs.Io.KnownBytes.{Consumes, IsAtEnd};
 
+use std::convert::AsSlice;
 use std::env::{Env, FillError};
 use std::io;
 use std::io::Read;
@@ -25,14 +26,12 @@ pub fn read_full<R: Read>(from: &mut R, into: &mut [u8]) -> io::Result<usize>
     Ok(done)
 }
 
-// Puts the word of a number on the command line, and answers its length; 0 where there is none, or no room for it.
+// Puts the word of a number on the command line, and answers its length; 0 where there is none, or no room for it, as the programs take a
+// word that is missing for an empty one.
 pub fn word<E: Env>(given: &E, i: usize, into: &mut [u8]) -> usize
     ensures within { (result ≤ length into.new) × (result ≡ length (take result into.new)) }
 {
-    match given.arg(i, into) {
-        Ok(n) => n,
-        Err(_) => 0,
-    }
+    given.arg(i, into).unwrap_or(0)
 }
 
 // How many words the command line has, the program's own name among them.
@@ -44,4 +43,22 @@ pub fn word_count<E: Env>(given: &E) -> usize {
         }
     }
     usize::MAX
+}
+
+// A program's whole run: reads standard input to the front of a lent buffer, and writes what a step puts at the front of the other one, as
+// many bytes as it answers.
+pub fn run<O: AsSlice<u8>, F: FnOnce(&[u8], &mut O) -> usize>(
+    rt: HostRuntime,
+    input: &mut [u8],
+    out: &mut O,
+    step: F,
+) -> io::Result<()>
+    requires { F.IsAlwaysCallable step }
+{
+    let n = read_full(&mut rt.stdin(), input)?;
+    let k = step(&input[..n], out);
+    match out.as_slice().get(..k) {
+        Some(bytes) => rt.write_all(bytes),
+        None => Ok(()),
+    }
 }

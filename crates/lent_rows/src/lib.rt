@@ -2,70 +2,41 @@
 // `wide_task`, and `scatter` copies a table's rows back. `eelbasket`'s calls stand on them.
 #![tactic(auto)]
 
-ghost use Rattle.std.specs.Prelude.{[], ◌≡◌, ◌≤◌, min, length};
-ghost use Rattle.ground.specs.Laid.{over};
+ghost use Rattle.std.specs.Prelude.{◌≡◌, ◌≤◌, length};
+ghost use Rattle.ground.specs.Laid.{over, laid};
 ghost use Rattle.kinds.specs.Limits.{most_tasks};
-ghost use Rattle.kinds.specs.Task.{at, table_of, table_with};
+ghost use Rattle.kinds.specs.Task.{at, table_of};
 ghost use Rattle.wide_task.specs.WideTask as wide;
 
 use kinds::{Table, Task};
 use wide_task::{WideTable, WideTask};
 
-// How many of n rows a table takes.
-fn capped(n: usize) -> usize
-    ensures { result ≡ min n most_tasks }
+// As many of these rows as a table takes, over its places.
+fn placed<T: Copy>(rows: &[T], mut places: [T; Table::MOST_TASKS]) -> [T; Table::MOST_TASKS]
+    ensures { result ≡ laid rows.now places }
 {
-    if n < Table::MOST_TASKS {
-        n
-    } else {
-        Table::MOST_TASKS
-    }
-}
-
-// The table of no rows, with the count n.
-fn empty(n: usize) -> Table
-    ensures { result ≡ table_with [] n }
-{
-    Table::new([Task::NONE; Table::MOST_TASKS], n)
+    let kept = rows.len().min(Table::MOST_TASKS);
+    places[..kept].copy_from_slice(&rows[..kept]);
+    places
 }
 
 // The table of the lent rows. Its count is theirs, also where there are more than it takes, so that the core can refuse them.
 pub fn gather(rows: &[Task]) -> Table
     ensures { result ≡ table_of rows.now }
 {
-    let n = rows.len();
-    let kept = capped(n);
-    let mut table = empty(n);
-    let mut i: usize = 0;
-    while i < kept {
-        table.rows[i] = rows[i];
-        i += 1;
-    }
-    table
+    let places = [Task::NONE; Table::MOST_TASKS];
+    Table::new(placed(rows, places), rows.len())
 }
 
-// The same two of tasks that need several cores.
-fn empty_wide(n: usize) -> WideTable
-    ensures { result ≡ wide.table_with [] n }
-{
-    WideTable {
-        rows: [WideTask::NONE; Table::MOST_TASKS],
-        n,
-    }
-}
-
+// The same of tasks that need several cores.
 pub fn gather_wide(rows: &[WideTask]) -> WideTable
     ensures { result ≡ wide.table_of rows.now }
 {
-    let n = rows.len();
-    let kept = capped(n);
-    let mut table = empty_wide(n);
-    let mut i: usize = 0;
-    while i < kept {
-        table.rows[i] = rows[i];
-        i += 1;
+    let places = [WideTask::NONE; Table::MOST_TASKS];
+    WideTable {
+        rows: placed(rows, places),
+        n: rows.len(),
     }
-    table
 }
 
 // The rows of a table that count, into the front of a lent slice, and nothing past them.
@@ -73,10 +44,5 @@ pub fn scatter(table: Table, out: &mut [Task])
     requires { (table.n ≤ most_tasks) × (table.n ≤ length out.old) }
     ensures { out.new ≡ over out.old (at table.rows) table.n }
 {
-    let n = table.n;
-    let mut i: usize = 0;
-    while i < n {
-        out[i] = table.rows[i];
-        i += 1;
-    }
+    out[..table.n].copy_from_slice(&table.rows[..table.n]);
 }

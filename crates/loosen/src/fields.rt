@@ -1,279 +1,134 @@
-// What stands in the fields of a line as an office gives it: so many numbers, with or without a name in front, or why it is none of that.
-use crate::line;
-use crate::line::Line;
-use text::part;
-use text::part::Part;
+// What stands in the fields of a line as an office gives it: the numbers of a task or of a job, with or without a name in front, or why it is neither.
+ghost use Rattle.std.specs.Prelude.{◌≤◌};
 
-// How many numbers a task has: C, Tmin, Tmax and E.
-pub const OF_TASK: u8 = 4;
-
-// How many a job has that needs several cores: C, L, Tmin, Tmax and E.
-pub const OF_JOB: u8 = 5;
+// What a line is to be: a task, or a job that needs several cores.
+#[derive(Clone, Copy, PartialEq, Eq, Default)]
+pub enum Kind {
+    #[default]
+    Task,
+    Job,
+}
 
 // The greatest number, and the greatest C of a job.
 const GREATEST: u64 = 4_294_967_295;
 
 const GREATEST_COST: u64 = 16_000_000_000;
 
-// Digits are added to no number that is above this one.
-const HELD: u64 = 100_000_000_000_000_000;
+// The greatest number that is told from a name.
+const GREATEST_TOLD: u64 = 100_000_000_000_000_000;
 
-// Why a line is no task, and the number of the field at fault. One that is a task where the table is full has no fault of its own.
-#[derive(Clone, Copy)]
+impl Kind {
+    // How many numbers one has: C, Tmin, Tmax and E, or C, L, Tmin, Tmax and E.
+    pub(crate) fn numbers(self) -> usize
+        ensures { result ≤ 5 }
+    {
+        match self {
+            Kind::Task => 4,
+            Kind::Job => 5,
+        }
+    }
+
+    // The greatest that a number of one, from 0, may be.
+    pub(crate) fn greatest(self, number: usize) -> u64 {
+        match (self, number) {
+            (Kind::Job, 0) => GREATEST_COST,
+            _ => GREATEST,
+        }
+    }
+}
+
+// Why a field or a line cannot be taken.
+#[derive(Clone, Copy, PartialEq, Eq)]
+pub enum Reason {
+    LongName,
+    OddName,
+    Missing,
+    NotWhole,
+    LeadingZero,
+    TooLarge,
+    TooCostly,
+    TooFew,
+    TooMany,
+    NumberForName,
+}
+
+// The same, and the number of the field at fault, from 0.
+#[derive(Clone, Copy, PartialEq, Eq)]
 pub struct Fault {
-    pub reason: u16,
+    pub reason: Reason,
     pub field: usize,
 }
 
 impl Fault {
-    pub const NONE: u16 = 0;
-
-    pub const LONG_NAME: u16 = 1;
-
-    pub const ODD_NAME: u16 = 2;
-
-    pub const MISSING: u16 = 3;
-
-    pub const NOT_WHOLE: u16 = 4;
-
-    pub const LEADING_ZERO: u16 = 5;
-
-    pub const TOO_LARGE: u16 = 6;
-
-    pub const TOO_COSTLY: u16 = 7;
-
-    pub const TOO_FEW: u16 = 8;
-
-    pub const TOO_MANY: u16 = 9;
-
-    pub const NUMBER_FOR_NAME: u16 = 10;
+    pub(crate) fn new(reason: Reason, field: usize) -> Self {
+        Fault { reason, field }
+    }
 }
 
-// A number, or the reason for which a part is none.
-#[derive(Clone, Copy)]
-pub enum Number {
-    Is(u64),
-    Not(u16),
+// The number that a field is, which must not be above the greatest.
+pub fn number_in(field: &[u8], greatest: u64) -> Result<u64, Reason> {
+    if field.is_empty() {
+        return Err(Reason::Missing);
+    }
+    if !field.iter().all(u8::is_ascii_digit) {
+        return Err(Reason::NotWhole);
+    }
+    if let [b'0', _, ..] = field {
+        return Err(Reason::LeadingZero);
+    }
+    let number = field.iter().fold(0u64, |n, digit| {
+        n.saturating_mul(10).saturating_add(u64::from(digit & 15))
+    });
+    match number {
+        n if n <= greatest => Ok(n),
+        _ if GREATEST < greatest => Err(Reason::TooCostly),
+        _ => Err(Reason::TooLarge),
+    }
 }
 
-fn is_digit(byte: u8) -> bool {
-    if byte < 48 {
-        return false;
+// How many bytes of a character are due after its first, where that is none of a control character.
+fn due_after_first(byte: u8) -> Option<u8> {
+    match byte {
+        b' '..=b'~' => Some(0),
+        194..=223 => Some(1),
+        224..=239 => Some(2),
+        240..=244 => Some(3),
+        _ => None,
     }
-    byte < 58
 }
 
-// A number with one digit more.
-fn grown(value: u64, digit: u8) -> u64 {
-    if HELD < value {
-        return value;
+// How many are due after a byte, where so many were due before it.
+fn due_after(due: u8, byte: u8) -> Option<u8> {
+    match (due, byte) {
+        (0, _) => due_after_first(byte),
+        (_, 128..=191) => Some(due - 1),
+        _ => None,
     }
-    value * 10 + (digit % 16) as u64
 }
 
-// Whether a part of digits begins with a zero that could be left out.
-fn is_zero_led(s: &[u8], part: Part) -> bool {
-    if ground::less_or_zero(part.end as u64, part.start as u64) < 2 {
-        return false;
-    }
-    part::byte_at(s, part.start) == b'0'
+// Whether a name is characters, and no control characters. It takes an overlong form, which `str::from_utf8` refuses, and no answer may change.
+fn is_plain(name: &[u8]) -> bool {
+    let due = name.iter().try_fold(0, |due, byte| due_after(due, *byte));
+    due == Some(0)
 }
 
-// The number that a part of digits is, which must not be above the most.
-fn number_by(s: &[u8], part: Part, value: u64, most: u64) -> Number {
-    if is_zero_led(s, part) {
-        return Number::Not(Fault::LEADING_ZERO);
+// A number is no name, since nobody can tell whether it is a name or the last number too many.
+pub(crate) fn check_name(name: &[u8]) -> Result<(), Reason> {
+    if number_in(name, GREATEST_TOLD).is_ok() {
+        return Err(Reason::NumberForName);
     }
-    if value <= most {
-        return Number::Is(value);
+    if task_names::LONGEST_NAME < name.len() {
+        return Err(Reason::LongName);
     }
-    if GREATEST < most {
-        return Number::Not(Fault::TOO_COSTLY);
-    }
-    Number::Not(Fault::TOO_LARGE)
-}
-
-// The number that a part is.
-pub fn number_in(s: &[u8], part: Part, most: u64) -> Number {
-    let end = part.end;
-    let mut i = part.start;
-    let mut value: u64 = 0;
-    if end <= i {
-        return Number::Not(Fault::MISSING);
-    }
-    while i < end {
-        let byte = part::byte_at(s, i);
-        if !is_digit(byte) {
-            return Number::Not(Fault::NOT_WHOLE);
-        }
-        value = grown(value, byte);
-        i += 1;
-    }
-    number_by(s, part, value, most)
-}
-
-// The first field that is no name.
-fn first_number(line: Line, numbers: u8) -> u8 {
-    if line.fields == numbers as usize {
-        0
+    if is_plain(name) {
+        Ok(())
     } else {
-        1
+        Err(Reason::OddName)
     }
 }
 
-// The greatest that a number of a line may be: C is the first of a job's.
-fn most_of(numbers: u8, i: u8) -> u64 {
-    if numbers == OF_JOB && i == 0 {
-        return GREATEST_COST;
-    }
-    GREATEST
-}
-
-// The number at a place, from 0, of a line with so many.
-pub fn number_at(s: &[u8], line: Line, numbers: u8, i: u8) -> Number {
-    let field = first_number(line, numbers) as usize + i as usize;
-    number_in(s, line::field(s, line, field), most_of(numbers, i))
-}
-
-// How many bytes of a character are due after its first; 9 where it is none of UTF-8, or a control character.
-fn due_after_first(byte: u8) -> u8 {
-    if byte < 32 || byte == 127 {
-        return 9;
-    }
-    if byte < 128 {
-        return 0;
-    }
-    if byte < 194 || 244 < byte {
-        return 9;
-    }
-    if byte < 224 {
-        return 1;
-    }
-    if byte < 240 { 2 } else { 3 }
-}
-
-// How many bytes of a character are due after a byte, where so many were due before it.
-fn due_after(due: u8, byte: u8) -> u8 {
-    if due < 1 {
-        return due_after_first(byte);
-    }
-    if byte < 128 {
-        return 9;
-    }
-    if 191 < byte {
-        return 9;
-    }
-    due - 1
-}
-
-// Whether a part is characters of UTF-8, and no control characters.
-fn is_plain_text(s: &[u8], part: Part) -> bool {
-    let end = part.end;
-    let mut i = part.start;
-    let mut due: u8 = 0;
-    while i < end {
-        due = due_after(due, part::byte_at(s, i));
-        if 3 < due {
-            return false;
-        }
-        i += 1;
-    }
-    due == 0
-}
-
-// Why a name cannot be taken. A number is none, since nobody can tell whether it is a name or the last number too many.
-fn fault_of_name(s: &[u8], name: Part) -> u16 {
-    if let Number::Is(_) = number_in(s, name, HELD) {
-        return Fault::NUMBER_FOR_NAME;
-    }
-    if (task_names::LONGEST_NAME as u64)
-        < ground::less_or_zero(name.end as u64, name.start as u64)
-    {
-        return Fault::LONG_NAME;
-    }
-    if !is_plain_text(s, name) {
-        return Fault::ODD_NAME;
-    }
-    Fault::NONE
-}
-
-// Why the numbers of a line cannot be taken.
-fn fault_of_numbers(s: &[u8], line: Line, numbers: u8) -> Fault {
-    for i in 0..numbers {
-        if let Number::Not(reason) = number_at(s, line, numbers, i) {
-            return Fault {
-                reason,
-                field: first_number(line, numbers) as usize + i as usize,
-            };
-        }
-    }
-    Fault {
-        reason: Fault::NONE,
-        field: 0,
-    }
-}
-
-// Why a line is not so many numbers, with or without a name.
-pub fn fault_of(s: &[u8], line: Line, numbers: u8) -> Fault {
-    let n = line.fields;
-    let most = numbers as usize + 1;
-    if n < numbers as usize {
-        return Fault {
-            reason: Fault::TOO_FEW,
-            field: n,
-        };
-    }
-    if most < n {
-        return Fault {
-            reason: Fault::TOO_MANY,
-            field: most,
-        };
-    }
-    let reason = fault_of_name(s, name_of(s, line, numbers));
-    if Fault::NONE < reason {
-        return Fault { reason, field: 0 };
-    }
-    fault_of_numbers(s, line, numbers)
-}
-
-// The name of a line with so many numbers, empty where it has none.
-pub fn name_of(s: &[u8], line: Line, numbers: u8) -> Part {
-    if (numbers as usize) < line.fields {
-        return line::field(s, line, 0);
-    }
-    Part { start: 0, end: 0 }
-}
-
-// Whether a byte begins a word: a letter, or a byte of one that is not of ASCII.
-fn begins_word(byte: u8) -> bool {
-    if 127 < byte {
-        return true;
-    }
-    if byte < 65 || 122 < byte {
-        return false;
-    }
-    byte < 91 || 96 < byte
-}
-
-// Whether each field begins with a letter that is a number in a line without a name.
-fn is_words(s: &[u8], line: Line, numbers: u8) -> bool {
-    for i in 0..numbers {
-        let part = line::field(s, line, i as usize);
-        if !begins_word(part::byte_at(s, part.start)) {
-            return false;
-        }
-    }
-    true
-}
-
-// Whether a line is words, as many as there are numbers, or one more.
-pub fn is_header(s: &[u8], line: Line, numbers: u8) -> bool {
-    let n = line.fields;
-    if n < numbers as usize {
-        return false;
-    }
-    if numbers as usize + 1 < n {
-        return false;
-    }
-    is_words(s, line, numbers)
+// Whether a field begins with a letter, or with a byte of one that is not of ASCII.
+pub(crate) fn is_word(field: &[u8]) -> bool {
+    let begins = |byte: &u8| !byte.is_ascii() || byte.is_ascii_alphabetic();
+    field.first().is_some_and(begins)
 }

@@ -1,14 +1,12 @@
 -- "Given exactly when", of the margin: `margin-exactly`; the numbers that it gives are `margin-numbers`.
 -- Assumes nothing.
-use Rattle.ground.proofs.Kit.{ℕ, Bool, false, not, List, [], ◌∷◌, ◌++◌, ◌≡◌, refl, ◌∙◌, ap, arith, ltb, le-ltb}
+use Rattle.ground.proofs.Kit.{ℕ, Bool, false, not, List, [], ◌∷◌, ◌++◌, ◌≡◌, refl, ◌∙◌, ap, arith, ltb, le-ltb, Ok, Err}
 use lib.IntN.{pos}
 use Rattle.ground.specs.Choice.{both}
 use Rattle.kinds.specs.declared.Task.{Task}
 use Rattle.kinds.specs.declared.Settings.{Settings}
-use Rattle.kinds.specs.declared.Verdict.{Verdict}
-use Rattle.kinds.specs.declared.Verdict.TheVariants.{Accepted, Refused}
 use Rattle.kinds.specs.declared.Refusal.TheVariants.{TooManyTasks, PolicyNotServed, OutputTooShort}
-use Rattle.kinds.specs.Answer.{accepted, refused}
+use Rattle.kinds.specs.Answer.{accepted, refused, Verdict}
 use Rattle.kinds.specs.Limits.{most_tasks}
 use Rattle.kinds.specs.Policy.{meant, is_first_fit}
 use Rattle.kinds.specs.Chain.{Check, ◌when◌, handed_by, Exactly, numbers_given}
@@ -30,7 +28,7 @@ module _ (s : Settings) (rows : List Task) (n k : ℕ) where
       let before : Bool → List Check = λ four. settings_chain s ++ (TooManyTasks n when ltb most_tasks n ∷ PolicyNotServed when four ∷ []) in
       let six : List Check = record_check s rows n ∷ [] in
       ap (λ (v : Verdict). reported v x) (admission-chain false s rows n n)
-      ∙ (first-through (λ v. reported v x) Refused Accepted (admission_chain false s rows n n)
+      ∙ (first-through (λ v. reported v x) Err (Ok tt) (admission_chain false s rows n n)
       ∙ (first-without (refused (pos 0)) (accepted x) (before (both first (not false))) five six (le-ltb n n (omega arith))
       ∙ ap (λ (four : Bool). handed_by (pos 0) x (before four ++ six)) (unserved first)))
 

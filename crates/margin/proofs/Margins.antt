@@ -3,8 +3,7 @@
 use Rattle.ground.proofs.Kit.{ℕ, ◌≤◌, ◌<◌, false, List, ◌≡◌, refl, sym, ◌∙◌}
 use Rattle.kinds.specs.declared.Task.{Task}
 use Rattle.kinds.specs.declared.Settings.{Settings}
-use Rattle.kinds.specs.declared.Margin.{Margin}
-use Rattle.kinds.specs.Answer.{handed_margin}
+use Rattle.kinds.specs.Answer.{handed_margin, Margin}
 use Rattle.kinds.specs.Limits.{most_tasks}
 use Rattle.kinds.specs.Task.{at}
 use Rattle.kinds.proofs.Answers.{margin-one}

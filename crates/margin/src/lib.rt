@@ -5,25 +5,21 @@ ghost use Rattle.std.specs.Prelude.{◌≡◌};
 ghost use Rattle.kinds.specs.Answer.{handed_margin};
 ghost use Rattle.margin.specs.Margin.{margin_handed};
 
-use kinds::{Margin, Settings, Table, Verdict};
-use springs::Columns;
+use kinds::{Refusal, Settings, Table};
+use policy::Test;
+use springs::Springs;
 
 // The right side of the test minus the left at any step, or the refusal.
-pub fn margin_at(table: Table, settings: Settings, step: u32) -> Margin
+pub fn margin_at(table: Table, settings: Settings, step: u32) -> Result<i64, Refusal>
     ensures { handed_margin result ≡ margin_handed settings table.rows table.n step }
 {
-    let n = table.n;
-    let mut block = [0u32; Columns::ROOM];
-    let gate = admission::gate_of(settings, false, n, n);
-    if let Verdict::Refused(refusal) = gate {
-        return Margin::Refused(refusal);
-    }
-    let bad = springs::springs_of(table, settings.swap, settings.notch, &mut block);
-    let admission = admission::judge(bad, n);
-    let Verdict::Refused(refusal) = admission else {
-        let asked = settings.policy;
-        springs::loads_at(settings, &mut block, n, step);
-        return Margin::Is(policy::margin_of(asked.meant(), settings.m, &block, n));
+    let mut springs = Springs::new(settings.notch);
+    admission::admit(table, settings, false, table.n, &mut springs)?;
+    springs.load(settings, step);
+    let asked = settings.policy;
+    let test = Test {
+        policy: asked.meant(),
+        m: settings.m,
     };
-    Margin::Refused(refusal)
+    Ok(test.margin(&springs))
 }

@@ -1,9 +1,8 @@
 -- Jobs that are run under a plan.
 -- Assumes nothing.
-use Rattle.std.specs.Prelude.{ℕ, Bool, List}
+use Rattle.std.specs.Prelude.{ℕ, Bool, List, Ok}
 use Rattle.kinds.specs.declared.Task.{Task}
 use Rattle.kinds.specs.declared.Settings.{Settings}
-use Rattle.kinds.specs.declared.Answer.TheVariants.{Accepted}
 use Rattle.outcome.specs.Plan.{outcome, Meets}
 use Rattle.schedule.specs.Jobs.{Jobs}
 use Rattle.schedule.specs.Schedule.{Schedule}
@@ -21,6 +20,6 @@ pub record UnderPlan (jobs : Jobs) (runs : Schedule) : Type 0 where
   pub old_processors : List ℕ
   pub periods : List ℕ
   pub processors : List ℕ
-  pub plan : Meets (outcome serves settings rows n old_periods old_processors) (Accepted step) periods processors
+  pub plan : Meets (outcome serves settings rows n old_periods old_processors) (Ok step) periods processors
   pub follows : Follows settings rows n periods jobs
   pub kernel : Kernel settings rows n step processors jobs runs

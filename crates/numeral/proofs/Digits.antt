@@ -1,8 +1,8 @@
 -- The digits of a number are those of its tenth and then its last; a number below 10 to the power k has at most k.
 -- Assumes nothing.
-use Rattle.ground.proofs.Kit.{ℕ, zero, suc, ◌+◌, ◌/◌, ◌%◌, ◌^◌, ◌≤◌, ◌<◌, List, [], ◌∷◌, ◌++◌, ◌≡◌, refl, ◌∙◌, ap, arith, length, set, length-append, lt-ltb}
+use Rattle.ground.proofs.Kit.{ℕ, zero, suc, ◌+◌, ◌*◌, ◌/◌, ◌%◌, ◌^◌, ◌≤◌, ◌<◌, List, [], ◌∷◌, ◌++◌, ◌≡◌, refl, ◌∙◌, ap, arith, length, set, length-append, lt-ltb}
 use Rattle.ground.proofs.Kit.{le-ltb}
-use native.Mathlib.Nat.{pow-suc}
+use native.Mathlib.Nat.{pow-suc, one-le-pow}
 use Rattle.ground.proofs.Cases.{by_le}
 use Rattle.field.specs.Handover.{stored, Put}
 use Rattle.field.proofs.Stores.{put_then}
@@ -41,6 +41,16 @@ few-digits zero n h = let e = one-long n h in omega arith
 few-digits (suc k) n h =
     let tenth : 10 ≤ n → length (decimal (n / 10)) ≤ suc k = λ l. few-digits k (n / 10) (let p = pow-suc 10 (suc k) in omega arith) in
     by_le 10 n (λ l. omega (arith, more-long n l, tenth l)) (λ l. omega (arith, one-long n l))
+
+many-digits : (k n : ℕ) → 10 ^ k ≤ n → suc k ≤ length (decimal n)
+many-digits zero n h = by_le 10 n (λ l. omega (arith, more-long n l)) (λ l. omega (arith, one-long n l))
+many-digits (suc k) n h =
+    let tenth : 10 ^ k ≤ n / 10 = (let p = pow-suc 10 k in omega arith) in
+    omega (arith, more-long n (let p = pow-suc 10 k in let q = one-le-pow k 10 (omega arith) in omega arith), many-digits k (n / 10) tenth)
+
+-- a number has one digit more than the power of ten that it reaches
+pub long-by_power : (k n : ℕ) → 10 ^ k ≤ n → n < 10 * 10 ^ k → length (decimal n) ≡ k + 1
+long-by_power k n l h = omega (arith, many-digits k n l, few-digits k n (let p = pow-suc 10 k in omega arith))
 
 -- one byte stored
 pub put_byte : (out : List ℕ) (at v : ℕ) → Put out at 1 (v ∷ []) (at + 1) (set out at v)

@@ -1,35 +1,17 @@
 -- The scanner takes exactly the texts of numbers: what it reads stands there as the number's text (`numeral-got`), and a number's text is
 -- read as that number (`numeral-back`).
 -- Assumes nothing.
-use Rattle.ground.proofs.Kit.{ℕ, suc, ◌+◌, ◌≤◌, ◌<◌, true, false, List, [], ◌∷◌, ◌++◌, append-nil, ◌≡◌, refl, sym, ◌∙◌, ap, add-one, arith, eqb, length}
+use Rattle.ground.proofs.Kit.{ℕ, Option, Some, None, suc, ◌+◌, ◌≤◌, ◌<◌, false, List, [], ◌∷◌, ◌++◌, append-nil, ◌≡◌, refl, sym, ◌∙◌, ap, add-one, arith, eqb, length}
 use Rattle.ground.proofs.Kit.{get_or, drop, eqb-true}
 use lib.ListN.{drop_of_length-le}
 use lib.Seq.{drop-cons, drop-drop, get_or-drop, get_or-append_seam, drop-append-add}
 use borrow.Author.Tests.{eqb-false}
+use Rattle.std.proofs.lemmas.Option.{some_pair_parts}
 use Rattle.ground.proofs.Cases.{by_bool}
-use Rattle.numeral.specs.declared.Numeral.{Numeral}
-use Rattle.numeral.specs.declared.Numeral.TheVariants.{Is, Bad}
 use Rattle.numeral.specs.Decimal.{decimal}
-use Rattle.numeral.specs.Scan.{most_number, is_digit, digits, digits_at, value_from, value_at, past_digits, plain, number_at, numeral_at, numeral_in}
-use Rattle.numeral.proofs.Scan.{within, Number, number-there, number-got, no_number, other-end, whole, in-none, in-longer, in_whole}
-use Rattle.numeral.proofs.OneText.{AllDigits, own-text, decimal-digits, decimal-plain, decimal-value}
-
-digits-cons : (b : ℕ) (s : List ℕ) → is_digit b ≡ true → digits (b ∷ s) ≡ b ∷ digits s
-unfolding digits
-digits-cons b s e = simp e
-
-digits-stop : (b : ℕ) (s : List ℕ) → is_digit b ≡ false → digits (b ∷ s) ≡ []
-unfolding digits
-digits-stop b s e = simp e
-
-front_by : (b : ℕ) (s : List ℕ) → AllDigits (digits s) → AllDigits (digits (b ∷ s))
-front_by b s f =
-    by_bool (is_digit b) (λ e. rw (digits-cons b s e) (e, f)) (λ e. rw (digits-stop b s e) tt)
-
-front-digits : (s : List ℕ) → AllDigits (digits s)
-unfolding digits
-front-digits [] = tt
-front-digits (b ∷ s) = front_by b s (front-digits s)
+use Rattle.numeral.specs.Scan.{most_number, is_digit, AllDigits, digits, digits_at, value_from, value_at, past_digits, plain, number_at, numeral_at, numeral_in}
+use Rattle.numeral.proofs.Scan.{within, digits-cons, digits-stop, front-digits, Number, number-there, number-got, no_number, other-end, whole, in-none, in-longer, in_whole}
+use Rattle.numeral.proofs.OneText.{own-text, decimal-digits, decimal-plain, decimal-value}
 
 split_by : (b : ℕ) (s : List ℕ) → s ≡ digits s ++ drop (length (digits s)) s → b ∷ s ≡ digits (b ∷ s) ++ drop (length (digits (b ∷ s))) (b ∷ s)
 unfolding digits
@@ -71,21 +53,20 @@ module _ (s : List ℕ) (at end : ℕ) (z : 0 < end) where
         inside = omega arith;
       }
 
-  pub numeral-got : (v next : ℕ) → numeral_at s at end ≡ Is v next → Got s at end v next
+  pub numeral-got : (v next : ℕ) → numeral_at s at end ≡ Some (v, next) → Got s at end v next
   numeral-got v next k = by (number_at s at) refl
     where
-      never : numeral_at s at end ≡ Bad → Got s at end v next
+      never : numeral_at s at end ≡ None → Got s at end v next
       never w = absurd (let t : ◌≡◌ {A = ℕ} 0 1 = cc in omega arith)
 
-      by : (f : Numeral) → number_at s at ≡ f → Got s at end v next
-      by Bad e = never (no_number s at end e)
-      by (Is u past) e =
+      by : (f : Option (ℕ × ℕ)) → number_at s at ≡ f → Got s at end v next
+      by None e = never (no_number s at end e)
+      by (Some (u, past)) e =
           by_bool (eqb (get_or s past 0) end)
           (λ t.
           let w = whole s at u past e end (eqb-true _ _ t) in
-          let x : u ≡ v = cc in
-          let y : past + 1 ≡ next = cc in
-          rw (← x, ← y) (there u past (number-got s at u past e) (eqb-true _ _ t)))
+          let x = some_pair_parts u v (past + 1) next (sym w ∙ k) in
+          rw (← x.0, ← x.1) (there u past (number-got s at u past e) (eqb-true _ _ t)))
           (λ t. never (other-end s at u past e end (eqb-false _ _ t)))
 
 -- a number's text, and the byte that ends it, are read as that number
@@ -103,7 +84,7 @@ module _ (s : List ℕ) (at end v : ℕ) (rest : List ℕ) (n : is_digit end ≡
   its-value : value_at s at ≡ v
   its-value = ap (value_from 0) its-digits ∙ decimal-value v
 
-  pub numeral-back : numeral_at s at end ≡ Is v (at + length (decimal v) + 1)
+  pub numeral-back : numeral_at s at end ≡ Some (v, at + length (decimal v) + 1)
   numeral-back =
       let past : past_digits s at ≡ at + length (decimal v) = ap (λ (l : List ℕ). at + length l) its-digits in
       let there : Number s at v (at + length (decimal v)) = record { digits-plain = ap plain its-digits ∙ decimal-plain v; small = h; value-is = its-value; next-is = past } in
@@ -117,20 +98,20 @@ module _ (s : List ℕ) (at end v : ℕ) (rest : List ℕ) (n : is_digit end ≡
       ∙ (ap (drop (length (decimal v) + 1)) t ∙ drop-append-add (decimal v) (end ∷ rest) 1))
 
 -- a whole text that is read is the number's text, and a number's text is read as that number
-pub whole-got : (s : List ℕ) (v next : ℕ) → numeral_in s ≡ Is v next → (v ≤ most_number) × (s ≡ decimal v)
+pub whole-got : (s : List ℕ) (v next : ℕ) → numeral_in s ≡ Some (v, next) → (v ≤ most_number) × (s ≡ decimal v)
 whole-got s v next k = by (number_at s 0) refl
   where
-    never : {B : Type 0} → numeral_in s ≡ Bad → B
+    never : {B : Type 0} → numeral_in s ≡ None → B
     never w = absurd (let t : ◌≡◌ {A = ℕ} 0 1 = cc in omega arith)
 
-    by : (f : Numeral) → number_at s 0 ≡ f → (v ≤ most_number) × (s ≡ decimal v)
-    by Bad e = never (in-none s e)
-    by (Is u past) e =
+    by : (f : Option (ℕ × ℕ)) → number_at s 0 ≡ f → (v ≤ most_number) × (s ≡ decimal v)
+    by None e = never (in-none s e)
+    by (Some (u, past)) e =
         by_bool (eqb past (length s))
         (λ t.
         let x = number-got s 0 u past e in
         let w = in_whole s u past e (eqb-true _ _ t) in
-        let same : u ≡ v = cc in
+        let same = (some_pair_parts u v past next (sym w ∙ k)).0 in
         let l : length (digits s) ≡ length s = (let z = x.next-is in let y : past ≡ length s = eqb-true past (length s) t in omega arith) in
         let none : drop (length (digits s)) s ≡ [] = drop_of_length-le s {i = length (digits s)} (omega arith) in
         let all : digits s ≡ s = sym (digits-then s ∙ (ap (λ (r : List ℕ). digits s ++ r) none ∙ append-nil (digits s))) in
@@ -142,7 +123,7 @@ unfolding digits
 all_of [] f = refl
 all_of (d ∷ ds) f = digits-cons d ds f.0 ∙ ap (λ (x : List ℕ). d ∷ x) (all_of ds f.1)
 
-pub whole_back : (v : ℕ) → v ≤ most_number → numeral_in (decimal v) ≡ Is v (length (decimal v))
+pub whole_back : (v : ℕ) → v ≤ most_number → numeral_in (decimal v) ≡ Some (v, length (decimal v))
 whole_back v h =
     let d = all_of (decimal v) (decimal-digits v) in
     let value : value_at (decimal v) 0 ≡ v = ap (value_from 0) d ∙ decimal-value v in

@@ -7,14 +7,9 @@ use lib.ListN.{get_or-append}
 use borrow.Author.Tests.{eqb-false}
 use Rattle.ground.proofs.Cases.{by_le}
 use Rattle.numeral.specs.Decimal.{last_digit, decimal}
-use Rattle.numeral.specs.Scan.{is_digit, value_from, plain}
+use Rattle.numeral.specs.Scan.{is_digit, AllDigits, value_from, plain}
 use Rattle.numeral.proofs.Digits.{one-digit, more-digits, one-long, more-long}
-use Rattle.numeral.proofs.Scan.{digit-is, is_digit_lem, value_none, value-more, plain-one, plain_more}
-
--- every byte is a digit
-abbrev pub AllDigits : List ℕ → Type 0
-AllDigits [] = Unit
-AllDigits (d ∷ ds) = (is_digit d ≡ true) × AllDigits ds
+use Rattle.numeral.proofs.Scan.{digit-is, is_digit_lem, value_none, value-more, value-then, plain-one, plain_more}
 
 -- one digit more
 grow : (v d : ℕ) → 1 ≤ v → is_digit d ≡ true → decimal (10 * v + (d - 48)) ≡ decimal v ++ (d ∷ [])
@@ -80,13 +75,6 @@ decimal-digits n =
     (λ k h. rw (one-digit k h) (last-is k, tt))
     (λ k h i. rw (more-digits k h) (digits-then (decimal (k / 10)) (48 + k % 10) i (last-is k)))
     n n (omega arith)
-
-value-then : (v : ℕ) (ds : List ℕ) (d : ℕ) → value_from v (ds ++ (d ∷ [])) ≡ 10 * value_from v ds + (d - 48)
-value-then v [] d =
-    value-more v d [] ∙ (value_none (10 * v + (d - 48)) ∙ ap (λ (x : ℕ). 10 * x + (d - 48)) (sym (value_none v)))
-value-then v (x ∷ ds) d =
-    value-more v x (ds ++ (d ∷ []))
-    ∙ (value-then (10 * v + (x - 48)) ds d ∙ ap (λ (k : ℕ). 10 * k + (d - 48)) (sym (value-more v x ds)))
 
 pub decimal-value : (n : ℕ) → value_from 0 (decimal n) ≡ n
 decimal-value n =

@@ -1,19 +1,23 @@
 -- Laws of the scan: a run of digits taken one by one from the left, and the cases of the number at a place.
 -- Assumes nothing.
-use Rattle.ground.proofs.Kit.{ℕ, zero, suc, ◌+◌, ◌-◌, ◌*◌, ◌≤◌, ◌<◌, true, false, not, List, [], ◌∷◌, ◌≡◌, refl, sym, ◌∙◌, ap, add-one, arith, eqb, length}
+use Rattle.ground.proofs.Kit.{ℕ, zero, suc, ◌+◌, ◌-◌, ◌*◌, ◌≤◌, ◌<◌, Option, Some, None, true, false, not, ◌++◌, take, List, [], ◌∷◌, ◌≡◌, refl, sym, ◌∙◌, ap, arith, eqb, length, take-append-drop, drop}
 use Rattle.ground.proofs.Kit.{get_or, leb, eq-eqb, ne_eqb, le-leb, lt-leb, leb-true}
+use native.Mathlib.Numerals.{one-add}
 use lib.ListN.{drop_of_length-le}
 use lib.Seq.{drop-cons}
 use Rattle.ground.specs.Choice.{both}
 use Rattle.ground.proofs.Cases.{by_le, by_bool, both_true}
-use Rattle.numeral.specs.declared.Run.{Run}
-use Rattle.numeral.specs.declared.Numeral.TheVariants.{Is, Bad}
-use Rattle.numeral.specs.Scan.{most_number, limited, is_digit, digits, value_from, digits_at, value_at, past_digits, plain, number_at, numeral_at, numeral_in}
-use Rattle.numeral.specs.Handover.{Runs}
+use Rattle.std.specs.List.{prefix_len, slice_range}
+use Rattle.std.proofs.lemmas.Bool.Decides.{nat_tests}
+use Rattle.std.proofs.lemmas.Option.{some_pair_parts, same_Some, none-some}
+use Rattle.std.proofs.lemmas.Slice.{between_to_end}
+use Rattle.std.proofs.lemmas.List.Folds.{length-prefix_len}
+use Rattle.std.proofs.lemmas.List.{take_more}
+use Rattle.numeral.specs.Scan.{most_number, is_digit, AllDigits, digits, value_from, value_if_small, digits_at, value_at, past_digits, plain, number_at, numeral_at, numeral_in}
 
 -- a digit lies from 48 to 57
 pub digit-is : (b : ℕ) → is_digit b ≡ true → (48 ≤ b) × (b ≤ 57)
-digit-is b e = let p = both_true _ _ e in (leb-true 48 b p.0, leb-true b 57 p.1)
+digit-is b e = grind (arith, nat_tests)
 
 pub is_digit_lem : (b : ℕ) → 48 ≤ b → b ≤ 57 → is_digit b ≡ true
 is_digit_lem b p q = simp (le-leb 48 b p, le-leb b 57 q)
@@ -24,18 +28,38 @@ within [] i h = absurd (omega arith)
 within (b ∷ s) zero h = omega arith
 within (b ∷ s) (suc i) h = let k = within s i h in omega arith
 
-pub digit-within : (s : List ℕ) (i b : ℕ) → b ≡ get_or s i 0 → is_digit b ≡ true → i < length s
-digit-within s i b e t = within s i (omega (arith, digit-is b t))
-
--- the run goes on at a digit, and ends where none stands
-pub digits_more : (s : List ℕ) (i : ℕ) → is_digit (get_or s i 0) ≡ true → digits_at s i ≡ get_or s i 0 ∷ digits_at s (i + 1)
+-- the digits at the front of a text are as many of its bytes as pass the test
+pub digits-front : (s : List ℕ) → digits s ≡ take (prefix_len is_digit s) s
 unfolding digits
-digits_more s i e = let h = digit-within s i (get_or s i 0) refl e in rw (add-one i, drop-cons s i 0 h) (simp e)
+digits-front [] = refl
+digits-front (b ∷ s) = by_bool (is_digit b) (λ e. simp (e, one-add) (ap (λ (x : List ℕ). b ∷ x) (digits-front s))) (λ e. simp e)
 
-pub digits-end : (s : List ℕ) (i : ℕ) → is_digit (get_or s i 0) ≡ false → digits_at s i ≡ []
+pub digits-cons : (b : ℕ) (s : List ℕ) → is_digit b ≡ true → digits (b ∷ s) ≡ b ∷ digits s
 unfolding digits
-digits-end s i e =
-    by_le (length s) i (λ h. ap digits (drop_of_length-le s h)) (λ h. rw (drop-cons s i 0 h) (simp e))
+digits-cons b s e = simp e
+
+pub digits-stop : (b : ℕ) (s : List ℕ) → is_digit b ≡ false → digits (b ∷ s) ≡ []
+unfolding digits
+digits-stop b s e = simp e
+
+front_by : (b : ℕ) (s : List ℕ) → AllDigits (digits s) → AllDigits (digits (b ∷ s))
+front_by b s f =
+    by_bool (is_digit b) (λ e. rw (digits-cons b s e) (e, f)) (λ e. rw (digits-stop b s e) tt)
+
+pub front-digits : (s : List ℕ) → AllDigits (digits s)
+unfolding digits
+front-digits [] = tt
+front-digits (b ∷ s) = front_by b s (front-digits s)
+
+-- no digits stand past the end
+pub digits-past : (s : List ℕ) (at : ℕ) → length s ≤ at → digits_at s at ≡ []
+unfolding digits
+digits-past s at h = ap digits (drop_of_length-le s h)
+
+pub each-digit : (ds : List ℕ) (i : ℕ) → AllDigits ds → i < length ds → (48 ≤ get_or ds i 0) × (get_or ds i 0 ≤ 57)
+each-digit [] i f h = absurd (omega arith)
+each-digit (d ∷ ds) zero f h = digit-is d f.0
+each-digit (d ∷ ds) (suc i) f h = each-digit ds i f.1 (omega arith)
 
 pub value_none : (v : ℕ) → value_from v [] ≡ v
 unfolding value_from
@@ -45,42 +69,57 @@ pub value-more : (v d : ℕ) (ds : List ℕ) → value_from v (d ∷ ds) ≡ val
 unfolding value_from
 value-more v d ds = refl
 
--- holding a value down on the way changes nothing of what is held of the whole
-pub value-held : (v w : ℕ) (ds : List ℕ) → limited v ≡ limited w → limited (value_from v ds) ≡ limited (value_from w ds)
-unfolding value_from
-value-held v w [] h = h
-value-held v w (d ∷ ds) h = value-held (10 * v + (d - 48)) (10 * w + (d - 48)) ds (omega arith)
+pub value-then : (v : ℕ) (ds : List ℕ) (d : ℕ) → value_from v (ds ++ (d ∷ [])) ≡ 10 * value_from v ds + (d - 48)
+value-then v [] d =
+    value-more v d [] ∙ (value_none (10 * v + (d - 48)) ∙ ap (λ (x : ℕ). 10 * x + (d - 48)) (sym (value_none v)))
+value-then v (x ∷ ds) d =
+    value-more v x (ds ++ (d ∷ []))
+    ∙ (value-then (10 * v + (x - 48)) ds d ∙ ap (λ (k : ℕ). 10 * k + (d - 48)) (sym (value-more v x ds)))
 
--- a walk over a run of digits that has come to i with the value v: what is left gives the whole
-pub record Going (s : List ℕ) (at v i : ℕ) : Type 0 where
-  pub place : past_digits s i ≡ past_digits s at
-  pub value : limited (value_from v (digits_at s i)) ≡ limited (value_at s at)
-  pub low : v ≤ most_number + 1
+-- more digits make no value less
+value_grows : (v : ℕ) (ds : List ℕ) → v ≤ value_from v ds
+value_grows v [] = omega (arith, value_none v)
+value_grows v (d ∷ ds) = omega (arith, value-more v d ds, value_grows (10 * v + (d - 48)) ds)
 
-module _ (s : List ℕ) (at : ℕ) where
-  pub going-none : Going s at 0 at
-  going-none = record { place = refl; value = refl; low = omega arith }
+small_some : (ds : List ℕ) (v : ℕ) → Some v ≡ value_if_small ds → (value_from 0 ds ≤ most_number) × (value_from 0 ds ≡ v)
+small_some ds v h =
+    by_le (value_from 0 ds) most_number
+    (λ l. (l, same_Some (value_from 0 ds) v (sym (simp (le-leb (value_from 0 ds) most_number l) at h))))
+    (λ l. absurd (none-some v (sym (simp (lt-leb (value_from 0 ds) most_number l) at h))))
 
-  module _ (v i b : ℕ) (g : Going s at v i) (e : b ≡ get_or s i 0) where
-    pub going_more : is_digit b ≡ true → (w : ℕ) → w ≡ limited (10 * v + (b - 48)) → Going s at w (i + 1)
-    going_more t w k =
-        let d : digits_at s i ≡ b ∷ digits_at s (i + 1) = digits_more s i (ap is_digit (sym e) ∙ t) ∙ ap (λ (x : ℕ). x ∷ digits_at s (i + 1)) (sym e) in
-        let l : length (digits_at s i) ≡ suc (length (digits_at s (i + 1))) = ap length d in
-        let u : limited (value_from v (digits_at s i)) ≡ limited (value_from (10 * v + (b - 48)) (digits_at s (i + 1))) =
-        ap (λ (x : List ℕ). limited (value_from v x)) d ∙ ap limited (value-more v b (digits_at s (i + 1))) in
-        let h : limited (value_from w (digits_at s (i + 1))) ≡ limited (value_from (10 * v + (b - 48)) (digits_at s (i + 1))) =
-        value-held w (10 * v + (b - 48)) (digits_at s (i + 1)) (omega arith) in
-        record { place = let p = g.place in omega arith; value = h ∙ (sym u ∙ g.value); low = omega arith }
+small_none : (ds : List ℕ) → None ≡ value_if_small ds → most_number < value_from 0 ds
+small_none ds h =
+    by_le (value_from 0 ds) most_number
+    (λ l. absurd (none-some (value_from 0 ds) (simp (le-leb (value_from 0 ds) most_number l) at h)))
+    (λ l. l)
 
-    pub going_end : is_digit b ≡ false → Runs s at (record { value = v; next = i })
-    going_end t =
-        let d : digits_at s i ≡ [] = digits-end s i (ap is_digit (sym e) ∙ t) in
-        let l : length (digits_at s i) ≡ 0 = ap length d in
-        let u : value_from v (digits_at s i) ≡ v = ap (value_from v) d ∙ value_none v in
-        let p = g.place in
-        let q = g.value in
-        let o = g.low in
-        record { next-is = omega arith; value-is = omega arith }
+pub small-kept : (ds : List ℕ) (v : ℕ) → v ≡ value_from 0 ds → v ≤ most_number → Some v ≡ value_if_small ds
+small-kept ds v e h = simp (sym e, le-leb v most_number h)
+
+value-append : (v : ℕ) (ds es : List ℕ) → value_from v (ds ++ es) ≡ value_from (value_from v ds) es
+value-append v [] es = ap (λ (x : ℕ). value_from x es) (sym (value_none v))
+value-append v (d ∷ ds) es =
+    value-more v d (ds ++ es)
+    ∙ (value-append (10 * v + (d - 48)) ds es ∙ ap (λ (x : ℕ). value_from x es) (sym (value-more v d ds)))
+
+-- the value of the digits before a place, the digit there, and those after it
+module _ (ds : List ℕ) (i v : ℕ) (e : v ≡ value_from 0 (take i ds)) (h : i < length ds) where
+  pub value-here : value_from 0 ds ≡ value_from (10 * v + (get_or ds i 0 - 48)) (drop (suc i) ds)
+  value-here =
+      ap (value_from 0) (sym (take-append-drop i ds))
+      ∙ (value-append 0 (take i ds) (drop i ds)
+      ∙ (ap (λ (x : List ℕ). value_from (value_from 0 (take i ds)) x) (drop-cons ds i 0 h)
+      ∙ (value-more (value_from 0 (take i ds)) (get_or ds i 0) (drop (suc i) ds)
+      ∙ ap (λ (x : ℕ). value_from (10 * x + (get_or ds i 0 - 48)) (drop (suc i) ds)) (sym e))))
+
+  pub value_next : value_from 0 (take (i + 1) ds) ≡ 10 * v + (get_or ds i 0 - 48)
+  value_next =
+      ap (value_from 0) (take_more ds i 0 h)
+      ∙ (value-then 0 (take i ds) (get_or ds i 0) ∙ ap (λ (x : ℕ). 10 * x + (get_or ds i 0 - 48)) (sym e))
+
+  pub value_large : most_number < 10 * v + (get_or ds i 0 - 48) → value_if_small ds ≡ None
+  value_large l =
+      simp (lt-leb (value_from 0 ds) most_number (omega (arith, value-here, value_grows (10 * v + (get_or ds i 0 - 48)) (drop (suc i) ds))))
 
 -- plain digits, by their count
 pub plain-none : (ds : List ℕ) → length ds ≡ 0 → plain ds ≡ false
@@ -100,30 +139,41 @@ plain_more [] h = absurd (omega arith)
 plain_more (d ∷ []) h = absurd (omega arith)
 plain_more (d ∷ (e ∷ ds)) h = refl
 
--- the first digit stands at the place where the run starts
-pub first-digit : (s : List ℕ) (at : ℕ) → 0 < length (digits_at s at) → get_or (digits_at s at) 0 0 ≡ get_or s at 0
-first-digit s at h =
-    by_bool (is_digit (get_or s at 0))
-    (λ t. ap (λ (x : List ℕ). get_or x 0 0) (digits_more s at t))
-    (λ t. absurd (omega (arith, ap length (digits-end s at t))))
+-- the cases of the number at a place, by the bytes from there on and how many of them are digits
+pub no-digits : (s : List ℕ) (at : ℕ) → length s < at → number_at s at ≡ None
+unfolding number_at
+no-digits s at h = simp (digits-past s at (omega arith), plain-none [] refl)
 
--- the cases of the number at a place, from what a run says
-module _ (s : List ℕ) (at : ℕ) where
-  pub not_plain : plain (digits_at s at) ≡ false → number_at s at ≡ Bad
+module _ (s rest : List ℕ) (at count : ℕ) (r : rest ≡ slice_range s at (length s)) (k : count ≡ prefix_len is_digit rest) where
+  rest-is : rest ≡ drop at s
+  rest-is = r ∙ between_to_end s at (length s) (omega arith)
+
+  their-digits : take count rest ≡ digits_at s at
+  their-digits = ap (λ (n : ℕ). take n rest) k ∙ (sym (digits-front rest) ∙ ap digits rest-is)
+
+  pub all_digits : AllDigits (take count rest)
+  all_digits = rw their-digits (front-digits (drop at s))
+
+  pub not_plain : plain (take count rest) ≡ false → number_at s at ≡ None
   unfolding number_at
-  not_plain p = simp p
+  not_plain p = simp (ap plain (sym their-digits) ∙ p)
 
-  module _ (r : Run) (run : Runs s at r) (p : plain (digits_at s at) ≡ true) where
-    pub too_large : most_number < r.value → number_at s at ≡ Bad
-    unfolding number_at
-    too_large h = let q : most_number < value_at s at = (let v = run.value-is in omega arith) in simp (p, lt-leb (value_at s at) most_number q)
+  module _ (p : plain (take count rest) ≡ true) where
+    their_plain : plain (digits_at s at) ≡ true
+    their_plain = ap plain (sym their-digits) ∙ p
 
-    pub number_read : r.value ≤ most_number → Is r.value r.next ≡ number_at s at
+    pub too_large : None ≡ value_if_small (take count rest) → number_at s at ≡ None
     unfolding number_at
-    number_read h =
-        let q : value_at s at ≤ most_number = (let v = run.value-is in omega arith) in
-        let v : r.value ≡ value_at s at = let w = run.value-is in omega arith in
-        simp (p, le-leb (value_at s at) most_number q, v, run.next-is)
+    too_large h =
+        let f = small_none (digits_at s at) (h ∙ ap value_if_small their-digits) in
+        simp (their_plain, lt-leb (value_at s at) most_number f)
+
+    pub number_read : (v : ℕ) → Some v ≡ value_if_small (take count rest) → number_at s at ≡ Some (v, at + count)
+    unfolding number_at
+    number_read v h =
+        let f = small_some (digits_at s at) v (h ∙ ap value_if_small their-digits) in
+        let l : length (digits_at s at) ≡ count = ap length (sym their-digits) ∙ (ap (λ (n : ℕ). length (take n rest)) k ∙ (length-prefix_len is_digit rest ∙ sym k)) in
+        simp (their_plain, f.1, le-leb v most_number (omega (arith, f.0, f.1)), l)
 
 -- a number that is there: plain digits, with a value that is not too large
 pub record Number (s : List ℕ) (at v next : ℕ) : Type 0 where
@@ -132,49 +182,48 @@ pub record Number (s : List ℕ) (at v next : ℕ) : Type 0 where
   pub value-is : value_at s at ≡ v
   pub next-is : past_digits s at ≡ next
 
-pub number-there : (s : List ℕ) (at v next : ℕ) → Number s at v next → number_at s at ≡ Is v next
+pub number-there : (s : List ℕ) (at v next : ℕ) → Number s at v next → number_at s at ≡ Some (v, next)
 unfolding number_at
 number-there s at v next x = rw (x.digits-plain, x.value-is, x.next-is, le-leb v most_number x.small)
 
-pub number-got : (s : List ℕ) (at v next : ℕ) → number_at s at ≡ Is v next → Number s at v next
+pub number-got : (s : List ℕ) (at v next : ℕ) → number_at s at ≡ Some (v, next) → Number s at v next
 unfolding number_at
 number-got s at v next e = by_bool (both (plain (digits_at s at)) (leb (value_at s at) most_number)) (λ t. there t (rw t at e)) (λ f. never (rw f at e))
   where
-    never : Bad ≡ Is v next → Number s at v next
+    never : ◌≡◌ {A = Option (ℕ × ℕ)} None (Some (v, next)) → Number s at v next
     never w = absurd (let t : ◌≡◌ {A = ℕ} 0 1 = cc in omega arith)
 
-    there : both (plain (digits_at s at)) (leb (value_at s at) most_number) ≡ true → Is (value_at s at) (past_digits s at) ≡ Is v next → Number s at v next
+    there : both (plain (digits_at s at)) (leb (value_at s at) most_number) ≡ true → ◌≡◌ {A = Option (ℕ × ℕ)} (Some (value_at s at, past_digits s at)) (Some (v, next)) → Number s at v next
     there t w =
         let b = both_true (plain (digits_at s at)) (leb (value_at s at) most_number) t in
-        let x : value_at s at ≡ v = cc in
-        let y : past_digits s at ≡ next = cc in
-        record { digits-plain = b.0; small = omega (arith, leb-true (value_at s at) most_number b.1); value-is = x; next-is = y }
+        let p = some_pair_parts (value_at s at) v (past_digits s at) next w in
+        record { digits-plain = b.0; small = omega (arith, p.0, leb-true (value_at s at) most_number b.1); value-is = p.0; next-is = p.1 }
 
 -- what follows a number
-module _ (s : List ℕ) (at v next : ℕ) (e : number_at s at ≡ Is v next) (end : ℕ) where
-  pub other-end : (get_or s next 0 ≡ end → ⊥) → numeral_at s at end ≡ Bad
+module _ (s : List ℕ) (at v next : ℕ) (e : number_at s at ≡ Some (v, next)) (end : ℕ) where
+  pub other-end : (get_or s next 0 ≡ end → ⊥) → numeral_at s at end ≡ None
   unfolding numeral_at
   other-end n = simp (e, ne_eqb (get_or s next 0) end n)
 
-  pub whole : get_or s next 0 ≡ end → numeral_at s at end ≡ Is v (next + 1)
+  pub whole : get_or s next 0 ≡ end → numeral_at s at end ≡ Some (v, next + 1)
   unfolding numeral_at
   whole n = simp (e, eq-eqb (get_or s next 0) end n)
 
-pub no_number : (s : List ℕ) (at end : ℕ) → number_at s at ≡ Bad → numeral_at s at end ≡ Bad
+pub no_number : (s : List ℕ) (at end : ℕ) → number_at s at ≡ None → numeral_at s at end ≡ None
 unfolding numeral_at
 no_number s at end e = rw e
 
 -- or that nothing does
 module _ (s : List ℕ) where
-  pub in-none : number_at s 0 ≡ Bad → numeral_in s ≡ Bad
+  pub in-none : number_at s 0 ≡ None → numeral_in s ≡ None
   unfolding numeral_in
   in-none e = rw e
 
-  module _ (v next : ℕ) (e : number_at s 0 ≡ Is v next) where
-    pub in-longer : (next ≡ length s → ⊥) → numeral_in s ≡ Bad
+  module _ (v next : ℕ) (e : number_at s 0 ≡ Some (v, next)) where
+    pub in-longer : (next ≡ length s → ⊥) → numeral_in s ≡ None
     unfolding numeral_in
     in-longer n = simp (e, ne_eqb next (length s) n)
 
-    pub in_whole : next ≡ length s → numeral_in s ≡ Is v next
+    pub in_whole : next ≡ length s → numeral_in s ≡ Some (v, next)
     unfolding numeral_in
     in_whole n = simp (e, eq-eqb next (length s) n)

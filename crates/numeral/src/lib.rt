@@ -3,28 +3,12 @@
 // text, and each accepted text exactly one number.
 #![tactic(auto)]
 
-ghost use Rattle.std.specs.Prelude.{true, ◌≡◌, ◌+◌, ◌*◌, ◌-◌, ◌≤◌, ◌<◌, length, get_or};
+ghost use Rattle.std.specs.Prelude.{◌≡◌, ◌+◌, ◌≤◌, ◌<◌, length};
+ghost use Rattle.std.specs.List.{prefix_len};
 ghost use Rattle.field.specs.Handover.{Put};
 ghost use Rattle.numeral.specs.Decimal.{decimal};
-ghost use Rattle.numeral.specs.Scan.{most_number, limited, is_digit, digits_at, past_digits, plain, number_at, numeral_at, numeral_in};
-ghost use Rattle.numeral.specs.Handover.{Sized, Runs};
-
-// The greatest number that a text may hold.
-pub const MOST_NUMBER: u64 = 4_294_967_295;
-
-// A run of digits: its value, held down at the number after the most, and the place after it.
-#[derive(Clone, Copy)]
-pub struct Run {
-    pub value: u64,
-    pub next: usize,
-}
-
-// A number and the place after the byte that ended it, or none.
-#[derive(Clone, Copy)]
-pub enum Numeral {
-    Is(u32, usize),
-    Bad,
-}
+ghost use Rattle.numeral.specs.Scan.{is_digit, AllDigits, value_if_small, plain, number_at, numeral_at, numeral_in};
+ghost use Rattle.numeral.specs.Handover.{Sized};
 
 // Stores the digits of a number from a place on, and nothing else; returns the place after them.
 pub fn put_decimal(out: &mut [u8], at: usize, n: u64) -> usize
@@ -44,117 +28,74 @@ pub fn put_decimal(out: &mut [u8], at: usize, n: u64) -> usize
 pub fn width(n: u32) -> usize
     ensures { Sized (decimal n) 10 result }
 {
-    let mut left = n;
-    let mut count: usize = 1;
-    while 10 <= left {
-        left = left / 10;
-        count += 1;
-    }
-    count
+    1 + n.checked_ilog10().unwrap_or(0) as usize
 }
 
-// The byte at a place, and 0 past the end.
-fn byte_at(s: &[u8], at: usize) -> u8
-    ensures { result ≡ get_or s.now at 0 }
+// The value of some digits, if 32 bits hold it.
+fn value_of(digits: &[u8]) -> Option<u32>
+    requires { AllDigits digits.now }
+    ensures { result ≡ value_if_small digits.now }
 {
-    if at < s.len() { s[at] } else { 0 }
+    let mut value: u32 = 0;
+    for digit in digits {
+        value = value.checked_mul(10)?.checked_add(u32::from(digit - b'0'))?;
+    }
+    Some(value)
 }
 
-fn is_digit(byte: u8) -> bool
-    ensures { result ≡ is_digit byte }
+// How many digits begin a text.
+fn digits_len(s: &[u8]) -> usize
+    ensures { result ≡ prefix_len is_digit s.now }
 {
-    if byte < 48 {
-        return false;
-    }
-    byte <= 57
+    s.iter().take_while(|byte| byte.is_ascii_digit()).count()
 }
 
-// The value with one digit more, held down, so that no run of digits is too long for it.
-fn grown(value: u64, byte: u8) -> u64
-    requires { (value ≤ most_number + 1) × (is_digit byte ≡ true) }
-    ensures { result ≡ limited (10 * value + (byte - 48)) }
+// Whether digits are a number's: one at least, and no leading zero except 0 itself.
+fn is_plain(digits: &[u8]) -> bool
+    ensures { result ≡ plain digits.now }
 {
-    let next = 10 * value + (byte - 48) as u64;
-    if next <= MOST_NUMBER {
-        next
-    } else {
-        MOST_NUMBER + 1
+    match digits {
+        [] => false,
+        [_] => true,
+        [first, ..] => *first != b'0',
     }
-}
-
-// The run of digits at a place.
-fn run_at(s: &[u8], at: usize) -> Run
-    ensures { Runs s.now at result }
-{
-    let mut value: u64 = 0;
-    let mut next = at;
-    loop {
-        let byte = byte_at(s, next);
-        let more = is_digit(byte);
-        if !more {
-            break;
-        }
-        value = grown(value, byte);
-        next += 1;
-    }
-    Run { value, next }
-}
-
-// Whether the digits from a place to another are a number's: one at least, and no leading zero except 0 itself.
-fn is_plain(s: &[u8], at: usize, next: usize) -> bool
-    requires { next ≡ past_digits s.now at }
-    ensures { result ≡ plain (digits_at s.now at) }
-{
-    let count = next - at;
-    if count == 0 {
-        return false;
-    }
-    if count == 1 {
-        return true;
-    }
-    byte_at(s, at) != 48
 }
 
 // The number at a place of a text, whatever follows it, and the place after its digits.
-fn number_at(s: &[u8], at: usize) -> Numeral
+fn number_at(s: &[u8], at: usize) -> Option<(u32, usize)>
     ensures { result ≡ number_at s.now at }
 {
-    let run = run_at(s, at);
-    let value = run.value;
-    let next = run.next;
-    let fit = is_plain(s, at, next);
-    if !fit {
-        return Numeral::Bad;
+    let rest = s.get(at..)?;
+    let count = digits_len(rest);
+    let digits = &rest[..count];
+    if !is_plain(digits) {
+        return None;
     }
-    if MOST_NUMBER < value {
-        return Numeral::Bad;
-    }
-    Numeral::Is(value as u32, next)
+    let value = value_of(digits)?;
+    Some((value, at + count))
 }
 
-// The number at a place of a text, ended by this byte.
-pub fn numeral_at(s: &[u8], at: usize, end: u8) -> Numeral
+// The number at a place of a text, ended by this byte, and the place after that byte.
+#[tactic(auto, unfolding(crate::specs::Scan::numeral_at))]
+pub fn numeral_at(s: &[u8], at: usize, end: u8) -> Option<(u32, usize)>
     requires { 0 < end }
     ensures { result ≡ numeral_at s.now at end }
 {
-    let Numeral::Is(value, next) = number_at(s, at) else {
-        return Numeral::Bad;
-    };
-    if byte_at(s, next) != end {
-        return Numeral::Bad;
+    let (value, next) = number_at(s, at)?;
+    if s.get(next) != Some(&end) {
+        return None;
     }
-    Numeral::Is(value, next + 1)
+    Some((value, next + 1))
 }
 
-// The number whose text is the whole text.
-pub fn numeral_in(s: &[u8]) -> Numeral
+// The number whose text is the whole text, and that text's length.
+#[tactic(auto, unfolding(crate::specs::Scan::numeral_in))]
+pub fn numeral_in(s: &[u8]) -> Option<(u32, usize)>
     ensures { result ≡ numeral_in s.now }
 {
-    let Numeral::Is(value, next) = number_at(s, 0) else {
-        return Numeral::Bad;
-    };
+    let (value, next) = number_at(s, 0)?;
     if next != s.len() {
-        return Numeral::Bad;
+        return None;
     }
-    Numeral::Is(value, next)
+    Some((value, next))
 }

@@ -1,7 +1,11 @@
 -- What import and export answer in each case, with the output after it, and that no second answer meets either promise.
 -- Assumes nothing.
-use Rattle.ground.proofs.Kit.{ℕ, ◌≤◌, ◌<◌, List, [], ◌++◌, append-nil, ◌≡◌, refl, sym, ◌∙◌, ap, ap₂, arith, length, drop, ne_eqb, lt-ltb, le-ltb}
+use Rattle.ground.proofs.Kit.{ℕ, ◌≤◌, ◌<◌, List, [], ◌++◌, append-nil, ◌≡◌, refl, sym, ◌∙◌, ap, ap₂, arith, length, take, drop, length-take-le, Option, None, ne_eqb, lt-ltb, le-ltb, Ok, Err}
 use lib.ListN.{drop_of_length-le}
+use Rattle.std.specs.List.{slice_range}
+use Rattle.std.specs.Option.{ok_or}
+use Rattle.std.proofs.lemmas.Slice.{between_from_start}
+use Rattle.std.proofs.lemmas.List.{get_or-take}
 use Rattle.ground.proofs.Cases.{by_le}
 use Rattle.ground.proofs.Joins.{join-cong}
 use Rattle.kinds.specs.declared.Task.{Task}
@@ -9,18 +13,16 @@ use Rattle.kinds.specs.declared.Table.{Table}
 use Rattle.kinds.specs.declared.Refusal.{Refusal}
 use Rattle.kinds.specs.declared.Refusal.TheVariants.{TooManyTasks, OutputTooShort}
 use Rattle.kinds.specs.Limits.{most_tasks}
-use Rattle.kinds.specs.Task.{at, table_of}
+use Rattle.kinds.specs.Task.{at, no_task, table_of}
 use Rattle.kinds.specs.Refusal.{number_of}
-use Rattle.kinds.specs.Answer.{Handed, accepted, refused}
+use Rattle.kinds.specs.Answer.{Handed, accepted, refused, Counted}
 use Rattle.kinds.proofs.Refusals.{refusal-numbered}
 use Rattle.kinds.proofs.Answers.{not-refused, count-one}
 use Rattle.field.specs.Handover.{Put}
 use Rattle.field.proofs.Stores.{stored-front}
-use Rattle.kinds.specs.declared.Counted.{Counted}
-use Rattle.kinds.specs.declared.Counted.TheVariants.{Count, Refused}
 use Rattle.office.specs.declared.Imported.{Imported}
-use Rattle.office.specs.Text.{line_of, row_line, text_to}
-use Rattle.office.specs.Reading.{Rows, Not, read_text, rows_of}
+use Rattle.office.specs.Text.{line_of, row_line, text_to, text_of}
+use Rattle.office.specs.Reading.{read_text, rows_of}
 use Rattle.office.specs.Carrying.{carry, import_handed, export_handed, after_carry, Imports, Exports, Reads}
 use Rattle.office.specs.Handover.{imported_not}
 use Rattle.office.proofs.Lines.{Going, going_end}
@@ -28,6 +30,10 @@ use Rattle.office.proofs.Lines.{Going, going_end}
 -- a refused call leaves what it was lent
 pub after-refused : {A : Type 0} (r : Refusal) (new old : List A) → after_carry (refused 0 r) new old ≡ old
 after-refused r new old = rw (ne_eqb (number_of r) 0 (λ z. omega (arith, refusal-numbered r)))
+
+-- the refusal that stands for a value that is not there
+pub refused-none : {A : Type 0} (value : Option A) (refusal r : Refusal) → Err r ≡ ok_or value refusal → value ≡ None → r ≡ refusal
+refused-none value refusal r e none = let f = rw none at e in cc
 
 module _ (needed room : ℕ) where
   pub carry-short : room < needed → carry needed room ≡ refused 0 (OutputTooShort needed)
@@ -38,34 +44,33 @@ module _ (needed room : ℕ) where
 
 -- ---- import
 module _ (s : List ℕ) (room : ℕ) where
-  pub import-not : (r : Refusal) → read_text s ≡ Not r → import_handed s room ≡ refused 0 r
+  pub import-not : (r : Refusal) → read_text s ≡ Err r → import_handed s room ≡ refused 0 r
   unfolding import_handed
   import-not r e = rw e
 
-  pub import-rows : (rows : List Task) → read_text s ≡ Rows rows → import_handed s room ≡ carry (length rows) room
+  pub import-rows : (rows : List Task) → read_text s ≡ Ok rows → import_handed s room ≡ carry (length rows) room
   unfolding import_handed
   import-rows rows e = rw e
 
-  reads-refused : (r : Refusal) → import_handed s room ≡ refused 0 r → (i : Imported) → i ≡ imported_not r → Reads s room i
-  reads-refused r e i k =
-      rw k
-      (record {
+  reads-refused : (r : Refusal) → import_handed s room ≡ refused 0 r → Reads s room (imported_not r)
+  reads-refused r e =
+      record {
         answer = sym e;
         table = ap table_of (sym (ap (λ (h : Handed ℕ). after_carry h (rows_of (read_text s)) []) e ∙ after-refused r (rows_of (read_text s)) []));
-      })
+      }
 
-  pub reads-not : (r : Refusal) → read_text s ≡ Not r → (i : Imported) → i ≡ imported_not r → Reads s room i
-  reads-not r e i k = reads-refused r (import-not r e) i k
+  pub reads-not : (r : Refusal) → read_text s ≡ Err r → Reads s room (imported_not r)
+  reads-not r e = reads-refused r (import-not r e)
 
   -- where the text has come to its end
   module _ (array : List Task) (at n : ℕ) (g : Going s array at n) (h : length s ≤ at) where
     handed : import_handed s room ≡ carry n room
     handed = import-rows g.rows (going_end s array at n g h) ∙ ap (λ (k : ℕ). carry k room) g.count
 
-    pub reads_short : room < n → (i : Imported) → i ≡ imported_not (OutputTooShort n) → Reads s room i
-    reads_short q i k = reads-refused (OutputTooShort n) (handed ∙ carry-short n room q) i k
+    pub reads_short : room < n → Reads s room (imported_not (OutputTooShort n))
+    reads_short q = reads-refused (OutputTooShort n) (handed ∙ carry-short n room q)
 
-    pub reads-done : n ≤ room → Reads s room (record { answer = Count n; table = record { rows = array; n = n } })
+    pub reads-done : n ≤ room → Reads s room (record { answer = Ok n; table = record { rows = array; n = n } })
     reads-done q =
         let e = handed ∙ carry-done n room q in
         let r : rows_of (read_text s) ≡ g.rows = ap rows_of (going_end s array at n g h) in
@@ -87,20 +92,28 @@ few-of : (rows : List Task) (n room : ℕ) → n ≤ most_tasks → (needed : �
 unfolding export_handed
 few-of rows n room h needed e = simp (le-ltb most_tasks n h, ← e)
 
+-- the text of the first n rows, as that of their list
+pub text-first : (rows first : List Task) (n : ℕ) → first ≡ slice_range rows 0 n → n ≤ length rows → text_of first ≡ text_to rows n
+text-first rows first n e h =
+    let f = e ∙ between_from_start rows n in
+    let l = ap length f ∙ length-take-le n rows h in
+    ap text_of f ∙ (ap (λ (k : ℕ). text_to (take n rows) k) (length-take-le n rows h)
+    ∙ join-cong (row_line (take n rows)) (row_line rows) n (λ i k. ap line_of (get_or-take n rows i no_task k)))
+
 module _ (rows : List Task) (n : ℕ) (old : List ℕ) where
-  refused-keeps : (r : Refusal) → export_handed rows n (length old) ≡ refused 0 r → Exports rows n old (Refused r) old
+  refused-keeps : (r : Refusal) → export_handed rows n (length old) ≡ refused 0 r → Exports rows n old (Err r) old
   refused-keeps r e =
       record { answer = sym e; output = sym (ap (λ (h : Handed ℕ). after_carry h (text_to rows n) old) e ∙ after-refused r (text_to rows n) old) }
 
-  pub exports-many : most_tasks < n → Exports rows n old (Refused (TooManyTasks n)) old
+  pub exports-many : most_tasks < n → Exports rows n old (Err (TooManyTasks n)) old
   exports-many h = refused-keeps (TooManyTasks n) (many-of rows n (length old) h)
 
   module _ (h : n ≤ most_tasks) (needed : ℕ) (e : needed ≡ length (text_to rows n)) where
-    pub exports-short : length old < needed → Exports rows n old (Refused (OutputTooShort needed)) old
+    pub exports-short : length old < needed → Exports rows n old (Err (OutputTooShort needed)) old
     exports-short q = refused-keeps (OutputTooShort needed) (few-of rows n (length old) h needed e ∙ carry-short needed (length old) q)
 
   module _ (h : n ≤ most_tasks) (q : length (text_to rows n) ≤ length old) where
-    pub exports-done : (written : ℕ) (new : List ℕ) → Put old 0 (length (text_to rows n)) (text_to rows n) written new → Exports rows n old (Count written) new
+    pub exports-done : (written : ℕ) (new : List ℕ) → Put old 0 (length (text_to rows n)) (text_to rows n) written new → Exports rows n old (Ok written) new
     exports-done written new p =
         let e : written ≡ length (text_to rows n) = omega (arith, p.next-is) in
         let k : export_handed rows n (length old) ≡ accepted written =

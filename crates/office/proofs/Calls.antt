@@ -1,6 +1,6 @@
 -- The round trips as a caller of export and import sees them: from what the calls hand back and the outputs that they leave.
 -- Assumes nothing.
-use Rattle.ground.proofs.Kit.{ℕ, ◌≤◌, List, ◌++◌, ◌≡◌, refl, sym, ◌∙◌, ap, arith, ltb, length, take, drop, le-ltb, ltb-false}
+use Rattle.ground.proofs.Kit.{ℕ, ◌≤◌, List, ◌++◌, ◌≡◌, refl, sym, ◌∙◌, ap, arith, ltb, length, take, drop, le-ltb, ltb-false, Ok, Err}
 use lib.Seq.{take_at}
 use Rattle.ground.proofs.Cases.{by_bool}
 use Rattle.kinds.specs.declared.Task.{Task}
@@ -8,9 +8,8 @@ use Rattle.kinds.specs.Limits.{most_tasks}
 use Rattle.kinds.specs.Answer.{Handed, accepted}
 use Rattle.kinds.specs.declared.Refusal.TheVariants.{TooManyTasks, OutputTooShort}
 use Rattle.kinds.proofs.Answers.{not-refused}
-use Rattle.kinds.specs.declared.Counted.TheVariants.{Count}
 use Rattle.office.specs.Text.{text_of, AllFit}
-use Rattle.office.specs.Reading.{Reading, Rows, Not, read_text, rows_of}
+use Rattle.office.specs.Reading.{Reading, read_text, rows_of}
 use Rattle.office.specs.Carrying.{carry, carry_rows, import_handed, export_handed, after_carry, Imports, Exports}
 use Rattle.office.proofs.RoundTrip.{import-of-export, export-of-import}
 
@@ -33,8 +32,8 @@ exported rows room k e =
     (λ b. record { few = ltb-false most_tasks (length rows) b; size = (carried (length (text_of rows)) room k (rw b at e)).0 })
 
 -- import after export gives the table back: the bytes that an accepted export wrote read as the rows
-pub import-after-export : (rows : List Task) (old new : List ℕ) (k : ℕ) → AllFit rows → Exports rows (length rows) old (Count k) new
-    → read_text (take k new) ≡ Rows rows
+pub import-after-export : (rows : List Task) (old new : List ℕ) (k : ℕ) → AllFit rows → Exports rows (length rows) old (Ok k) new
+    → read_text (take k new) ≡ Ok rows
 import-after-export rows old new k m x =
     let w = exported rows (length old) k (sym x.answer) in
     let n : new ≡ text_of rows ++ drop k old = x.output ∙ ap (λ (h : Handed ℕ). after_carry h (text_of rows) old) (sym x.answer) in
@@ -43,12 +42,12 @@ import-after-export rows old new k m x =
 
 -- an accepted import: the text reads as rows, and their count
 pub record Imported (reading : Reading) (n : ℕ) : Type 0 where
-  pub is : reading ≡ Rows (rows_of reading)
+  pub is : reading ≡ Ok (rows_of reading)
   pub count : n ≡ length (rows_of reading)
 
 imported : (reading : Reading) (room n : ℕ) → carry_rows reading room ≡ accepted n → Imported reading n
-imported (Rows rows) room n e = record { is = refl; count = (carried (length rows) room n e).0 }
-imported (Not refusal) room n e = not-refused n 0 refusal (sym e)
+imported (Ok rows) room n e = record { is = refl; count = (carried (length rows) room n e).0 }
+imported (Err refusal) room n e = not-refused n 0 refusal (sym e)
 
 imported-of : (text : List ℕ) (room n : ℕ) → import_handed text room ≡ accepted n → Imported (read_text text) n
 unfolding import_handed
@@ -64,7 +63,7 @@ pub record TextAgain (text : List ℕ) (rows : List Task) : Type 0 where
   pub accepts : export_handed rows (length rows) (length text) ≡ accepted (length text)
   pub same : text_of rows ≡ text
 
-pub export-after-import : (text : List ℕ) (old new : List Task) (n : ℕ) → Imports text old (Count n) new → TextAgain text (take n new)
+pub export-after-import : (text : List ℕ) (old new : List Task) (n : ℕ) → Imports text old (Ok n) new → TextAgain text (take n new)
 export-after-import text old new n x =
     let l = imported-of text (length old) n (sym x.answer) in
     let rows = rows_of (read_text text) in

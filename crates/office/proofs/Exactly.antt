@@ -1,6 +1,6 @@
 -- "Given exactly when", of import and export: `import-exactly`, `export-exactly`; the numbers are `import-numbers` and `export-numbers`.
 -- Assumes nothing.
-use Rattle.ground.proofs.Kit.{ℕ, zero, suc, ◌+◌, ◌-◌, ◌≤◌, ◌<◌, Bool, true, false, List, [], ◌∷◌, ◌++◌, ◌≡◌, refl, ◌∙◌, ap, arith, ltb, length, length-append}
+use Rattle.ground.proofs.Kit.{ℕ, zero, suc, ◌+◌, ◌-◌, ◌≤◌, ◌<◌, Bool, true, false, List, [], ◌∷◌, ◌++◌, ◌≡◌, refl, ◌∙◌, ap, arith, ltb, length, length-append, Some, None, Ok, Err}
 use Rattle.ground.proofs.Kit.{lt-ltb, le-ltb}
 use Rattle.ground.specs.Choice.{pick}
 use Rattle.ground.specs.First.{first_below}
@@ -11,10 +11,8 @@ use Rattle.kinds.specs.declared.Refusal.TheVariants.{TooManyTasks, OutputTooShor
 use Rattle.kinds.specs.Limits.{most_tasks}
 use Rattle.kinds.specs.Chain.{◌when◌, first_by, handed_by, Exactly, numbers_given}
 use Rattle.kinds.proofs.Chains.{exactly}
-use Rattle.office.specs.declared.Line.{Line}
-use Rattle.office.specs.declared.Line.TheVariants as line
 use Rattle.office.specs.Text.{text_to}
-use Rattle.office.specs.Reading.{line_at, Reading, Rows, Not, read_from, read_text, rows_of}
+use Rattle.office.specs.Reading.{Line, line_at, Reading, read_from, read_text, rows_of}
 use Rattle.office.specs.Carrying.{carry_rows, import_handed, export_handed}
 use Rattle.office.specs.Chain.{line_start, is_bad_line, first_bad_line, import_chain, export_chain}
 use Rattle.office.proofs.Lines.{from_end, from-many, from-bad, from_more}
@@ -22,8 +20,8 @@ use Rattle.office.proofs.Lines.{from_end, from-many, from-bad, from_more}
 -- what the first bad line and the bytes after line 31 say of a reading
 abbrev judged_as : List ℕ → Reading → Reading
 judged_as s r =
-    pick (ltb (first_bad_line s) most_tasks) (Not (BadLine (first_bad_line s)))
-    (pick (ltb (line_start s most_tasks) (length s)) (Not (TooManyTasks most_tasks)) (Rows (rows_of r)))
+    pick (ltb (first_bad_line s) most_tasks) (Err (BadLine (first_bad_line s)))
+    (pick (ltb (line_start s most_tasks) (length s)) (Err (TooManyTasks most_tasks)) (Ok (rows_of r)))
 
 module _ (s : List ℕ) where
   -- once a text has ended there is no further line
@@ -46,14 +44,14 @@ module _ (s : List ℕ) where
 
   -- the line after a good one
   module _ (i : ℕ) (there : line_start s i < length s) where
-    start-more : (t : Task) (next : ℕ) → line_at s (line_start s i) ≡ line.Row t next → line_start s (suc i) ≡ next
+    start-more : (t : Task) (next : ℕ) → line_at s (line_start s i) ≡ Some (t, next) → line_start s (suc i) ≡ next
     unfolding line_start
     start-more t next e = rw (lt-ltb (line_start s i) (length s) there, e)
 
-    good-not-bad : (t : Task) (next : ℕ) → line_at s (line_start s i) ≡ line.Row t next → is_bad_line s i ≡ false
+    good-not-bad : (t : Task) (next : ℕ) → line_at s (line_start s i) ≡ Some (t, next) → is_bad_line s i ≡ false
     good-not-bad t next e = rw (lt-ltb (line_start s i) (length s) there, e)
 
-    bad-is-bad : line_at s (line_start s i) ≡ line.Bad → is_bad_line s i ≡ true
+    bad-is-bad : line_at s (line_start s i) ≡ None → is_bad_line s i ≡ true
     bad-is-bad e = rw (lt-ltb (line_start s i) (length s) there, e)
 
   none-bad : ((j : ℕ) → j < most_tasks → is_bad_line s j ≡ false) → ltb (first_bad_line s) most_tasks ≡ false
@@ -93,11 +91,11 @@ module _ (s : List ℕ) where
           → ((t : Task) → suc i + more ≡ most_tasks → length (rows ++ (t ∷ [])) ≡ suc i → ((j : ℕ) → j < suc i → is_bad_line s j ≡ false)
           → read_from more (rows ++ (t ∷ [])) s (line_start s (suc i)) ≡ judged_as s (read_from more (rows ++ (t ∷ [])) s (line_start s (suc i))))
           → read_from (suc more) rows s (line_start s i) ≡ judged_as s (read_from (suc more) rows s (line_start s i))
-      by line.Bad is l rest =
+      by None is l rest =
           let first = bad-here i (omega arith) h (bad-is-bad i l is) in
           let bad = from-bad rows s (line_start s i) more l is in
-          rw (bad, ← first, lt-ltb i most_tasks (omega arith)) (ap (λ (k : ℕ). Not (BadLine k)) long)
-      by (line.Row t next) is l rest =
+          rw (bad, ← first, lt-ltb i most_tasks (omega arith)) (ap (λ (k : ℕ). Err (BadLine k)) long)
+      by (Some (t, next)) is l rest =
           let good = good-not-bad i l t next is in
           let more_of = from_more rows s (line_start s i) more l t next is in
           let starts = start-more i l t next is in
@@ -112,7 +110,7 @@ module _ (s : List ℕ) where
 
 -- what is carried over, by what is judged
 carried : (r : Reading) (bad more : Bool) (first room : ℕ)
-    → r ≡ pick bad (Not (BadLine first)) (pick more (Not (TooManyTasks most_tasks)) (Rows (rows_of r)))
+    → r ≡ pick bad (Err (BadLine first)) (pick more (Err (TooManyTasks most_tasks)) (Ok (rows_of r)))
     → carry_rows r room
     ≡ handed_by 0 (length (rows_of r))
     (BadLine first when bad ∷ TooManyTasks most_tasks when more ∷ OutputTooShort (length (rows_of r)) when ltb room (length (rows_of r)) ∷ [])

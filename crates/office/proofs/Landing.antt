@@ -1,7 +1,7 @@
 -- The rows that an import hands over: all that it read, or none where it is refused. They fit the room, and an output after the call is
 -- these rows and then what stood there.
 -- Assumes nothing.
-use Rattle.ground.proofs.Kit.{ℕ, ◌≤◌, List, [], ◌++◌, append-nil, ◌≡◌, refl, ◌∙◌, ap, arith, length, drop}
+use Rattle.ground.proofs.Kit.{ℕ, ◌≤◌, List, [], ◌++◌, append-nil, ◌≡◌, refl, ◌∙◌, ap, arith, length, drop, Ok, Err}
 use lib.ListN.{drop_of_length-le}
 use Rattle.ground.proofs.Cases.{by_le}
 use Rattle.kinds.specs.declared.Task.{Task}
@@ -9,7 +9,7 @@ use Rattle.kinds.specs.declared.Refusal.{Refusal}
 use Rattle.kinds.specs.declared.Refusal.TheVariants.{OutputTooShort}
 use Rattle.kinds.specs.Limits.{most_tasks}
 use Rattle.kinds.specs.Answer.{Handed, accepted, refused}
-use Rattle.office.specs.Reading.{Reading, Rows, Not, read_text, rows_of}
+use Rattle.office.specs.Reading.{Reading, read_text, rows_of}
 use Rattle.office.specs.Carrying.{import_handed, after_carry}
 use Rattle.office.proofs.Answers.{after-refused, carry-short, carry-done, import-not, import-rows}
 use Rattle.office.proofs.RoundTrip.{export-of-import}
@@ -40,8 +40,8 @@ pub lands : (text : List ℕ) (room : ℕ) → Lands (rows_of (read_text text)) 
 lands text room = by (read_text text) refl
   where
     by : (reading : Reading) → read_text text ≡ reading → Lands (rows_of (read_text text)) room (import_handed text room) (landing text room)
-    by (Not r) e = lands-none (rows_of (read_text text)) room (import_handed text room) r (import-not text room r e)
-    by (Rows rows) e =
+    by (Err r) e = lands-none (rows_of (read_text text)) room (import_handed text room) r (import-not text room r e)
+    by (Ok rows) e =
         let i = import-rows text room rows e in
         let same : rows_of (read_text text) ≡ rows = ap rows_of e in
         by_le (length rows) room

@@ -1,14 +1,12 @@
 -- A line that was read is a task's line (`line-got`), and a task's line is read as that task (`line-back`).
 -- Assumes nothing.
-use Rattle.ground.proofs.Kit.{ℕ, ◌+◌, ◌≤◌, ◌<◌, List, [], ◌∷◌, ◌++◌, append_assoc, ◌≡◌, refl, sym, ◌∙◌, ap, arith, length, drop, length-append, length-drop}
+use Rattle.ground.proofs.Kit.{ℕ, ◌+◌, ◌≤◌, ◌<◌, List, [], ◌∷◌, ◌++◌, append_assoc, ◌≡◌, refl, sym, ◌∙◌, ap, arith, length, drop, length-append, length-drop, Option, Some, None}
 use Rattle.kinds.specs.declared.Task.{Task}
 use Rattle.kinds.specs.Task.{task}
-use Rattle.numeral.specs.declared.Numeral.{Numeral}
-use Rattle.numeral.specs.declared.Numeral.TheVariants as numeral
+use Rattle.std.proofs.lemmas.Option.{some_pair_parts}
 use Rattle.numeral.specs.Decimal.{decimal}
 use Rattle.numeral.specs.Scan.{numeral_at}
 use Rattle.numeral.proofs.Numerals.{Got, numeral-got, numeral-back, rest_back}
-use Rattle.office.specs.declared.Line.TheVariants as line
 use Rattle.office.specs.Text.{comma, newline, number_then, line_of, Fits}
 use Rattle.office.specs.Reading.{line_at}
 use Rattle.office.proofs.Lines.{bad-c, bad-tmin, bad-tmax, bad-e, good-line}
@@ -43,37 +41,36 @@ line-joined c tmin tmax e s at at-tmin at-tmax at-e next g₁ g₂ g₃ g₄ =
       inside = g₄.inside;
     }
 
-module _ (s : List ℕ) (at : ℕ) (t : Task) (next : ℕ) (k : line_at s at ≡ line.Row t next) where
-  never : line_at s at ≡ line.Bad → LineGot s at t next
+module _ (s : List ℕ) (at : ℕ) (t : Task) (next : ℕ) (k : line_at s at ≡ Some (t, next)) where
+  never : line_at s at ≡ None → LineGot s at t next
   never b = absurd (let z : ◌≡◌ {A = ℕ} 0 1 = cc in omega arith)
 
-  by-e : (c at-tmin tmin at-tmax tmax at-e : ℕ) → numeral_at s at comma ≡ numeral.Is c at-tmin → numeral_at s at-tmin comma ≡ numeral.Is tmin at-tmax
-      → numeral_at s at-tmax comma ≡ numeral.Is tmax at-e → (f : Numeral) → numeral_at s at-e newline ≡ f → LineGot s at t next
-  by-e c at-tmin tmin at-tmax tmax at-e e₁ e₂ e₃ numeral.Bad f = never (bad-e s at c at-tmin e₁ tmin at-tmax e₂ tmax at-e e₃ f)
-  by-e c at-tmin tmin at-tmax tmax at-e e₁ e₂ e₃ (numeral.Is e n) f =
+  by-e : (c at-tmin tmin at-tmax tmax at-e : ℕ) → numeral_at s at comma ≡ Some (c, at-tmin) → numeral_at s at-tmin comma ≡ Some (tmin, at-tmax)
+      → numeral_at s at-tmax comma ≡ Some (tmax, at-e) → (f : Option (ℕ × ℕ)) → numeral_at s at-e newline ≡ f → LineGot s at t next
+  by-e c at-tmin tmin at-tmax tmax at-e e₁ e₂ e₃ None f = never (bad-e s at c at-tmin e₁ tmin at-tmax e₂ tmax at-e e₃ f)
+  by-e c at-tmin tmin at-tmax tmax at-e e₁ e₂ e₃ (Some (e, n)) f =
       let w = good-line s at c at-tmin e₁ tmin at-tmax e₂ tmax at-e e₃ e n f in
-      let x : task c tmin tmax e ≡ t = cc in
-      let y : n ≡ next = cc in
-      rw (← x, ← y)
+      let same = some_pair_parts (task c tmin tmax e) t n next (sym w ∙ k) in
+      rw (← same.0, ← same.1)
       (line-joined c tmin tmax e s at at-tmin at-tmax at-e n
       (numeral-got s at comma (omega arith) c at-tmin e₁)
       (numeral-got s at-tmin comma (omega arith) tmin at-tmax e₂)
       (numeral-got s at-tmax comma (omega arith) tmax at-e e₃)
       (numeral-got s at-e newline (omega arith) e n f))
 
-  by-tmax : (c at-tmin tmin at-tmax : ℕ) → numeral_at s at comma ≡ numeral.Is c at-tmin → numeral_at s at-tmin comma ≡ numeral.Is tmin at-tmax
-      → (f : Numeral) → numeral_at s at-tmax comma ≡ f → LineGot s at t next
-  by-tmax c at-tmin tmin at-tmax e₁ e₂ numeral.Bad f = never (bad-tmax s at c at-tmin e₁ tmin at-tmax e₂ f)
-  by-tmax c at-tmin tmin at-tmax e₁ e₂ (numeral.Is tmax at-e) f =
+  by-tmax : (c at-tmin tmin at-tmax : ℕ) → numeral_at s at comma ≡ Some (c, at-tmin) → numeral_at s at-tmin comma ≡ Some (tmin, at-tmax)
+      → (f : Option (ℕ × ℕ)) → numeral_at s at-tmax comma ≡ f → LineGot s at t next
+  by-tmax c at-tmin tmin at-tmax e₁ e₂ None f = never (bad-tmax s at c at-tmin e₁ tmin at-tmax e₂ f)
+  by-tmax c at-tmin tmin at-tmax e₁ e₂ (Some (tmax, at-e)) f =
       by-e c at-tmin tmin at-tmax tmax at-e e₁ e₂ f (numeral_at s at-e newline) refl
 
-  by-tmin : (c at-tmin : ℕ) → numeral_at s at comma ≡ numeral.Is c at-tmin → (f : Numeral) → numeral_at s at-tmin comma ≡ f → LineGot s at t next
-  by-tmin c at-tmin e₁ numeral.Bad f = never (bad-tmin s at c at-tmin e₁ f)
-  by-tmin c at-tmin e₁ (numeral.Is tmin at-tmax) f = by-tmax c at-tmin tmin at-tmax e₁ f (numeral_at s at-tmax comma) refl
+  by-tmin : (c at-tmin : ℕ) → numeral_at s at comma ≡ Some (c, at-tmin) → (f : Option (ℕ × ℕ)) → numeral_at s at-tmin comma ≡ f → LineGot s at t next
+  by-tmin c at-tmin e₁ None f = never (bad-tmin s at c at-tmin e₁ f)
+  by-tmin c at-tmin e₁ (Some (tmin, at-tmax)) f = by-tmax c at-tmin tmin at-tmax e₁ f (numeral_at s at-tmax comma) refl
 
-  by-c : (f : Numeral) → numeral_at s at comma ≡ f → LineGot s at t next
-  by-c numeral.Bad f = never (bad-c s at f)
-  by-c (numeral.Is c at-tmin) f = by-tmin c at-tmin f (numeral_at s at-tmin comma) refl
+  by-c : (f : Option (ℕ × ℕ)) → numeral_at s at comma ≡ f → LineGot s at t next
+  by-c None f = never (bad-c s at f)
+  by-c (Some (c, at-tmin)) f = by-tmin c at-tmin f (numeral_at s at-tmin comma) refl
 
   pub line-got : LineGot s at t next
   line-got = by-c (numeral_at s at comma) refl
@@ -118,14 +115,14 @@ module _ (s : List ℕ) (at : ℕ) (t : Task) (rest : List ℕ) (m : Fits t) (k 
   ends : at_next ≡ at + length (line_of t)
   ends = omega (arith, line-long t)
 
-  pub line-back : line_at s at ≡ line.Row t (at + length (line_of t))
+  pub line-back : line_at s at ≡ Some (t, at + length (line_of t))
   line-back =
       good-line s at
       t.c at-tmin (numeral-back s at comma t.c past-c refl m.c front)
       t.tmin at-tmax (numeral-back s at-tmin comma t.tmin past-tmin refl m.tmin after-c)
       t.tmax at-e (numeral-back s at-tmax comma t.tmax past-tmax refl m.tmax after-tmin)
       t.e at_next (numeral-back s at-e newline t.e rest refl m.e after-tmax)
-      ∙ ap (line.Row t) ends
+      ∙ ap (λ (place : ℕ). Some (t, place)) ends
 
   pub line-rest : drop (at + length (line_of t)) s ≡ rest
   line-rest = ap (λ (x : ℕ). drop x s) (sym ends) ∙ rest_back s at-e newline t.e rest refl m.e after-tmax
@@ -134,5 +131,5 @@ module _ (s : List ℕ) (at : ℕ) (t : Task) (rest : List ℕ) (m : Fits t) (k 
   line-starts = omega (arith, length-drop at s, ap length k, length-append (line_of t) rest, line-long t)
 
 -- a bad line is no task's
-pub no_line : (s : List ℕ) (at : ℕ) → line_at s at ≡ line.Bad → (t : Task) → Fits t → (rest : List ℕ) → drop at s ≡ line_of t ++ rest → ⊥
+pub no_line : (s : List ℕ) (at : ℕ) → line_at s at ≡ None → (t : Task) → Fits t → (rest : List ℕ) → drop at s ≡ line_of t ++ rest → ⊥
 no_line s at b t m rest k = let w = line-back s at t rest m k in let z : ◌≡◌ {A = ℕ} 0 1 = cc in omega arith

@@ -1,10 +1,10 @@
 -- No text that an import takes is longer than the longest: `taken-most`.
 -- Assumes nothing.
-use Rattle.ground.proofs.Kit.{ℕ, ◌*◌, ◌≤◌, List, [], ◌∷◌, ◌≡◌, ap, arith, length, length-append}
+use Rattle.ground.proofs.Kit.{ℕ, ◌*◌, ◌≤◌, List, [], ◌∷◌, ◌≡◌, ap, arith, length, length-append, Ok}
 use Rattle.kinds.specs.declared.Task.{Task}
 use Rattle.numeral.proofs.Digits.{few-digits}
 use Rattle.office.specs.Text.{line_of, text_of, Fits, AllFit, longest_line, longest_text}
-use Rattle.office.specs.Reading.{Rows, read_text}
+use Rattle.office.specs.Reading.{read_text}
 use Rattle.office.proofs.RoundTrip.{export-of-import}
 use Rattle.office.proofs.Texts.{text-empty, text-cons}
 use Rattle.office.proofs.Widths.{line-long}
@@ -23,7 +23,7 @@ text-most [] f = omega (arith, ap length text-empty)
 text-most (t ∷ rows) f =
     omega (arith, ap length (text-cons t rows), length-append (line_of t) (text_of rows), line-most t f.0, text-most rows f.1)
 
-pub taken-most : (s : List ℕ) (rows : List Task) → read_text s ≡ Rows rows → length s ≤ longest_text
+pub taken-most : (s : List ℕ) (rows : List Task) → read_text s ≡ Ok rows → length s ≤ longest_text
 taken-most s rows e =
     let back = export-of-import s rows e in
     omega (arith, ap length back.text, text-most rows back.fit, back.few)

@@ -1,7 +1,7 @@
 -- Both round trips, over the definitions: the text of rows reads as them (`import-of-export`), and a text that reads as rows is their text
 -- (`export-of-import`). A refused text has a first line that is bad, or bytes after line 31 (`import-refused`).
 -- Assumes nothing.
-use Rattle.ground.proofs.Kit.{ℕ, zero, suc, ◌+◌, ◌≤◌, ◌<◌, List, [], ◌∷◌, ◌++◌, append-nil, append_assoc, ◌≡◌, refl, sym, ◌∙◌, ap, ◌⊎◌, inl, inr, ⊎_elim}
+use Rattle.ground.proofs.Kit.{ℕ, zero, suc, ◌+◌, ◌≤◌, ◌<◌, List, [], ◌∷◌, ◌++◌, append-nil, append_assoc, ◌≡◌, refl, sym, ◌∙◌, ap, ◌⊎◌, inl, inr, ⊎_elim, Some, None, Ok, Err}
 use Rattle.ground.proofs.Kit.{arith, length, drop, length-append, length-drop}
 use lib.ListN.{drop_of_length-le}
 use Rattle.ground.proofs.Cases.{by_le}
@@ -9,10 +9,8 @@ use Rattle.kinds.specs.declared.Task.{Task}
 use Rattle.kinds.specs.declared.Refusal.{Refusal}
 use Rattle.kinds.specs.declared.Refusal.TheVariants.{TooManyTasks, BadLine}
 use Rattle.kinds.specs.Limits.{most_tasks}
-use Rattle.office.specs.declared.Line.{Line}
-use Rattle.office.specs.declared.Line.TheVariants as line
 use Rattle.office.specs.Text.{line_of, text_of, AllFit}
-use Rattle.office.specs.Reading.{line_at, Rows, Not, read_from, read_text}
+use Rattle.office.specs.Reading.{Line, line_at, read_from, read_text}
 use Rattle.office.proofs.Lines.{from_end, from-many, from-bad, from_more}
 use Rattle.office.proofs.LinesBack.{line-got, line-back, line-rest, line-starts}
 use Rattle.office.proofs.Texts.{text-empty, text-cons}
@@ -26,18 +24,18 @@ pub record Rest (more : ℕ) (rows : List Task) (s : List ℕ) (at : ℕ) (all :
   pub fit : AllFit these
 
 module _ (s : List ℕ) (all : List Task) where
-  rest-none : (more : ℕ) (rows : List Task) (at : ℕ) → length s ≤ at → read_from more rows s at ≡ Rows all → Rest more rows s at all
+  rest-none : (more : ℕ) (rows : List Task) (at : ℕ) → length s ≤ at → read_from more rows s at ≡ Ok all → Rest more rows s at all
   rest-none more rows at h e =
       let w = from_end rows s at more h in
       let x : rows ≡ all = cc in
       record { these = []; all-is = sym x ∙ sym (append-nil rows); text = drop_of_length-le s h ∙ sym text-empty; few = omega arith; fit = tt }
 
   rest-line : (more : ℕ) (rows : List Task) (at : ℕ) → at < length s
-      → ((rows' : List Task) (at' : ℕ) → read_from more rows' s at' ≡ Rows all → Rest more rows' s at' all)
-      → read_from (suc more) rows s at ≡ Rows all → (l : Line) → line_at s at ≡ l → Rest (suc more) rows s at all
-  rest-line more rows at h ih e line.Bad b =
+      → ((rows' : List Task) (at' : ℕ) → read_from more rows' s at' ≡ Ok all → Rest more rows' s at' all)
+      → read_from (suc more) rows s at ≡ Ok all → (l : Line) → line_at s at ≡ l → Rest (suc more) rows s at all
+  rest-line more rows at h ih e None b =
       let w = from-bad rows s at more h b in absurd (let z : ◌≡◌ {A = ℕ} 0 1 = cc in omega arith)
-  rest-line more rows at h ih e (line.Row t next) b =
+  rest-line more rows at h ih e (Some (t, next)) b =
       let w = from_more rows s at more h t next b in
       let i = ih (rows ++ (t ∷ [])) next (sym w ∙ e) in
       let g = line-got s at t next b in
@@ -49,33 +47,33 @@ module _ (s : List ℕ) (all : List Task) where
         fit = (g.fits, i.fit);
       }
 
-  pub from-got : (more : ℕ) (rows : List Task) (at : ℕ) → read_from more rows s at ≡ Rows all → Rest more rows s at all
+  pub from-got : (more : ℕ) (rows : List Task) (at : ℕ) → read_from more rows s at ≡ Ok all → Rest more rows s at all
   from-got zero rows at e =
       by_le (length s) at
       (λ h. rest-none 0 rows at h e)
       (λ h. let w = from-many rows s at h in absurd (let z : ◌≡◌ {A = ℕ} 0 1 = cc in omega arith))
   from-got (suc more) rows at e =
-      let ih : (rows' : List Task) (at' : ℕ) → read_from more rows' s at' ≡ Rows all → Rest more rows' s at' all = λ rows' at'. from-got more rows' at' in
+      let ih : (rows' : List Task) (at' : ℕ) → read_from more rows' s at' ≡ Ok all → Rest more rows' s at' all = λ rows' at'. from-got more rows' at' in
       by_le (length s) at
       (λ h. rest-none (suc more) rows at h e)
       (λ h. rest-line more rows at h ih e (line_at s at) refl)
 
 -- the text of rows reads as them
 pub from_back : (s : List ℕ) (these : List Task) (more : ℕ) (rows : List Task) (at : ℕ) → length these ≤ more → AllFit these → drop at s ≡ text_of these
-    → read_from more rows s at ≡ Rows (rows ++ these)
+    → read_from more rows s at ≡ Ok (rows ++ these)
 from_back s [] more rows at h m e =
     let l = length-drop at s in
     let z = ap length (e ∙ text-empty) in
-    from_end rows s at more (omega arith) ∙ ap Rows (sym (append-nil rows))
+    from_end rows s at more (omega arith) ∙ ap Ok (sym (append-nil rows))
 from_back s (t ∷ these) zero rows at h m e = absurd (omega arith)
 from_back s (t ∷ these) (suc more) rows at h m e =
     let d = e ∙ text-cons t these in
     from_more rows s at more (line-starts s at t (text_of these) m.0 d) t (at + length (line_of t)) (line-back s at t (text_of these) m.0 d)
     ∙ (from_back s these more (rows ++ (t ∷ [])) (at + length (line_of t)) (omega arith) m.1 (line-rest s at t (text_of these) m.0 d)
-    ∙ ap Rows (append_assoc rows (t ∷ []) these))
+    ∙ ap Ok (append_assoc rows (t ∷ []) these))
 
 -- "Import after export gives the table back"
-pub import-of-export : (rows : List Task) → length rows ≤ most_tasks → AllFit rows → read_text (text_of rows) ≡ Rows rows
+pub import-of-export : (rows : List Task) → length rows ≤ most_tasks → AllFit rows → read_text (text_of rows) ≡ Ok rows
 unfolding read_text
 import-of-export rows h m = from_back (text_of rows) rows most_tasks [] 0 h m refl
 
@@ -85,7 +83,7 @@ pub record TextBack (s : List ℕ) (rows : List Task) : Type 0 where
   pub few : length rows ≤ most_tasks
   pub fit : AllFit rows
 
-pub export-of-import : (s : List ℕ) (rows : List Task) → read_text s ≡ Rows rows → TextBack s rows
+pub export-of-import : (s : List ℕ) (rows : List Task) → read_text s ≡ Ok rows → TextBack s rows
 unfolding read_text
 export-of-import s rows e =
     let r = from-got s rows most_tasks [] 0 e in
@@ -109,27 +107,27 @@ pub record Stopped (more : ℕ) (rows : List Task) (s : List ℕ) (at : ℕ) (re
   pub left : stop < length s
   pub fit : AllFit before
   pub why : ((refusal ≡ TooManyTasks most_tasks) × (length before ≡ more))
-      ⊎ ((refusal ≡ BadLine (length rows + length before)) × (length before < more) × (line_at s stop ≡ line.Bad))
+      ⊎ ((refusal ≡ BadLine (length rows + length before)) × (length before < more) × (line_at s stop ≡ None))
 
 module _ (s : List ℕ) (refusal : Refusal) where
   stop-here : (more : ℕ) (rows : List Task) (at : ℕ) → at < length s
-      → ((refusal ≡ TooManyTasks most_tasks) × (0 ≡ more)) ⊎ ((refusal ≡ BadLine (length rows + 0)) × (0 < more) × (line_at s at ≡ line.Bad))
+      → ((refusal ≡ TooManyTasks most_tasks) × (0 ≡ more)) ⊎ ((refusal ≡ BadLine (length rows + 0)) × (0 < more) × (line_at s at ≡ None))
       → Stopped more rows s at refusal
   stop-here more rows at h w =
       record { before = []; stop = at; text = ap (λ (x : List ℕ). x ++ drop at s) (sym text-empty); left = h; fit = tt; why = w }
 
-  ended : (more : ℕ) (rows : List Task) (at : ℕ) → length s ≤ at → read_from more rows s at ≡ Not refusal → Stopped more rows s at refusal
+  ended : (more : ℕ) (rows : List Task) (at : ℕ) → length s ≤ at → read_from more rows s at ≡ Err refusal → Stopped more rows s at refusal
   ended more rows at h e = let w = from_end rows s at more h in absurd (let z : ◌≡◌ {A = ℕ} 0 1 = cc in omega arith)
 
   stop-line : (more : ℕ) (rows : List Task) (at : ℕ) → at < length s
-      → ((rows' : List Task) (at' : ℕ) → read_from more rows' s at' ≡ Not refusal → Stopped more rows' s at' refusal)
-      → read_from (suc more) rows s at ≡ Not refusal → (l : Line) → line_at s at ≡ l → Stopped (suc more) rows s at refusal
-  stop-line more rows at h ih e line.Bad b =
+      → ((rows' : List Task) (at' : ℕ) → read_from more rows' s at' ≡ Err refusal → Stopped more rows' s at' refusal)
+      → read_from (suc more) rows s at ≡ Err refusal → (l : Line) → line_at s at ≡ l → Stopped (suc more) rows s at refusal
+  stop-line more rows at h ih e None b =
       let w = from-bad rows s at more h b in
       let x : BadLine (length rows) ≡ refusal = cc in
       let n : length rows ≡ length rows + 0 = omega arith in
       stop-here (suc more) rows at h (inr (sym x ∙ ap BadLine n, omega arith, b))
-  stop-line more rows at h ih e (line.Row t next) b =
+  stop-line more rows at h ih e (Some (t, next)) b =
       let w = from_more rows s at more h t next b in
       let i = ih (rows ++ (t ∷ [])) next (sym w ∙ e) in
       let g = line-got s at t next b in
@@ -150,7 +148,7 @@ module _ (s : List ℕ) (refusal : Refusal) where
             (λ q. inr (q.0 ∙ ap BadLine n, (let m = q.1 in omega arith), q.2)) i.why;
       }
 
-  pub from-not : (more : ℕ) (rows : List Task) (at : ℕ) → read_from more rows s at ≡ Not refusal → Stopped more rows s at refusal
+  pub from-not : (more : ℕ) (rows : List Task) (at : ℕ) → read_from more rows s at ≡ Err refusal → Stopped more rows s at refusal
   from-not zero rows at e =
       by_le (length s) at
       (λ h. ended 0 rows at h e)
@@ -159,13 +157,13 @@ module _ (s : List ℕ) (refusal : Refusal) where
       let x : TooManyTasks most_tasks ≡ refusal = cc in
       stop-here 0 rows at h (inl (sym x, refl)))
   from-not (suc more) rows at e =
-      let ih : (rows' : List Task) (at' : ℕ) → read_from more rows' s at' ≡ Not refusal → Stopped more rows' s at' refusal =
+      let ih : (rows' : List Task) (at' : ℕ) → read_from more rows' s at' ≡ Err refusal → Stopped more rows' s at' refusal =
       λ rows' at'. from-not more rows' at' in
       by_le (length s) at
       (λ h. ended (suc more) rows at h e)
       (λ h. stop-line more rows at h ih e (line_at s at) refl)
 
 -- a refused text is refused by 3 at 32 after 32 good lines, or by 16 at its first bad line, which comes after fewer
-pub import-refused : (s : List ℕ) (refusal : Refusal) → read_text s ≡ Not refusal → Stopped most_tasks [] s 0 refusal
+pub import-refused : (s : List ℕ) (refusal : Refusal) → read_text s ≡ Err refusal → Stopped most_tasks [] s 0 refusal
 unfolding read_text
 import-refused s refusal e = from-not s refusal most_tasks [] 0 e

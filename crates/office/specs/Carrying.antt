@@ -1,23 +1,22 @@
 -- What an import and an export hand back, and the lent output after each.
 -- Assumes nothing.
-use Rattle.std.specs.Prelude.{ℕ, List, [], ◌≡◌, ltb, length}
+use Rattle.std.specs.Prelude.{ℕ, List, [], ◌≡◌, Ok, Err, ltb, length}
 use Rattle.kinds.specs.declared.Task.{Task}
 use Rattle.kinds.specs.declared.Refusal.TheVariants.{TooManyTasks, OutputTooShort}
 use Rattle.kinds.specs.Limits.{most_tasks}
 use Rattle.kinds.specs.Task.{table_of}
-use Rattle.kinds.specs.Answer.{Handed, accepted, refused, check, handed_count, after}
-use Rattle.kinds.specs.declared.Counted.{Counted}
+use Rattle.kinds.specs.Answer.{Handed, accepted, refused, check, handed_count, after, Counted}
 use Rattle.office.specs.declared.Imported.{Imported}
 use Rattle.office.specs.Text.{text_to}
-use Rattle.office.specs.Reading.{Reading, Rows, Not, read_text, rows_of}
+use Rattle.office.specs.Reading.{Reading, read_text, rows_of}
 
 -- "Short outputs are refused by 5, last."
 abbrev pub carry : ℕ → ℕ → Handed ℕ
 carry needed room = check (ltb room needed) (refused 0 (OutputTooShort needed)) (accepted needed)
 
 abbrev pub carry_rows : Reading → ℕ → Handed ℕ
-carry_rows (Rows rows) room = carry (length rows) room
-carry_rows (Not refusal) room = refused 0 refusal
+carry_rows (Ok rows) room = carry (length rows) room
+carry_rows (Err refusal) room = refused 0 refusal
 
 -- an import into an output with room for so many rows
 unfoldable pub import_handed : List ℕ → ℕ → Handed ℕ

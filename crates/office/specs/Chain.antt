@@ -1,21 +1,19 @@
 -- Ask 11: the checks of an import and of an export, with the sentence of each number, in their order; where each line of a text starts.
 -- Assumes nothing.
-use Rattle.std.specs.Prelude.{ℕ, zero, suc, Bool, true, false, List, [], ◌∷◌, ltb, length}
+use Rattle.std.specs.Prelude.{ℕ, zero, suc, Bool, true, false, List, [], ◌∷◌, Some, None, ltb, length}
 use Rattle.ground.specs.Choice.{pick, both}
 use Rattle.ground.specs.First.{first_below}
 use Rattle.kinds.specs.declared.Task.{Task}
 use Rattle.kinds.specs.declared.Refusal.TheVariants.{TooManyTasks, OutputTooShort, BadLine}
 use Rattle.kinds.specs.Limits.{most_tasks}
 use Rattle.kinds.specs.Chain.{Check, ◌when◌}
-use Rattle.office.specs.declared.Line.{Line}
-use Rattle.office.specs.declared.Line.TheVariants as line
 use Rattle.office.specs.Text.{text_to}
-use Rattle.office.specs.Reading.{line_at, read_text, rows_of}
+use Rattle.office.specs.Reading.{Line, line_at, read_text, rows_of}
 
 -- the place after a line; nothing is read after a bad one
 abbrev pub after_it : Line → ℕ → ℕ
-after_it (line.Row t next) end = next
-after_it line.Bad end = end
+after_it (Some (t, next)) end = next
+after_it None end = end
 
 -- where line i of a text starts; the text's end or a place past it where there is no such line
 unfoldable pub line_start : List ℕ → ℕ → ℕ
@@ -24,8 +22,8 @@ line_start s (suc i) = pick (ltb (line_start s i) (length s)) (after_it (line_at
 
 -- a line that is bad
 abbrev pub is_bad : Line → Bool
-is_bad (line.Row t next) = false
-is_bad line.Bad = true
+is_bad (Some (t, next)) = false
+is_bad None = true
 
 -- line i is there and is bad
 abbrev pub is_bad_line : List ℕ → ℕ → Bool

@@ -7,13 +7,12 @@ ghost use Rattle.std.specs.Prelude.{◌≡◌, ◌+◌, ◌≤◌, length};
 ghost use Rattle.kinds.specs.Limits.{most_tasks};
 ghost use Rattle.field.specs.Handover.{Put};
 ghost use Rattle.numeral.specs.Handover.{Sized};
-ghost use Rattle.office.specs.Text.{Fits, number_then, line_of, text_to, longest_line, longest_text};
+ghost use Rattle.office.specs.Text.{Fits, number_then, line_of, text_of, longest_line, longest_text};
 ghost use Rattle.office.specs.Reading.{line_at};
 ghost use Rattle.office.specs.Carrying.{Reads, Exports};
-ghost use Rattle.office.specs.Handover.{imported_not};
+ghost use Rattle.office.specs.Handover.{imported};
 
-use kinds::{Counted, Refusal, Table, Task};
-use numeral::Numeral;
+use kinds::{Refusal, Table, Task};
 
 const COMMA: u8 = b',';
 
@@ -27,17 +26,10 @@ const LINE: usize = 4 * DIGITS + 3 + 1;
 // How many bytes the longest text of a table has.
 pub const LONGEST: usize = Table::MOST_TASKS * LINE;
 
-// A line's task and the place after it, or none.
-#[derive(Clone, Copy)]
-pub enum Line {
-    Row(Task, usize),
-    Bad,
-}
-
-// What an import by value answers, with the table; a refused one has the table of no tasks.
+// What an import by value answers, with the table. It is no Result: a refused import is promised to hand back the table of no tasks (`Reads`).
 #[derive(Clone, Copy)]
 pub struct Imported {
-    pub answer: Counted,
+    pub answer: Result<usize, Refusal>,
     pub table: Table,
 }
 
@@ -46,58 +38,55 @@ pub fn fits(task: Task)
     ensures { Fits task }
 {}
 
-// The line at a place.
-pub fn line_at(s: &[u8], at: usize) -> Line
+// The task of the line at a place, and the place after it.
+#[tactic(auto, unfolding(crate::specs::Reading::line_at))]
+pub fn line_at(s: &[u8], at: usize) -> Option<(Task, usize)>
     ensures { result ≡ line_at s.now at }
 {
-    let Numeral::Is(c, at_tmin) = numeral::numeral_at(s, at, COMMA) else {
-        return Line::Bad;
-    };
-    let Numeral::Is(tmin, at_tmax) = numeral::numeral_at(s, at_tmin, COMMA) else {
-        return Line::Bad;
-    };
-    let Numeral::Is(tmax, at_e) = numeral::numeral_at(s, at_tmax, COMMA) else {
-        return Line::Bad;
-    };
-    let Numeral::Is(e, next) = numeral::numeral_at(s, at_e, NEWLINE) else {
-        return Line::Bad;
-    };
-    Line::Row(Task::new(c, tmin, tmax, e), next)
-}
-
-// A refused import.
-fn refused(refusal: Refusal) -> Imported
-    ensures { result ≡ imported_not refusal }
-{
-    let answer = Counted::Refused(refusal);
-    let table = Table::new([Task::NONE; Table::MOST_TASKS], 0);
-    Imported { answer, table }
+    let (c, at_tmin) = numeral::numeral_at(s, at, COMMA)?;
+    let (tmin, at_tmax) = numeral::numeral_at(s, at_tmin, COMMA)?;
+    let (tmax, at_e) = numeral::numeral_at(s, at_tmax, COMMA)?;
+    let (e, next) = numeral::numeral_at(s, at_e, NEWLINE)?;
+    Some((Task::new(c, tmin, tmax, e), next))
 }
 
 // The table of a text, for an output with room for so many rows. It goes from the left, line by line, and judges no record.
-pub fn import(text: &[u8], room: usize) -> Imported
-    ensures { Reads text.now room result }
+pub fn read(text: &[u8], room: usize) -> Result<Table, Refusal>
+    ensures { Reads text.now room (imported result) }
 {
     let mut rows = [Task::NONE; Table::MOST_TASKS];
     let mut at: usize = 0;
     let mut n: usize = 0;
+    // The end of the text ends this walk, and not that of the rows, so n counts the lines.
     while at < text.len() {
         if Table::MOST_TASKS <= n {
-            return refused(Refusal::TooManyTasks(Table::MOST_TASKS));
+            return Err(Refusal::TooManyTasks(Table::MOST_TASKS));
         }
-        let Line::Row(row, next) = line_at(text, at) else {
-            return refused(Refusal::BadLine(n));
-        };
+        let (row, next) = line_at(text, at).ok_or(Refusal::BadLine(n))?;
         rows[n] = row;
         at = next;
         n += 1;
     }
     if room < n {
-        return refused(Refusal::OutputTooShort(n));
+        return Err(Refusal::OutputTooShort(n));
     }
-    let answer = Counted::Count(n);
-    let table = Table::new(rows, n);
-    Imported { answer, table }
+    Ok(Table::new(rows, n))
+}
+
+// The same, as an import by value answers: a refused one has a table too.
+pub fn import(text: &[u8], room: usize) -> Imported
+    ensures { Reads text.now room result }
+{
+    match read(text, room) {
+        Ok(table) => Imported {
+            answer: Ok(table.n),
+            table,
+        },
+        Err(refusal) => Imported {
+            answer: Err(refusal),
+            table: Table::new([Task::NONE; Table::MOST_TASKS], 0),
+        },
+    }
 }
 
 // How many bytes a task's line has.
@@ -111,14 +100,14 @@ fn line_width(task: Task) -> usize
         + 4
 }
 
-// How many bytes the lines of the first n rows have.
-fn text_width(rows: [Task; Table::MOST_TASKS], n: usize) -> usize
-    requires { n ≤ most_tasks }
-    ensures { Sized (text_to rows n) longest_text result }
+// How many bytes the lines of some rows have.
+fn text_width(rows: &[Task]) -> usize
+    requires { length rows.now ≤ most_tasks }
+    ensures { Sized (text_of rows.now) longest_text result }
 {
     let mut width: usize = 0;
-    for i in 0..n {
-        width += line_width(rows[i]);
+    for row in rows {
+        width += line_width(*row);
     }
     width
 }
@@ -128,7 +117,7 @@ fn put_number(out: &mut [u8], at: usize, v: u32, end: u8) -> usize
     requires { at + length (number_then v end) ≤ length out.old }
     ensures { Put out.old at (length (number_then v end)) (number_then v end) result out.new }
 {
-    let next = numeral::put_decimal(out, at, v as u64);
+    let next = numeral::put_decimal(out, at, u64::from(v));
     out[next] = end;
     next + 1
 }
@@ -144,33 +133,31 @@ fn put_line(out: &mut [u8], at: usize, task: Task) -> usize
     put_number(out, at_e, task.e, NEWLINE)
 }
 
-// Puts the lines of the first n rows at the front; returns their length.
-fn put_text(out: &mut [u8], rows: [Task; Table::MOST_TASKS], n: usize) -> usize
-    requires { (n ≤ most_tasks) × (length (text_to rows n) ≤ length out.old) }
-    ensures { Put out.old 0 (length (text_to rows n)) (text_to rows n) result out.new }
+// Puts the lines of some rows at the front; returns their length.
+fn put_text(out: &mut [u8], rows: &[Task]) -> usize
+    requires { length (text_of rows.now) ≤ length out.old }
+    ensures { Put out.old 0 (length (text_of rows.now)) (text_of rows.now) result out.new }
 {
     let mut at: usize = 0;
-    for i in 0..n {
-        at = put_line(out, at, rows[i]);
+    for row in rows {
+        at = put_line(out, at, *row);
     }
     at
 }
 
 // The text of a table, into a lent output: exactly that text, and nothing past it.
-pub fn export(table: Table, out: &mut [u8]) -> Counted
+pub fn export(table: Table, out: &mut [u8]) -> Result<usize, Refusal>
     ensures { Exports table.rows table.n out.old result out.new }
 {
-    let n = table.n;
-    let rows = table.rows;
-    if Table::MOST_TASKS < n {
-        return Counted::Refused(Refusal::TooManyTasks(n));
-    }
-    let needed = text_width(rows, n);
+    let rows = table
+        .rows
+        .get(..table.n)
+        .ok_or(Refusal::TooManyTasks(table.n))?;
+    let needed = text_width(rows);
     if out.len() < needed {
-        return Counted::Refused(Refusal::OutputTooShort(needed));
+        return Err(Refusal::OutputTooShort(needed));
     }
-    let written = put_text(out, rows, n);
-    Counted::Count(written)
+    Ok(put_text(out, rows))
 }
 
 // The longest text that definitions name is the one that the code names.

@@ -1,7 +1,7 @@
 -- The front of a long input tells all: one byte past the longest text settles the reading of a text, and one past the longest sheet that of
 -- a sheet.
 -- Assumes nothing.
-use Rattle.ground.proofs.Kit.{ℕ, zero, suc, ◌+◌, ◌-◌, ◌≤◌, ◌<◌, List, [], ◌∷◌, ◌++◌, append-nil, append_assoc, ◌≡◌, refl, sym, ◌∙◌, ap, ⊎_elim, arith}
+use Rattle.ground.proofs.Kit.{ℕ, Some, None, Ok, Err, zero, suc, ◌+◌, ◌-◌, ◌≤◌, ◌<◌, List, [], ◌∷◌, ◌++◌, append-nil, append_assoc, ◌≡◌, refl, sym, ◌∙◌, ap, ⊎_elim, arith}
 use Rattle.ground.proofs.Kit.{length, take, drop, length-append, length-drop, take-append-drop, length-take-le}
 use lib.Seq.{take_all, drop_at}
 use Rattle.ground.proofs.Cases.{by_le}
@@ -13,10 +13,8 @@ use Rattle.kinds.specs.Limits.{most_tasks}
 use Rattle.kinds.specs.Answer.{Handed}
 use Rattle.sheet.specs.Sections.{longest_sheet}
 use Rattle.sheet.proofs.Beyond.{front_reads}
-use Rattle.office.specs.declared.Line.{Line}
-use Rattle.office.specs.declared.Line.TheVariants as line
 use Rattle.office.specs.Text.{line_of, text_of, AllFit, longest_text}
-use Rattle.office.specs.Reading.{line_at, Reading, Rows, Not, read_from, read_text}
+use Rattle.office.specs.Reading.{Line, line_at, Reading, read_from, read_text}
 use Rattle.office.specs.Carrying.{import_handed}
 use Rattle.office.proofs.Lines.{from-many, from-bad, from_more}
 use Rattle.office.proofs.LinesBack.{line-got, line-back, line-rest, line-starts, no_line}
@@ -81,21 +79,21 @@ module _ (p q : List ℕ) (long : longest_text < length p) where
     rest-is : drop place (p ++ q) ≡ drop stop p ++ q
     rest-is = ap (drop place) whole-text ∙ drop_at (text_of before) (drop stop p ++ q) place (omega arith)
 
-    many : length before ≡ most_tasks → read_text (p ++ q) ≡ Not (TooManyTasks most_tasks)
+    many : length before ≡ most_tasks → read_text (p ++ q) ≡ Err (TooManyTasks most_tasks)
     many e =
         let z : most_tasks - length before ≡ 0 = omega arith in
         from-there ∙ (ap (λ (k : ℕ). read_from k before (p ++ q) place) z ∙ from-many before (p ++ q) place within)
 
-    still-bad : length before < most_tasks → line_at p stop ≡ line.Bad → (l : Line) → line_at (p ++ q) place ≡ l → line_at (p ++ q) place ≡ line.Bad
-    still-bad less b line.Bad e = e
-    still-bad less b (line.Row t next) e =
+    still-bad : length before < most_tasks → line_at p stop ≡ None → (l : Line) → line_at (p ++ q) place ≡ l → line_at (p ++ q) place ≡ None
+    still-bad less b None e = e
+    still-bad less b (Some (t, next)) e =
         let g = line-got (p ++ q) place t next e in
         let m = text-most before fit in
         let w = line-most t g.fits in
         let d = same-front (drop stop p) q (line_of t) (drop next (p ++ q)) (sym rest-is ∙ g.text) (omega (arith, lengths.0)) in
         absurd (no_line p stop b t g.fits (drop (length (line_of t)) (drop stop p)) d)
 
-    bad : length before < most_tasks → line_at p stop ≡ line.Bad → read_text (p ++ q) ≡ Not (BadLine (length before))
+    bad : length before < most_tasks → line_at p stop ≡ None → read_text (p ++ q) ≡ Err (BadLine (length before))
     bad less b =
         let z : most_tasks - length before ≡ suc (31 - length before) = omega arith in
         from-there
@@ -103,13 +101,13 @@ module _ (p q : List ℕ) (long : longest_text < length p) where
         ∙ from-bad before (p ++ q) place (31 - length before) within (still-bad less b (line_at (p ++ q) place) refl))
 
   same-reading : (reading : Reading) → read_text p ≡ reading → read_text (p ++ q) ≡ reading
-  same-reading (Rows rows) e = absurd (omega (arith, taken-most p rows e))
-  same-reading (Not r) e =
+  same-reading (Ok rows) e = absurd (omega (arith, taken-most p rows e))
+  same-reading (Err r) e =
       let s = import-refused p r e in
       ⊎_elim
-      (λ w. many r s.before s.stop s.text s.left s.fit (omega (arith, w.1)) w.1 ∙ ap Not (sym w.0))
+      (λ w. many r s.before s.stop s.text s.left s.fit (omega (arith, w.1)) w.1 ∙ ap Err (sym w.0))
       (λ w. bad r s.before s.stop s.text s.left s.fit (omega (arith, w.1)) w.1 w.2
-      ∙ (ap (λ (k : ℕ). Not (BadLine k)) (none (length s.before)) ∙ ap Not (sym w.0)))
+      ∙ (ap (λ (k : ℕ). Err (BadLine k)) (none (length s.before)) ∙ ap Err (sym w.0)))
       s.why
     where
       none : (k : ℕ) → k ≡ length {A = Task} [] + k

@@ -1,6 +1,6 @@
 -- The bytes that the office's programs write.
 -- Assumes nothing.
-use Rattle.std.specs.Prelude.{ℕ, List, ltb, replicate}
+use Rattle.std.specs.Prelude.{ℕ, List, Option, Some, None, ltb, replicate}
 use Rattle.ground.specs.Choice.{pick}
 use Rattle.kinds.specs.declared.Refusal.{Refusal}
 use Rattle.kinds.specs.declared.Refusal.TheVariants.{NoSuchPolicy, Misset}
@@ -11,8 +11,6 @@ use Rattle.kinds.specs.Policy.{policy_of}
 use Rattle.kinds.specs.Settings.{settings}
 use Rattle.kinds.specs.Answer.{Handed, accepted, refused}
 use Rattle.kinds.specs.Task.{table_of}
-use Rattle.numeral.specs.declared.Numeral.{Numeral}
-use Rattle.numeral.specs.declared.Numeral.TheVariants as numeral
 use Rattle.numeral.specs.Scan.{numeral_in}
 use Rattle.sheet.specs.Rows.{no_granted}
 use Rattle.sheet.specs.Reading.{read_sheet}
@@ -21,25 +19,23 @@ use Rattle.office.specs.Text.{text_to, longest_text}
 use Rattle.office.specs.Reading.{read_text, rows_of}
 use Rattle.office.specs.Carrying.{import_handed, export_handed}
 use Rattle.refusal_line.specs.Line.{or_line}
-use Rattle.office_sheet.specs.declared.Setting.{Setting}
-use Rattle.office_sheet.specs.declared.Setting.TheVariants.{Is, Bad}
 
 -- the greatest number that a field of 2 bytes holds
 abbrev pub greatest_setting : ℕ
 greatest_setting = 65535
 
 -- a number that such a field holds
-abbrev pub setting_by : Numeral → Setting
-setting_by (numeral.Is v next) = pick (ltb greatest_setting v) Bad (Is v)
-setting_by numeral.Bad = Bad
+abbrev pub setting_by : Option (ℕ × ℕ) → Option ℕ
+setting_by (Some (v, next)) = pick (ltb greatest_setting v) None (Some v)
+setting_by None = None
 
-unfoldable pub setting_of : List ℕ → Setting
+unfoldable pub setting_of : List ℕ → Option ℕ
 setting_of argument = setting_by (numeral_in argument)
 
 -- the setting of an argument, or the refusal that says that there is none such
-abbrev pub handed_setting : Refusal → Setting → Handed ℕ
-handed_setting refusal (Is v) = accepted v
-handed_setting refusal Bad = refused 0 refusal
+abbrev pub handed_setting : Refusal → Option ℕ → Handed ℕ
+handed_setting refusal (Some v) = accepted v
+handed_setting refusal None = refused 0 refusal
 
 -- the unfilled sheet of a table: it has two settings, a swap costs nothing, a notch is one tick and shares are tested
 abbrev pub sheet_with : ℕ → ℕ → Table → Sheet

@@ -1,14 +1,12 @@
 -- An accepted call in the words of demand 2: the least passing step, each task's shortest period on a notch and its processor, and nothing past them;
 -- and a call refused by 7: no step from 0 to K passes. For the finder that serves policy 4 and the one that does not.
 -- Assumes nothing.
-use Rattle.ground.proofs.Kit.{ℕ, ◌+◌, ◌≤◌, ◌<◌, min, Bool, true, false, List, ◌≡◌, sym, ◌∙◌, arith, length, leb-true, leb-false}
+use Rattle.ground.proofs.Kit.{ℕ, ◌+◌, ◌≤◌, ◌<◌, min, Bool, true, false, List, ◌≡◌, sym, ◌∙◌, arith, length, leb-true, leb-false, Ok}
 use Rattle.ground.proofs.Buffer.{list_at, list-past}
 use Rattle.ground.proofs.Least.{least-none}
 use Rattle.kinds.specs.declared.Task.{Task}
 use Rattle.kinds.specs.declared.Policy.{Policy}
 use Rattle.kinds.specs.declared.Settings.{Settings}
-use Rattle.kinds.specs.declared.Answer.TheVariants.{Accepted}
-use Rattle.kinds.specs.declared.Verdict.TheVariants as verdict
 use Rattle.kinds.specs.Policy.{meant}
 use Rattle.kinds.specs.Task.{at}
 use Rattle.share.specs.Share.{period_at}
@@ -47,7 +45,7 @@ assigned p m load n k i passing l =
     }
 
 pub accepted-granted : (serves : Bool) (s : Settings) (rows : List Task) (n k : ℕ) (old_periods old_processors periods processors : List ℕ)
-    → Meets (outcome serves s rows n old_periods old_processors) (Accepted k) periods processors
+    → Meets (outcome serves s rows n old_periods old_processors) (Ok k) periods processors
     → Granted s rows n k old_periods old_processors periods processors
 unfolding outcome periods_at processors_at
 accepted-granted serves s rows n k old_periods old_processors periods processors x =
@@ -73,11 +71,11 @@ accepted-granted serves s rows n k old_periods old_processors periods processors
 -- refusal 7 is given exactly when the call is admitted and no step from 0 to K passes
 module _ (serves : Bool) (s : Settings) (rows : List Task) (n room : ℕ) where
   pub seven-none : (found serves s rows n room).number ≡ 7
-      → (admission serves s rows n room ≡ verdict.Accepted)
+      → (admission serves s rows n room ≡ (Ok tt))
       × ((k : ℕ) → k ≤ full_under s rows n → passes_at (meant s.policy) s.m (loads_under s rows n) n k ≡ false)
   seven-none e = let x = refused-seven serves s rows n room e in (x.0, step-nothing (meant s.policy) s.m (loads_under s rows n) n _ x.1)
 
-  pub none-seven : admission serves s rows n room ≡ verdict.Accepted
+  pub none-seven : admission serves s rows n room ≡ (Ok tt)
       → ((k : ℕ) → k ≤ full_under s rows n → passes_at (meant s.policy) s.m (loads_under s rows n) n k ≡ false)
       → (found serves s rows n room).number ≡ 7
   unfolding found least_step

@@ -1,19 +1,15 @@
 -- "Given exactly when", of the two finders: `plain-exactly`, `quick-exactly`, and of every answer that meets their promises, `plain-answers`,
 -- `quick-answers`; the numbers that each gives are `plain-numbers` and `quick-numbers`.
 -- Assumes nothing.
-use Rattle.ground.proofs.Kit.{ℕ, ◌+◌, ◌≤◌, min, Bool, true, false, not, List, [], ◌∷◌, ◌++◌, ◌≡◌, refl, sym, ◌∙◌, ap, arith, ltb, length}
-use Rattle.ground.specs.declared.Step.{Step}
-use Rattle.ground.specs.declared.Step.TheVariants.{At, Nothing}
+use Rattle.ground.specs.Least.{Step}
+use Rattle.ground.proofs.Kit.{ℕ, ◌+◌, ◌≤◌, min, Bool, true, false, not, List, [], ◌∷◌, ◌++◌, ◌≡◌, refl, sym, ◌∙◌, ap, arith, ltb, length, Ok, Err, Some, None}
 use Rattle.ground.specs.Choice.{both}
 use Rattle.ground.proofs.Cases.{true-false}
 use Rattle.ground.proofs.Least.{least-none}
 use Rattle.kinds.specs.declared.Task.{Task}
 use Rattle.kinds.specs.declared.Settings.{Settings}
-use Rattle.kinds.specs.declared.Answer.{Answer}
-use Rattle.kinds.specs.declared.Verdict.{Verdict}
-use Rattle.kinds.specs.declared.Verdict.TheVariants.{Accepted, Refused}
 use Rattle.kinds.specs.declared.Refusal.TheVariants.{TooManyTasks, PolicyNotServed, OutputTooShort, NoStepPasses}
-use Rattle.kinds.specs.Answer.{Handed, accepted, refused, handed}
+use Rattle.kinds.specs.Answer.{Handed, accepted, refused, handed, Answer, Verdict}
 use Rattle.kinds.specs.Limits.{most_tasks}
 use Rattle.kinds.specs.Policy.{meant, is_first_fit}
 use Rattle.kinds.specs.Chain.{Check, ◌when◌, first_by, first_of, handed_by, Exactly, numbers_given}
@@ -31,15 +27,15 @@ abbrev pub seven : Step → List Check
 seven step = NoStepPasses when none_passes step ∷ []
 
 -- an admitted call is answered by the search for a step
-last-check : (step : Step) → decided Accepted step ≡ handed_by 0 (step_in step) (seven step)
+last-check : (step : Step) → decided (Ok tt) step ≡ handed_by 0 (step_in step) (seven step)
 unfolding first_by
-last-check (At k) = refl
-last-check Nothing = refl
+last-check (Some k) = refl
+last-check None = refl
 
 -- an admission that is a chain, and then the search for a step
 pub decided-chain : (chain : List Check) (step : Step) → decided (first_of chain) step ≡ handed_by 0 (step_in step) (chain ++ seven step)
 decided-chain chain step =
-    first-through (λ v. decided v step) Refused Accepted chain
+    first-through (λ v. decided v step) Err (Ok tt) chain
     ∙ (ap (λ (last : Handed ℕ). first_by (refused 0) last chain) (last-check step)
     ∙ first_then (refused 0) (accepted (step_in step)) chain (seven step))
 
@@ -116,9 +112,9 @@ module _ (s : Settings) (rows : List Task) (n : ℕ) (old_periods old_processors
       exactly (quick_chain s rows n room) 0 (step_in (least_under s rows n)) (handed answer) (x.answers ∙ quick-chain s rows n room)
 
 -- there is no least passing step
-pub passes_none : (step : Step) → none_passes step ≡ true → step ≡ Nothing
-passes_none (At k) e = true-false e refl
-passes_none Nothing e = refl
+pub passes_none : (step : Step) → none_passes step ≡ true → step ≡ None
+passes_none (Some k) e = true-false e refl
+passes_none None e = refl
 
 -- the sentence of 7 in the document's words, both ways
 module _ (s : Settings) (rows : List Task) (n : ℕ) where

@@ -1,12 +1,11 @@
 -- One outcome for every call: no second answer meets it, it depends on the first n records only, and where policy 4 is not asked it is
 -- the same whether that policy is served or not.
 -- Assumes nothing.
-use Rattle.ground.proofs.Kit.{ℕ, ◌≤◌, ◌<◌, min, Bool, true, false, List, ◌≡◌, refl, sym, ◌∙◌, ap, arith, length, ne_eqb}
-use Rattle.ground.specs.declared.Step.{Step}
+use Rattle.kinds.specs.Answer.{Answer, Verdict}
+use Rattle.ground.specs.Least.{Step}
+use Rattle.ground.proofs.Kit.{ℕ, ◌≤◌, ◌<◌, min, Bool, true, false, List, ◌≡◌, refl, sym, ◌∙◌, ap, arith, length, ne_eqb, Ok, Err}
 use Rattle.kinds.specs.declared.Task.{Task}
 use Rattle.kinds.specs.declared.Settings.{Settings}
-use Rattle.kinds.specs.declared.Answer.{Answer}
-use Rattle.kinds.specs.declared.Verdict as verdict
 use Rattle.kinds.specs.Limits.{most_tasks}
 use Rattle.kinds.specs.Policy.{meant, is_first_fit}
 use Rattle.kinds.specs.Refusal.{number_of}
@@ -26,14 +25,14 @@ no-second-answer o a b ps qs ps' qs' x y =
     (handed-one a b (x.answers ∙ sym y.answers), x.grants ∙ sym y.grants, x.places ∙ sym y.places)
 
 -- any finder's call looks at no record where its gate refuses, and so is settled alike by what it finds in records that agree as far as they count
-module _ (n : ℕ) (periods processors : List ℕ) (f g f' g' : ℕ → List ℕ) (a b : verdict.Verdict) (x y : Step) where
-  pub settled_same : (gate : verdict.Verdict) → (gate ≡ verdict.TheVariants.Accepted → n ≤ most_tasks)
+module _ (n : ℕ) (periods processors : List ℕ) (f g f' g' : ℕ → List ℕ) (a b : Verdict) (x y : Step) where
+  pub settled_same : (gate : Verdict) → (gate ≡ (Ok tt) → n ≤ most_tasks)
       → (n ≤ most_tasks → (a ≡ b) × (x ≡ y) × ((k : ℕ) → f k ≡ f' k) × ((k : ℕ) → g k ≡ g' k))
       → settled (decided (and_then gate a) x) f g n periods processors ≡ settled (decided (and_then gate b) y) f' g' n periods processors
-  settled_same verdict.TheVariants.Accepted opens same =
+  settled_same (Ok _) opens same =
       let e = same (opens refl) in
       rw (e.0, e.1, e.2 (decided b y).value, e.3 (decided b y).value)
-  settled_same (verdict.TheVariants.Refused r) opens same = rw (ne_eqb (number_of r) 0 (λ z. omega (arith, refusal-numbered r)))
+  settled_same (Err r) opens same = rw (ne_eqb (number_of r) 0 (λ z. omega (arith, refusal-numbered r)))
 
 -- two tables that agree on the first n records are answered alike; where n is too large, any two are
 pub outcome-same : (serves : Bool) (s : Settings) (xs ys : List Task) (n : ℕ) (periods processors : List ℕ)

@@ -1,8 +1,7 @@
 -- Document 01, "Numbers we hand back": the checks of the two finders, with the sentence of each number, in their order.
 -- Assumes nothing.
-use Rattle.std.specs.Prelude.{ℕ, Bool, true, false, List, [], ◌∷◌, ◌++◌, ltb}
-use Rattle.ground.specs.declared.Step.{Step}
-use Rattle.ground.specs.declared.Step.TheVariants.{At, Nothing}
+use Rattle.ground.specs.Least.{Step}
+use Rattle.std.specs.Prelude.{ℕ, Bool, true, false, List, [], ◌∷◌, ◌++◌, ltb, Some, None}
 use Rattle.kinds.specs.declared.Task.{Task}
 use Rattle.kinds.specs.declared.Settings.{Settings}
 use Rattle.kinds.specs.declared.Refusal.TheVariants.{TooManyTasks, PolicyNotServed, OutputTooShort, NoStepPasses}
@@ -14,13 +13,13 @@ use Rattle.admission.specs.Chain.{settings_chain, record_check}
 
 -- "no step from 0 to K passes": there is no least one
 abbrev pub none_passes : Step → Bool
-none_passes (At k) = false
-none_passes Nothing = true
+none_passes (Some k) = false
+none_passes None = true
 
 -- the step of an acceptance; 0 where there is none
 abbrev pub step_in : Step → ℕ
-step_in (At k) = k
-step_in Nothing = 0
+step_in (Some k) = k
+step_in None = 0
 
 -- the last check of a finder
 abbrev pub step_check : Settings → List Task → ℕ → Check

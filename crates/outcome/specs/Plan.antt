@@ -1,22 +1,18 @@
 -- Demand 2, whole: what a finder hands back and what it leaves in the two lent outputs, for every input.
 -- Assumes nothing.
-use Rattle.std.specs.Prelude.{ℕ, ◌+◌, min, Bool, List, ◌≡◌, length}
-use Rattle.ground.specs.declared.Step.{Step}
-use Rattle.ground.specs.declared.Step.TheVariants.{At, Nothing}
+use Rattle.ground.specs.Least.{Step}
+use Rattle.std.specs.Prelude.{ℕ, ◌+◌, min, Bool, List, ◌≡◌, length, Ok, Err, Some, None}
 use Rattle.ground.specs.Choice.{pick}
 use Rattle.ground.specs.Folds.{list_to}
 use Rattle.kinds.specs.declared.Task.{Task}
 use Rattle.kinds.specs.declared.Policy.{Policy}
 use Rattle.kinds.specs.declared.Settings.{Settings}
 use Rattle.kinds.specs.declared.Refusal.TheVariants.{NoStepPasses}
-use Rattle.kinds.specs.declared.Answer.{Answer}
-use Rattle.kinds.specs.Answer.{Handed, accepted, refused, after, handed}
+use Rattle.kinds.specs.Answer.{Handed, accepted, refused, after, handed, Answer, Verdict}
 use Rattle.kinds.specs.Policy.{meant, is_first_fit}
 use Rattle.share.specs.Table.{periods_at}
 use Rattle.fit.specs.Fit.{place_at}
 use Rattle.policy.specs.Under.{rows_under, loads_under, least_under}
-use Rattle.kinds.specs.declared.Verdict.{Verdict}
-use Rattle.kinds.specs.declared.Verdict.TheVariants.{Accepted, Refused}
 use Rattle.admission.specs.Admission.{admission}
 
 -- the processor of task i with these loads
@@ -32,9 +28,9 @@ processors_at p m load n k = list_to (processor_at p m load k) n
 
 -- an admitted call is answered by the least passing step, or refused by 7
 abbrev pub decided : Verdict → Step → Handed ℕ
-decided (Refused r) step = refused 0 r
-decided Accepted (At k) = accepted k
-decided Accepted Nothing = refused 0 NoStepPasses
+decided (Err r) step = refused 0 r
+decided (Ok _) (Some k) = accepted k
+decided (Ok _) None = refused 0 NoStepPasses
 
 -- the periods and the processors at step k, of the first n of some records
 abbrev pub periods_under : Settings → List Task → ℕ → ℕ → List ℕ

@@ -6,8 +6,6 @@ use std::io;
 
 fn main(rt: HostRuntime) -> io::Result<()> {
     let mut input = [0u8; sheet::LONGEST + 1];
-    let n = lent_input::read_full(&mut rt.stdin(), &mut input)?;
     let mut out = [0u8; sheet::LONGEST];
-    let k = fill::fill(&input[..n], &mut out);
-    rt.write_all(&out[..k])
+    lent_input::run(rt, &mut input, &mut out, fill::fill)
 }

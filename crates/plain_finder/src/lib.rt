@@ -3,117 +3,103 @@
 // `outcome true` of `outcome`.
 #![tactic(auto)]
 
-ghost use Rattle.std.specs.Prelude.{true, ◌≡◌, ◌≤◌};
+ghost use Rattle.std.specs.Prelude.{true, ◌≡◌};
 ghost use Rattle.kinds.specs.Answer.{handed};
-ghost use Rattle.kinds.specs.Limits.{most_processors};
-ghost use Rattle.kinds.specs.Policy.{meant, Served};
+ghost use Rattle.kinds.specs.Policy.{meant};
 ghost use Rattle.springs.specs.Spring.{shares_on, charges_on, loads_on};
-ghost use Rattle.springs.specs.Columns.{spring_in};
-ghost use Rattle.springs.specs.Handover.{Springy, Chargeable};
+ghost use Rattle.springs.specs.Springs.{spring_in};
+ghost use Rattle.springs.specs.Handover.{Empty};
 ghost use Rattle.outcome.specs.Plan.{found, outcome, Meets};
-ghost use Rattle.outcome.specs.Handover.{Searchable};
+ghost use Rattle.outcome.specs.Handover.{Searchable, FoundSprung};
 ghost use Rattle.plain_finder.specs.Handover.{Searched};
 
-use ground::Step;
-use kinds::{Answer, Policy, Settings, Table, Verdict};
-use springs::Columns;
+use kinds::{Refusal, Settings, Table};
+use policy::Test;
+use springs::Springs;
 
 // The periods and processors of the least passing step, written to the two lent outputs, or the refusal, which writes nothing.
-pub fn find(table: Table, settings: Settings, periods: &mut [u32], processors: &mut [u16]) -> Answer
+pub fn find(
+    table: Table,
+    settings: Settings,
+    periods: &mut [u32],
+    processors: &mut [u16],
+) -> Result<u32, Refusal>
     ensures { Meets (outcome true settings table.rows table.n periods.old processors.old) result
         periods.new processors.new }
 {
-    let n = table.n;
-    let room = ground::shorter(periods.len(), processors.len());
-    let mut block = [0u32; Columns::ROOM];
-    let gate = admission::gate_of(settings, true, n, room);
-    let Verdict::Accepted = gate else {
-        return outcome::decide(gate, Step::Nothing);
-    };
-    let bad = springs::springs_of(table, settings.swap, settings.notch, &mut block);
-    let admission = admission::judge(bad, n);
-    let Verdict::Accepted = admission else {
-        return outcome::decide(admission, Step::Nothing);
-    };
-    let step = least_step(settings, &mut block, n);
-    let answer = outcome::decide(admission, step);
-    outcome::grant(answer, settings, &mut block, n, periods, processors);
-    answer
+    let room = periods.len().min(processors.len());
+    let mut springs = Springs::new(settings.notch);
+    let step = find_step(table, settings, room, &mut springs)?;
+    outcome::grant(step, settings, &mut springs, periods, processors);
+    Ok(step)
 }
 
 // The answer, for outputs of which the shorter has so much room.
-pub fn decide(table: Table, settings: Settings, room: usize) -> Answer
+pub fn decide(table: Table, settings: Settings, room: usize) -> Result<u32, Refusal>
     ensures { handed result ≡ found true settings table.rows table.n room }
 {
-    let n = table.n;
-    let mut block = [0u32; Columns::ROOM];
-    let gate = admission::gate_of(settings, true, n, room);
-    let Verdict::Accepted = gate else {
-        return outcome::decide(gate, Step::Nothing);
-    };
-    let bad = springs::springs_of(table, settings.swap, settings.notch, &mut block);
-    let admission = admission::judge(bad, n);
-    let Verdict::Accepted = admission else {
-        return outcome::decide(admission, Step::Nothing);
-    };
-    outcome::decide(admission, least_step(settings, &mut block, n))
+    let mut springs = Springs::new(settings.notch);
+    find_step(table, settings, room, &mut springs)
+}
+
+// The least passing step of a table, whose springs are taken in.
+fn find_step(
+    table: Table,
+    settings: Settings,
+    room: usize,
+    springs: &mut Springs,
+) -> Result<u32, Refusal>
+    requires { Empty settings.notch springs.old }
+    ensures { FoundSprung true settings table.rows table.n room result springs.new }
+{
+    admission::admit(table, settings, true, room, springs)?;
+    least_step(settings, springs).ok_or(Refusal::NoStepPasses)
 }
 
 // The least step from 0 to full compression that passes on the loads of the settings' edition.
-fn least_step(settings: Settings, block: &mut [u32; Columns::ROOM], n: usize) -> Step
-    requires { Searchable settings block.old n }
-    ensures { Searched (meant settings.policy) settings.m (loads_on settings (spring_in block.old)) n result
-        block.old block.new }
+fn least_step(settings: Settings, springs: &mut Springs) -> Option<u32>
+    requires { Searchable settings springs.old }
+    ensures { Searched (meant settings.policy) settings.m (loads_on settings (spring_in springs.old)) result
+        springs.old springs.new }
 {
     let asked = settings.policy;
-    let policy = asked.meant();
+    let test = Test {
+        policy: asked.meant(),
+        m: settings.m,
+    };
     if settings.tests_charge() {
-        return least_charged(policy, settings.m, settings.notch, block, n);
+        return least_charged(test, springs);
     }
-    least_shared(policy, settings.m, block, n)
+    least_shared(test, springs)
 }
 
 // Edition 2: the least step that passes on the charges.
-fn least_charged(
-    policy: Policy,
-    m: u16,
-    notch: u16,
-    block: &mut [u32; Columns::ROOM],
-    n: usize,
-) -> Step
-    requires { Chargeable notch block.old n × (1 ≤ m) × (m ≤ most_processors) × Served policy }
-    ensures { Searched policy m (charges_on notch (spring_in block.old)) n result block.old block.new }
+fn least_charged(test: Test, springs: &mut Springs) -> Option<u32>
+    ensures { Searched test.policy test.m (charges_on springs.old.notch (spring_in springs.old)) result
+        springs.old springs.new }
 {
-    let last = springs::full_compression(block, n);
-    let mut step: u32 = 0;
-    loop {
-        if policy::passes_charged(policy, m, notch, block, n, step) {
-            return Step::At(step);
+    let full = springs.full_compression();
+    for step in 0..=full {
+        if test.passes_charged(springs, step) {
+            return Some(step);
         }
-        if last <= step {
-            return Step::Nothing;
-        }
-        step += 1;
     }
+    None
 }
 
-// Edition 1: the least step that passes on the shares, which are let down from step to step.
-fn least_shared(policy: Policy, m: u16, block: &mut [u32; Columns::ROOM], n: usize) -> Step
-    requires { Springy block.old n × (1 ≤ m) × (m ≤ most_processors) × Served policy }
-    ensures { Searched policy m (shares_on (spring_in block.old)) n result block.old block.new }
+// Edition 1: the least step that passes on the shares, which are let down from step to step. A walk of its own: edition 2 charges each step anew,
+// and carries nothing.
+fn least_shared(test: Test, springs: &mut Springs) -> Option<u32>
+    ensures { Searched test.policy test.m (shares_on (spring_in springs.old)) result springs.old springs.new }
 {
-    let full = springs::full_compression(block, n);
-    let most = policy::most_sum(policy, m, n);
-    let mut sum = springs::shares_at(block, n, 0);
-    let mut k: u32 = 0;
-    loop {
-        if policy::passes_summed(policy, m, block, n, sum, most) {
-            return Step::At(k);
+    let full = springs.full_compression();
+    let most = test.most_sum(springs.n);
+    let mut sum = springs.share_sum(0);
+    for k in 0..=full {
+        if test.passes_summed(springs, sum, most) {
+            return Some(k);
         }
-        if full <= k {
-            return Step::Nothing;
-        }
-        sum = springs::next_shares(block, n);
-        k += 1;
+        sum = springs.let_down();
     }
+    None
 }

@@ -4,18 +4,14 @@
 #![tactic(auto)]
 
 use fill::SheetPlan;
-use kinds::{Answer, Counted, Granted, Refusal, Results, Settings, Sheet, Table};
-use loosen::fields;
-use office_sheet::Setting;
+use kinds::{Granted, Refusal, Results, Settings, Sheet, Table};
+use loosen::fields::Kind;
 use std::io;
-use task_names::ROOM;
+use task_names::Names;
+use text::Page;
 
-// The settings that the words name, or the refusal of one that is no number.
-#[derive(Clone, Copy)]
-enum Asked {
-    Is(Settings),
-    Refused(Refusal),
-}
+// The words before the first setting: the program's own name, and the form.
+const BEFORE: usize = 2;
 
 // How a plan is put.
 #[derive(Clone, Copy)]
@@ -29,20 +25,17 @@ enum Form {
 fn form_asked(rt: HostRuntime) -> Form {
     let mut word = [0u8; 16];
     let n = lent_input::word(&rt, 1, &mut word);
-    if n < 2 {
-        return Form::Text;
-    }
-    match word[1] {
-        b'h' => Form::Sheet,
-        b's' => Form::Csv,
+    match &word[..n] {
+        [_, b'h', ..] => Form::Sheet,
+        [_, b's', ..] => Form::Csv,
         _ => Form::Text,
     }
 }
 
-// The setting that a word names, or what is filled in where there is none.
-fn setting(rt: HostRuntime, i: usize, fill_in: u16) -> Setting {
+// The setting that a word names, or what is filled in where there is no word; none where it is no number.
+fn setting(rt: HostRuntime, i: usize, fill_in: u16) -> Option<u16> {
     if lent_input::word_count(&rt) <= i {
-        return Setting::Is(fill_in);
+        return Some(fill_in);
     }
     let mut word = [0u8; 16];
     let n = lent_input::word(&rt, i, &mut word);
@@ -58,15 +51,12 @@ fn unset(i: usize) -> Refusal {
 }
 
 // The settings by the words behind the form.
-fn settings_asked(rt: HostRuntime) -> Asked {
+fn settings_asked(rt: HostRuntime) -> Result<Settings, Refusal> {
     let mut numbers = Settings::FILL_INS;
-    for i in 0..Settings::MOST {
-        let Setting::Is(number) = setting(rt, i + 2, numbers[i]) else {
-            return Asked::Refused(unset(i));
-        };
-        numbers[i] = number;
+    for (i, number) in numbers.iter_mut().enumerate() {
+        *number = setting(rt, i + BEFORE, *number).ok_or(unset(i))?;
     }
-    Asked::Is(Settings::of(numbers))
+    Ok(Settings::from(numbers))
 }
 
 // The unfilled sheet of a table, with as many settings as words are given.
@@ -83,76 +73,56 @@ fn unfilled(settings: Settings, table: Table, count: usize) -> Sheet {
     }
 }
 
-// How many settings are given by the words behind the form.
-fn given(rt: HostRuntime) -> usize {
-    let words = ground::less_or_zero(lent_input::word_count(&rt) as u64, 2);
-    ground::shorter(words as usize, Settings::MOST)
+// What an exact text and the words come to, or why it is nothing.
+fn planned(rt: HostRuntime, exact: &[u8]) -> Result<SheetPlan, Refusal> {
+    let settings = settings_asked(rt)?;
+    let table = office::read(exact, Table::MOST_TASKS)?;
+    let given = lent_input::word_count(&rt).saturating_sub(BEFORE);
+    let count = given.min(Settings::MOST);
+    Ok(fill::fill_sheet(unfilled(settings, table, count)))
 }
 
 // Puts the filled sheet.
-fn put_sheet(x: Sheet, out: &mut [u8]) -> usize {
-    let written = writer::write(x, out);
-    match written {
-        Counted::Count(k) => k,
-        Counted::Refused(_) => 0,
+fn put_sheet(page: &mut Page, x: Sheet) {
+    let mut bytes = [0u8; sheet::LONGEST];
+    if let Ok(k) = writer::write(x, &mut bytes) {
+        page.put(bytes.get(..k).unwrap_or(&[]));
     }
 }
 
 // Puts a plan as it is asked for; why there is none is put for people to read.
-fn put_planned(plan: SheetPlan, form: Form, names: &[u8; ROOM], out: &mut [u8]) -> usize {
-    let answer = plan.answer;
-    if let Answer::Refused(_) = answer {
-        return view_text::put_plan(plan, names, out);
+fn put_planned(page: &mut Page, plan: SheetPlan, form: Form, names: &Names) {
+    match (plan.answer, form) {
+        (Ok(_), Form::Sheet) => put_sheet(page, plan.sheet),
+        (Ok(_), Form::Csv) => view_table::put_csv(page, plan.sheet, names),
+        _ => view_text::put_plan(page, plan, names),
     }
-    match form {
-        Form::Text => view_text::put_plan(plan, names, out),
-        Form::Sheet => put_sheet(plan.sheet, out),
-        Form::Csv => view_table::put_csv(out, plan.sheet, names),
-    }
-}
-
-// Puts what an exact text comes to under these settings.
-fn put_table(
-    rt: HostRuntime,
-    exact: &[u8],
-    settings: Settings,
-    names: &[u8; ROOM],
-    out: &mut [u8],
-) -> usize {
-    let imported = office::import(exact, Table::MOST_TASKS);
-    let answer = imported.answer;
-    if let Counted::Refused(refusal) = answer {
-        return view_text::put_line(refusal, out);
-    }
-    let plan = fill::fill_sheet(unfilled(settings, imported.table, given(rt)));
-    put_planned(plan, form_asked(rt), names, out)
 }
 
 // Puts what an exact text and the words come to.
-fn put_asked(rt: HostRuntime, exact: &[u8], names: &[u8; ROOM], out: &mut [u8]) -> usize {
-    let asked = settings_asked(rt);
-    match asked {
-        Asked::Refused(refusal) => view_text::put_line(refusal, out),
-        Asked::Is(settings) => put_table(rt, exact, settings, names, out),
+fn put_asked(rt: HostRuntime, page: &mut Page, exact: &[u8], names: &Names) {
+    match planned(rt, exact) {
+        Err(refusal) => view_text::put_line(page, refusal),
+        Ok(plan) => put_planned(page, plan, form_asked(rt), names),
     }
 }
 
 // Puts what a text comes to as it was given: through its exact text, or by itself where it has none.
-fn put_tidy_plan(rt: HostRuntime, given: &[u8], names: &[u8; ROOM], out: &mut [u8]) -> usize {
+fn put_tidy_plan(rt: HostRuntime, page: &mut Page, given: &[u8], names: &Names) {
     let mut exact = [0u8; office::LONGEST];
-    let Counted::Count(k) = tidy::tidied(given, &mut exact) else {
-        return put_asked(rt, given, names, out);
-    };
-    put_asked(rt, &exact[..k], names, out)
+    match tidy::tidied(given, &mut exact) {
+        Err(_) => put_asked(rt, page, given, names),
+        Ok(k) => put_asked(rt, page, &exact[..k], names),
+    }
 }
 
 fn main(rt: HostRuntime) -> io::Result<()> {
     let mut given = [0u8; tidy::LONGEST + 1];
     let n = lent_input::read_full(&mut rt.stdin(), &mut given)?;
-    tidy_words::tell(&mut rt.stderr(), &given[..n], fields::OF_TASK);
-    let mut names = [0u8; ROOM];
-    loosen::keep_names(&given[..n], &mut names);
-    let mut out = [0u8; view_text::LONGEST];
-    let k = put_tidy_plan(rt, &given[..n], &names, &mut out);
-    text::write(&mut rt.stdout(), &out, k)
+    tidy_words::tell(&mut rt.stderr(), &given[..n], Kind::Task);
+    let names = loosen::names_in(&given[..n]);
+    let mut room = [0u8; view_text::LONGEST];
+    let mut page = Page::new(&mut room);
+    put_tidy_plan(rt, &mut page, &given[..n], &names);
+    page.write_to(&mut rt.stdout())
 }

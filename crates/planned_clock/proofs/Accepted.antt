@@ -1,16 +1,14 @@
 -- The periods of an accepted plan start a clock: no start refuses them.
 -- Assumes nothing.
-use Rattle.ground.proofs.Kit.{ℕ, ◌≤◌, ◌<◌, min, Bool, true, false, List, ◌++◌, ◌≡◌, refl, sym, ◌∙◌, ap, arith, length, take, drop, ne_eqb}
+use Rattle.ground.proofs.Kit.{ℕ, ◌≤◌, ◌<◌, min, Bool, true, List, ◌++◌, ◌≡◌, sym, ◌∙◌, ap, arith, length, take, drop, Result, Ok, Err}
 use lib.Seq.{take_at}
-use Rattle.ground.proofs.Cases.{true-false}
 use Rattle.ground.proofs.Buffer.{list-long, list-in}
 use Rattle.kinds.specs.declared.Task.{Task}
 use Rattle.kinds.specs.declared.Settings.{Settings}
-use Rattle.kinds.specs.declared.Answer.{Answer}
-use Rattle.kinds.specs.declared.Answer.TheVariants.{Accepted, Refused}
-use Rattle.kinds.specs.Answer.{Handed, accepted, handed, is_accepted}
+use Rattle.kinds.specs.Answer.{Handed, accepted}
 use Rattle.kinds.specs.Task.{at}
-use Rattle.kinds.proofs.Refusals.{refusal-numbered}
+use Rattle.kinds.specs.declared.Refusal.{Refusal}
+use Rattle.kinds.proofs.Answers.{not-refused}
 use Rattle.share.specs.Share.{period_at}
 use Rattle.share.specs.Table.{periods_at}
 use Rattle.share.proofs.Tables.{all-good, all-on}
@@ -20,11 +18,10 @@ use Rattle.outcome.specs.Plan.{periods_under, found, Outcome, outcome, Meets}
 use Rattle.outcome.proofs.Found.{accepting}
 use Rattle.outcome.proofs.Outcomes.{no-second-answer}
 use Rattle.clock.specs.declared.Clock.{Clock}
-use Rattle.clock.specs.declared.Started.{Started}
 use Rattle.clock.specs.Start.{every, no_clock, clock_from, started, handed_start}
-use Rattle.clock.proofs.Starts.{Whole, whole-started, clock-is}
+use Rattle.clock.proofs.Starts.{Whole, whole-started}
 use Rattle.planned_clock.specs.declared.Planned.{Planned}
-use Rattle.planned_clock.specs.ClockPlan.{clock_of, PlanIs}
+use Rattle.planned_clock.specs.ClockPlan.{clock_of, plan_in, clock_in, PlanIs}
 
 periods-long : (q : ℕ) (rows : List Task) (n k : ℕ) → length (periods_at q rows n k) ≡ n
 unfolding periods_at
@@ -58,49 +55,53 @@ module _ (serves : Bool) (s : Settings) (rows : List Task) (n room k : ℕ) (e :
 -- what the function hands over: the finder's answer, with the outputs as it left them
 module _ (s : Settings) (rows : List Task) (n : ℕ) (old old' : List ℕ) where
   -- an accepted answer was found
-  as-found : (k : ℕ) (new new' : List ℕ) → Meets (outcome true s rows n old old') (Accepted k) new new'
+  as-found : (k : ℕ) (new new' : List ℕ) → Meets (outcome true s rows n old old') (Ok k) new new'
       → accepted k ≡ found true s rows n (min (length old) (length old'))
   unfolding outcome
   as-found k new new' m = m.answers
 
-  pub roomy : (plan : Answer) (new new' : List ℕ) → Meets (outcome true s rows n old old') plan new new'
-      → is_accepted plan ≡ true → length new ≡ length old → n ≤ length new
-  roomy (Accepted k) new new' m a l =
+  pub roomy : (k : ℕ) (new new' : List ℕ) → Meets (outcome true s rows n old old') (Ok k) new new' → length new ≡ length old → n ≤ length new
+  roomy k new new' m l =
       omega (arith, l, (accepting true s rows n (min (length old) (length old')) k (as-found k new new' m)).ready.passed.roomy)
-  roomy (Refused r) new new' m a l = true-false a refl
 
   -- the periods of the plan stand in front
-  in-front : (k : ℕ) (new new' : List ℕ) → Meets (outcome true s rows n old old') (Accepted k) new new' → take n new ≡ periods_under s rows n k
+  in-front : (k : ℕ) (new new' : List ℕ) → Meets (outcome true s rows n old old') (Ok k) new new' → take n new ≡ periods_under s rows n k
   unfolding outcome
   in-front k new new' m =
       let e : new ≡ periods_under s rows n k ++ drop n old = rw (← m.answers) at m.grants in
       rw e (take_at (periods_under s rows n k) (drop n old) n (periods-long s.notch (rows_under s rows n) n k))
 
-  pub planned-well : (tick : ℕ) (plan : Answer) (new new' : List ℕ) (begun : Started) → Meets (outcome true s rows n old old') plan new new'
-      → is_accepted plan ≡ true → handed_start begun ≡ started (take n new) tick
-      → PlanIs (outcome true s rows n old old') s rows n tick (record { plan = plan; clock = begun.clock }) new new'
-  planned-well tick (Accepted k) new new' begun m a e =
-      let g : handed_start begun ≡ accepted (clock_from (periods_under s rows n k) tick) =
+  -- so that the start of the plan's periods is accepted
+  begun : (tick k : ℕ) (new new' : List ℕ) (r : Result Clock Refusal) → Meets (outcome true s rows n old old') (Ok k) new new'
+      → handed_start r ≡ started (take n new) tick → handed_start r ≡ accepted (clock_from (periods_under s rows n k) tick)
+  begun tick k new new' r m e =
       e ∙ (ap (λ (x : List ℕ). started x tick) (in-front k new new' m)
-      ∙ accepted-starts true s rows n (min (length old) (length old')) k (as-found k new new' m) tick) in
-      record {
-        plans = m;
-        starts = clock-is begun ∙ (ap (λ (h : Handed Clock). h.value) g ∙ ap (λ (h : Handed ℕ). clock_of h s rows n tick) m.answers);
-      }
-  planned-well tick (Refused r) new new' begun m a e = true-false a refl
+      ∙ accepted-starts true s rows n (min (length old) (length old')) k (as-found k new new' m) tick)
 
-  pub planned-none : (tick : ℕ) (plan : Answer) (new new' : List ℕ) (c : Clock) → Meets (outcome true s rows n old old') plan new new'
-      → is_accepted plan ≡ false → c ≡ no_clock
-      → PlanIs (outcome true s rows n old old') s rows n tick (record { plan = plan; clock = c }) new new'
-  planned-none tick (Accepted k) new new' c m a e = true-false refl a
-  planned-none tick (Refused r) new new' c m a e =
-      let d : no_clock ≡ clock_of (handed (Refused r)) s rows n tick = rw (ne_eqb (handed (Refused r)).number 0 (λ z. omega (arith, refusal-numbered r))) in
-      record { plans = m; starts = e ∙ (d ∙ ap (λ (h : Handed ℕ). clock_of h s rows n tick) m.answers) }
+  pub planned-well : (tick k : ℕ) (c : Clock) (new new' : List ℕ) → Meets (outcome true s rows n old old') (Ok k) new new'
+      → handed_start (Ok c) ≡ started (take n new) tick
+      → PlanIs (outcome true s rows n old old') s rows n tick (Ok (record { step = k; clock = c })) new new'
+  planned-well tick k c new new' m e = record {
+    plans = m;
+    starts =
+        ap (λ (h : Handed Clock). h.value) (begun tick k new new' (Ok c) m e)
+        ∙ ap (λ (h : Handed ℕ). clock_of h s rows n tick) m.answers;
+  }
+
+  -- no start of a plan's periods is refused
+  pub never-refused : {X : Type 0} (tick k : ℕ) (r : Refusal) (new new' : List ℕ) → Meets (outcome true s rows n old old') (Ok k) new new'
+      → handed_start (Err r) ≡ started (take n new) tick → X
+  never-refused tick k r new new' m e = not-refused _ no_clock r (sym (begun tick k new new' (Err r) m e))
 
 -- no second plan, nor a second clock, nor a second content of either output
-pub plan-one : (o : Outcome) (s : Settings) (rows : List Task) (n tick : ℕ) (r q : Planned) (ps qs ps' qs' : List ℕ)
+same : (r q : Result Planned Refusal) → plan_in r ≡ plan_in q → clock_in r ≡ clock_in q → r ≡ q
+same (Ok p) (Ok w) e x = let k : p.step ≡ w.step = cc in ap Ok (λ i. record { step = k i; clock = x i })
+same (Ok p) (Err q) e x = cc
+same (Err r) (Ok w) e x = cc
+same (Err r) (Err q) e x = let k : r ≡ q = cc in ap Err k
+
+pub plan-one : (o : Outcome) (s : Settings) (rows : List Task) (n tick : ℕ) (r q : Result Planned Refusal) (ps qs ps' qs' : List ℕ)
     → PlanIs o s rows n tick r ps qs → PlanIs o s rows n tick q ps' qs' → (r ≡ q) × (ps ≡ ps') × (qs ≡ qs')
 plan-one o s rows n tick r q ps qs ps' qs' a b =
-    let m = no-second-answer o r.plan q.plan ps qs ps' qs' a.plans b.plans in
-    let x : r.clock ≡ q.clock = a.starts ∙ sym b.starts in
-    ((λ i. record { plan = m.0 i; clock = x i }), m.1, m.2)
+    let m = no-second-answer o (plan_in r) (plan_in q) ps qs ps' qs' a.plans b.plans in
+    (same r q m.0 (a.starts ∙ sym b.starts), m.1, m.2)

@@ -7,12 +7,12 @@ ghost use Rattle.outcome.specs.Plan.{outcome};
 ghost use Rattle.planned_clock.specs.ClockPlan.{PlanIs};
 
 use clock::Clock;
-use kinds::{Answer, Settings, Table};
+use kinds::{Refusal, Settings, Table};
 
-// What the plain finder answers, and the clock: of zeros where it refuses.
+// The step of an accepted plan, and the clock that its periods start.
 #[derive(Clone, Copy)]
 pub struct Planned {
-    pub plan: Answer,
+    pub step: u32,
     pub clock: Clock,
 }
 
@@ -24,19 +24,12 @@ pub fn start_plan(
     tick: u32,
     periods: &mut [u32],
     processors: &mut [u16],
-) -> Planned
+) -> Result<Planned, Refusal>
     ensures { PlanIs (outcome true settings table.rows table.n periods.old processors.old)
         settings table.rows table.n tick result periods.new processors.new }
 {
     let n = table.n;
-    let plan = plain_finder::find(table, settings, periods, processors);
-    if plan.accepted() {
-        let started = clock::start(&periods[..n], tick);
-        let clock = started.clock;
-        return Planned { plan, clock };
-    }
-    Planned {
-        plan,
-        clock: clock::no_clock(),
-    }
+    let step = plain_finder::find(table, settings, periods, processors)?;
+    let clock = clock::start(&periods[..n], tick)?;
+    Ok(Planned { step, clock })
 }

@@ -1,7 +1,6 @@
 -- Demand 2 in its own words: the step passes, no smaller one does, and none means that no step from 0 to K passes.
 -- Assumes nothing.
-use Rattle.ground.proofs.Kit.{ℕ, ◌≤◌, ◌<◌, false, ◌≡◌}
-use Rattle.ground.specs.declared.Step.TheVariants.{At, Nothing}
+use Rattle.ground.proofs.Kit.{ℕ, ◌≤◌, ◌<◌, false, ◌≡◌, Some, None}
 use Rattle.ground.specs.Least.{LeastAt}
 use Rattle.ground.proofs.Least.{least_at, least-nothing, least-cong}
 use Rattle.kinds.specs.declared.Policy.{Policy}
@@ -9,11 +8,11 @@ use Rattle.policy.specs.Passing.{passes_at, least_step}
 use Rattle.policy.proofs.Tests.{passes_same}
 
 module _ (p : Policy) (m : ℕ) (load : ℕ → ℕ → ℕ) (n K : ℕ) where
-  pub step-at : (k : ℕ) → least_step p m load n K ≡ At k → LeastAt (passes_at p m load n) K k
+  pub step-at : (k : ℕ) → least_step p m load n K ≡ Some k → LeastAt (passes_at p m load n) K k
   unfolding least_step
   step-at k e = least_at (passes_at p m load n) K k e
 
-  pub step-nothing : least_step p m load n K ≡ Nothing → (k : ℕ) → k ≤ K → passes_at p m load n k ≡ false
+  pub step-nothing : least_step p m load n K ≡ None → (k : ℕ) → k ≤ K → passes_at p m load n k ≡ false
   unfolding least_step
   step-nothing e = least-nothing (passes_at p m load n) K e
 

@@ -1,8 +1,7 @@
 -- The looks that an answer calls for are at most tasks + 1.
 -- Assumes nothing.
-use Rattle.ground.proofs.Kit.{ℕ, zero, suc, ◌+◌, ◌≤◌, ◌<◌, Bool, false, not, List, ◌≡◌, refl, ap, ap₂, arith, eqb, ltb, le-ltb}
-use Rattle.ground.specs.declared.Step.{Step}
-use Rattle.ground.specs.declared.Step.TheVariants.{At, Nothing}
+use Rattle.ground.specs.Least.{Step}
+use Rattle.ground.proofs.Kit.{ℕ, zero, suc, ◌+◌, ◌≤◌, ◌<◌, Bool, false, not, List, ◌≡◌, refl, ap, ap₂, arith, eqb, ltb, le-ltb, Some, None}
 use Rattle.ground.specs.Choice.{both}
 use Rattle.ground.specs.Folds.{max_to}
 use Rattle.ground.proofs.Cases.{by_bool}
@@ -24,13 +23,13 @@ below-few s n k i l h = count-lt (λ j. both (counts s j) (ltb (s j) k)) n i l (
     not-below : (b : Bool) → both b (ltb (s i) k) ≡ false
     not-below b = by_bool b (λ e. rw (e, le-ltb (s i) k h)) (λ e. rw e)
 
-looks-few : (s : ℕ → ℕ) (n : ℕ) (step : Step) → ((k : ℕ) → step ≡ At k → k ≤ max_to s n) → looks_for s n step ≤ n + 1
+looks-few : (s : ℕ → ℕ) (n : ℕ) (step : Step) → ((k : ℕ) → step ≡ Some k → k ≤ max_to s n) → looks_for s n step ≤ n + 1
 unfolding distinct
-looks-few s n (At zero) h = omega arith
-looks-few s n (At (suc k)) h =
+looks-few s n (Some zero) h = omega arith
+looks-few s n (Some (suc k)) h =
     let r = max-reached s n k (omega (arith, h (suc k) refl)) in
     omega (arith, below-few s n (suc k) r.0 r.1 r.2)
-looks-few s n Nothing h = omega (arith, count-le (counts s) n)
+looks-few s n None h = omega (arith, count-le (counts s) n)
 
 -- demand 3: "with the count of looks that document 01 defines, at most tasks + 1"
 pub looks-bound : (p : Policy) (m : ℕ) (load : ℕ → ℕ → ℕ) (rows : List Task) (n : ℕ)
@@ -52,7 +51,7 @@ module _ (f g : ℕ → ℕ) where
 
     pub for-same : (step : Step) → looks_for f n step ≡ looks_for g n step
     unfolding distinct distinct_below
-    for-same (At zero) = refl
-    for-same (At (suc k)) =
+    for-same (Some zero) = refl
+    for-same (Some (suc k)) =
         ap (λ (x : ℕ). 2 + x) (count-cong _ _ n (λ i l. ap₂ both (counts_same i l) (ap (λ (x : ℕ). ltb x (suc k)) (h i l))))
-    for-same Nothing = ap (λ (x : ℕ). 1 + x) (count-cong _ _ n counts_same)
+    for-same None = ap (λ (x : ℕ). 1 + x) (count-cong _ _ n counts_same)

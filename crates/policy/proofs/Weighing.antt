@@ -1,14 +1,13 @@
--- The test as the code works it out, and on charges that a block holds.
+-- The test as the code works it out, and on charges that are written.
 -- Assumes nothing.
-use Rattle.ground.proofs.Kit.{ℕ, ◌*◌, ◌≤◌, ◌<◌, true, false, List, ◌≡◌, ◌∙◌, ap, arith, leb, le-leb, lt-leb, leb-true}
+use Rattle.ground.proofs.Kit.{ℕ, ◌*◌, ◌≤◌, ◌<◌, true, false, ◌≡◌, ◌∙◌, ap, arith, leb, le-leb, lt-leb, leb-true}
 use Rattle.ground.specs.Folds.{sum_to, max_to}
 use Rattle.ground.proofs.Folds.{sum-le, max_falls, sum-cong, max-cong}
-use Rattle.kinds.specs.Limits.{scale, most_tasks}
 use Rattle.springs.specs.Spring.{charges_on}
-use Rattle.springs.specs.Columns.{spring_in}
-use Rattle.springs.specs.Handover.{Chargeable, Loaded, Summed}
-use Rattle.springs.proofs.Springs.{charge-most}
-use Rattle.springs.proofs.Blocks.{sum-loaded}
+use Rattle.springs.specs.Springs.{spring_in}
+use Rattle.springs.specs.declared.Springs.{Springs}
+use Rattle.springs.specs.Handover.{Loaded, Summed}
+use Rattle.springs.proofs.Columns.{sum-loaded}
 use Rattle.fit.specs.Fit.{load_in}
 use Rattle.fit.specs.Handover.{Loads}
 use Rattle.policy.specs.declared.Weights.{Weights}
@@ -36,18 +35,16 @@ pub weighed-stays : (w : Weights) (f g : ℕ → ℕ) (n : ℕ) → ((i : ℕ) �
 unfolding weighed
 weighed-stays w f g n falls t = le-leb _ _ (test-stays w _ _ _ _ (sum-le _ _ n falls) (max_falls _ _ n falls) (leb-true _ _ t))
 
--- loads that are written to a block, with their sum
-pub summed-loads : (load : ℕ → ℕ) (n : ℕ) (old new : List ℕ) (sum : ℕ) → Summed load n old new sum → sum ≡ sum_to (load_in new) n
-summed-loads load n old new sum s = s.sum_is ∙ sum-loaded load n old new s.loaded
+-- loads that are written, with their sum
+pub summed-loads : (load : ℕ → ℕ) (old new : Springs) (sum : ℕ) → Summed load old new sum → sum ≡ sum_to (load_in new.loads) new.n
+summed-loads load old new sum s = rw s.loaded.beside.count (s.sum_is ∙ sum-loaded load old.n old new s.loaded)
 
--- none of them above S
-pub loaded-loads : (load : ℕ → ℕ) (n : ℕ) (old new : List ℕ) → n ≤ most_tasks → ((i : ℕ) → i < n → load i ≤ scale) → Loaded load n old new → Loads new n
-loaded-loads load n old new few most l = record { few = few; most = λ i b. rw (l.are i b) (most i b) }
+-- they are few, and none is above S
+pub springs-loads : (s : Springs) → Loads s.loads s.n
+springs-loads s = record { few = s.few; most = λ i l. s.low i }
 
-module _ (q : ℕ) (old new : List ℕ) (n k : ℕ) (c : Chargeable q old n) (l : Loaded (charges_on q (spring_in old) k) n old new) where
-  pub charges-loads : Loads new n
-  charges-loads = loaded-loads _ n old new c.few (λ i b. charge-most q (spring_in old i) (c.allowed i b) k) l
-
-  pub charged-weighed : (w : Weights) → weighed w (load_in new) n ≡ charged_at w q (spring_in old) n k
-  unfolding weighed
-  charged-weighed w = rw (sum-cong (load_in new) _ n l.are, max-cong (load_in new) _ n l.are)
+pub charged-weighed : (w : Weights) (k : ℕ) (old new : Springs) → Loaded (charges_on old.notch (spring_in old) k) old.n old new
+    → weighed w (load_in new.loads) new.n ≡ charged_at w old.notch (spring_in old) old.n k
+unfolding weighed
+charged-weighed w k old new l =
+    rw (l.beside.count, sum-cong (load_in new.loads) _ old.n l.are, max-cong (load_in new.loads) _ old.n l.are)

@@ -1,8 +1,7 @@
 -- Document 01, "Looks of the quick finder": the count that an answer calls for.
 -- Assumes nothing.
-use Rattle.std.specs.Prelude.{ℕ, zero, suc, ◌+◌, Bool, not, List, ltb, eqb}
-use Rattle.ground.specs.declared.Step.{Step}
-use Rattle.ground.specs.declared.Step.TheVariants.{At, Nothing}
+use Rattle.ground.specs.Least.{Step}
+use Rattle.std.specs.Prelude.{ℕ, zero, suc, ◌+◌, Bool, not, List, ltb, eqb, Some, None}
 use Rattle.ground.specs.Choice.{both}
 use Rattle.ground.specs.Folds.{any_to, count_to}
 use Rattle.kinds.specs.declared.Task.{Task}
@@ -28,9 +27,9 @@ distinct_below saturation n k = count_to (λ i. both (counts saturation i) (ltb 
 -- "1 when the answer is step 0; for an answer k > 0, 2 plus the number of distinct positive saturation steps below k; when refused by 7, 1
 -- plus the number of distinct positive saturation steps"
 abbrev pub looks_for : (ℕ → ℕ) → ℕ → Step → ℕ
-looks_for saturation n (At zero) = 1
-looks_for saturation n (At (suc k)) = 2 + distinct_below saturation n (suc k)
-looks_for saturation n Nothing = 1 + distinct saturation n
+looks_for saturation n (Some zero) = 1
+looks_for saturation n (Some (suc k)) = 2 + distinct_below saturation n (suc k)
+looks_for saturation n None = 1 + distinct saturation n
 
 unfoldable pub looks_of : List Task → ℕ → Step → ℕ
 looks_of rows n step = looks_for (λ i. saturation_at (at rows i)) n step

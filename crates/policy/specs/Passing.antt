@@ -1,9 +1,8 @@
 -- Passing, and the least passing step of demand 2.
 -- Assumes nothing.
 use Rattle.std.specs.Prelude.{ℕ, Bool, false, leb}
-use Rattle.ground.specs.declared.Step.{Step}
 use Rattle.ground.specs.Folds.{sum_to, max_to}
-use Rattle.ground.specs.Least.{least_up_to}
+use Rattle.ground.specs.Least.{least_up_to, Step}
 use Rattle.kinds.specs.declared.Policy.{Policy}
 use Rattle.kinds.specs.declared.Policy.TheVariants.{Pooled, GlobalEdf, GlobalRm, FirstFit, OneCoreRm, Further}
 use Rattle.fit.specs.Fit.{fits}

@@ -1,8 +1,8 @@
 -- What a call with settings asks of its records: the rules of document 01 on the records whose swaps are paid for, and the loads of the
 -- settings' edition.
 -- Assumes nothing.
+use Rattle.ground.specs.Least.{Step}
 use Rattle.std.specs.Prelude.{ℕ, ◌+◌, List, ℤ}
-use Rattle.ground.specs.declared.Step.{Step}
 use Rattle.ground.specs.Choice.{pick}
 use Rattle.ground.specs.Halving.{tests_made}
 use Rattle.kinds.specs.declared.Task.{Task}

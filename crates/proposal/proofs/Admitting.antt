@@ -1,21 +1,25 @@
 -- What the admission of a proposal has checked, and the loads that it leaves.
 -- Assumes nothing.
-use Rattle.ground.proofs.Kit.{ℕ, ◌≤◌, List, ◌≡◌, ◌∙◌, ltb-false}
+use Rattle.std.specs.Result.{MatchResult, IsErrAnd}
+use Rattle.ground.proofs.Kit.{ℕ, ◌≤◌, List, ◌≡◌, refl, sym, ◌∙◌, subst, arith, lt-ltb, le-ltb, ltb-false, Result, Ok, Err}
 use Rattle.kinds.specs.declared.Task.{Task}
 use Rattle.kinds.specs.declared.Settings.{Settings}
-use Rattle.kinds.specs.declared.Verdict.TheVariants.{Accepted}
+use Rattle.kinds.specs.declared.Refusal.{Refusal}
+use Rattle.kinds.specs.declared.Refusal.TheVariants.{BadRecord}
+use Rattle.kinds.specs.Limits.{most_processors}
+use Rattle.kinds.specs.Answer.{Verdict}
 use Rattle.share.specs.Table.{first_bad}
-use Rattle.share.proofs.Tables.{all-good, all-on}
 use Rattle.springs.specs.Spring.{loads_on}
-use Rattle.springs.specs.Columns.{spring_in}
-use Rattle.springs.specs.Handover.{Chargeable, Loaded, Sprung}
-use Rattle.springs.proofs.Blocks.{loads-are, loads-most, sprung-chargeable}
+use Rattle.springs.specs.declared.Springs.{Springs}
+use Rattle.springs.specs.Springs.{spring_in}
+use Rattle.springs.specs.Handover.{Loaded, Sprung, TakenIn}
+use Rattle.springs.proofs.Columns.{loads-are, taken-good, taken-bad}
 use Rattle.policy.specs.Under.{rows_under}
-use Rattle.policy.proofs.Weighing.{loaded-loads}
 use Rattle.admission.specs.Admission.{and_then, misset_numbers, gate, roomy, records_good}
-use Rattle.admission.proofs.Chain.{Few, unchecked, then-admitted, gate-opens, numbers-set, set-few, roomy-passed}
+use Rattle.admission.proofs.Chain.{Few, unchecked, not-admitted, then-admitted, gate-opens, numbers-set, set-few, roomy-passed}
+use Rattle.admission.proofs.Opened.{by-record}
 use Rattle.proposal.specs.Proposal.{gate_of, admission}
-use Rattle.proposal.specs.Handover.{LoadsOf}
+use Rattle.proposal.specs.Handover.{LoadsOf, AdmittedLoaded}
 
 -- what 2, 3 and 5 have checked
 pub record Passed (s : Settings) (n proposed room : ℕ) : Type 0 where
@@ -24,7 +28,7 @@ pub record Passed (s : Settings) (n proposed room : ℕ) : Type 0 where
   pub entries : n ≤ proposed
   pub roomy : s.m ≤ room
 
-pub gate-passed : (s : Settings) (n proposed room : ℕ) → gate_of s n proposed room ≡ Accepted → Passed s n proposed room
+pub gate-passed : (s : Settings) (n proposed room : ℕ) → gate_of s n proposed room ≡ (Ok tt) → Passed s n proposed room
 gate-passed s n proposed room e =
     let last = and_then (roomy n proposed) (roomy s.m room) in
     let set = then-admitted (gate (misset_numbers s) n) last e in
@@ -43,26 +47,69 @@ pub record Ready (s : Settings) (rows : List Task) (n proposed room : ℕ) : Typ
   pub passed : Passed s n proposed room
   pub none-bad : n ≤ first_bad s.swap s.notch rows n
 
-pub admitted : (s : Settings) (rows : List Task) (n proposed room : ℕ) → admission s rows n proposed room ≡ Accepted → Ready s rows n proposed room
+pub admitted : (s : Settings) (rows : List Task) (n proposed room : ℕ) → admission s rows n proposed room ≡ (Ok tt) → Ready s rows n proposed room
 unfolding admission
 admitted s rows n proposed room e =
     let a = then-admitted (gate_of s n proposed room) (records_good s.swap s.notch rows n) e in
     record { passed = gate-passed s n proposed room a.0; none-bad = ltb-false _ _ (unchecked _ _ _ a.1).0 }
 
--- the springs of good records may be charged, and the loads of step k that are worked out from them are the tasks'
-module _ (s : Settings) (rows : List Task) (n proposed room : ℕ) (ready : Ready s rows n proposed room)
-    (block : List ℕ) (sprung : Sprung (rows_under s rows n) n block) where
-  pub springs-chargeable : Chargeable s.notch block n
-  springs-chargeable =
-      let good = all-good s.swap s.notch rows n ready.none-bad in
-      let on = all-on s.swap s.notch rows n ready.none-bad ready.passed.notched in
-      sprung-chargeable (rows_under s rows n) n block sprung ready.passed.few.few good s.notch on
+-- the loads of step k that are worked out from the springs of the records are the tasks'
+pub loads-held : (s : Settings) (rows : List Task) (n : ℕ) (springs : Springs) → s.m ≤ most_processors → Sprung (rows_under s rows n) n springs
+    → (k : ℕ) (new : Springs) → Loaded (loads_on s (spring_in springs) k) springs.n springs new → LoadsOf s rows n k new
+loads-held s rows n springs m-most sprung k new w =
+    record {
+      m-most = m-most;
+      count = w.beside.count ∙ sprung.count;
+      are = λ i l. w.are i (omega (arith, sprung.count)) ∙ loads-are (rows_under s rows n) n springs sprung s k i l;
+    }
 
-  pub loads-held : (k : ℕ) (new : List ℕ) → Loaded (loads_on s (spring_in block) k) n block new → LoadsOf s rows n k new
-  loads-held k new w =
-      record {
-        m-most = ready.passed.few.m-most;
-        long = w.long ∙ sprung.long;
-        light = loaded-loads _ n block new ready.passed.few.few (loads-most s block n springs-chargeable k) w;
-        are = λ i l. w.are i l ∙ loads-are (rows_under s rows n) n block sprung s k i l;
-      }
+-- the walk over the records of a call that passed the gate: what it found is the admission's, and where that admits its springs are there
+module _ (s : Settings) (rows : List Task) (n proposed room : ℕ) (gate : Verdict) (g : gate ≡ gate_of s n proposed room) where
+  pub refused-loaded : (r : Refusal) (k : ℕ) (springs : Springs) → gate ≡ Err r → AdmittedLoaded s rows n k proposed room (Err r) springs
+  unfolding admission
+  refused-loaded r k springs e = record { is = rw (← g, e); loads = λ o. not-admitted (Err r) refl o }
+
+  module _ (opens : gate ≡ (Ok tt)) (r : Result (Unit {0}) ℕ) (old now : Springs) (same : old.notch ≡ s.notch) (t : TakenIn s.swap rows n r old now)
+      (a : Verdict) (mapped : MatchResult r (λ x. a ≡ Ok x) (λ i. IsErrAnd a (λ y. y ≡ BadRecord i))) where
+    bad-loaded : (i : ℕ) → r ≡ Err i → (k : ℕ) (new : Springs) → AdmittedLoaded s rows n k proposed room (Err (BadRecord i)) new
+    unfolding admission
+    bad-loaded i e k new =
+        let bad = taken-bad s.swap s.notch rows n r old now same t i e in
+        record { is = rw (sym g ∙ opens, ← bad.0, lt-ltb i n bad.1); loads = λ o. not-admitted (Err (BadRecord i)) refl o }
+
+    pub err-loaded : (x : Refusal) → a ≡ Err x → (k : ℕ) (new : Springs) → AdmittedLoaded s rows n k proposed room (Err x) new
+    err-loaded x e k new =
+        by-record r a mapped
+        (λ all q. let z = sym q ∙ e in absurd cc)
+        (λ i bad q. subst (λ (v : Verdict). AdmittedLoaded s rows n k proposed room v new) (sym q ∙ e) (bad-loaded i bad k new))
+
+    module _ (e : a ≡ (Ok tt)) where
+      all-taken : r ≡ Ok tt
+      all-taken = by-record r a mapped (λ all q. all) (λ i bad q. let z = sym q ∙ e in absurd cc)
+
+      good : (n ≤ first_bad s.swap s.notch rows n) × Sprung (rows_under s rows n) n now
+      good = taken-good s.swap s.notch rows n r old now same t all-taken
+
+      pub well-loaded : (k : ℕ) (new : Springs) → Loaded (loads_on s (spring_in now) k) now.n now new
+          → AdmittedLoaded s rows n k proposed room (Ok tt) new
+      unfolding admission
+      well-loaded k new w =
+          let passed = gate-passed s n proposed room (sym g ∙ opens) in
+          record {
+            is = rw (sym g ∙ opens, le-ltb (first_bad s.swap s.notch rows n) n good.0);
+            loads = λ _. loads-held s rows n now passed.few.m-most good.1 k new w;
+          }
+
+-- an admitted call: its counts are checked, and the springs have its loads
+pub record Checked (s : Settings) (rows : List Task) (n k proposed room : ℕ) (springs : Springs) : Type 0 where
+  pub admits : admission s rows n proposed room ≡ (Ok tt)
+  pub entries : n ≤ proposed
+  pub roomy : s.m ≤ room
+  pub held : LoadsOf s rows n k springs
+
+pub checked : (s : Settings) (rows : List Task) (n k proposed room : ℕ) (a : Verdict) (springs : Springs)
+    → AdmittedLoaded s rows n k proposed room a springs → a ≡ (Ok tt) → Checked s rows n k proposed room springs
+checked s rows n k proposed room a springs x e =
+    let admits = sym x.is ∙ e in
+    let passed = (admitted s rows n proposed room admits).passed in
+    record { admits = admits; entries = passed.entries; roomy = passed.roomy; held = x.loads e }

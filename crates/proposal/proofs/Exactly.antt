@@ -1,10 +1,10 @@
 -- "Given exactly when", of the checker of proposals: `proposal-exactly`; the numbers that it gives are `proposal-numbers`.
 -- Assumes nothing.
+use Rattle.kinds.specs.Answer.{Verdict}
 use Rattle.ground.proofs.Kit.{ℕ, ◌+◌, List, [], ◌∷◌, ◌++◌, ◌≡◌, refl, ◌∙◌, ap, ltb, length}
 use Rattle.kinds.specs.declared.Task.{Task}
 use Rattle.kinds.specs.declared.Settings.{Settings}
 use Rattle.kinds.specs.declared.Refusal.TheVariants.{Misset, TooManyTasks, OutputTooShort, BadRecord, ProcessorOutOfRange, ProcessorOverfull}
-use Rattle.kinds.specs.declared.Verdict.{Verdict}
 use Rattle.kinds.specs.Limits.{most_tasks}
 use Rattle.kinds.specs.Chain.{Check, ◌when◌, first_by, first_of, Exactly, numbers_given}
 use Rattle.kinds.proofs.Chains.{verdict-exactly}

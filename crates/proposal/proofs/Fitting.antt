@@ -1,13 +1,12 @@
 -- What first fit places is sound, with the loads that first fit counts: `first-fit-sound` and `first-fit-loads`; so the checker accepts it.
 -- Assumes nothing.
-use Rattle.ground.proofs.Kit.{ℕ, zero, suc, ◌+◌, ◌≤◌, ◌<◌, true, List, ◌++◌, ◌≡◌, refl, sym, ◌∙◌, ap, arith, length, get_or, set, drop, get_or-replicate}
+use Rattle.ground.proofs.Kit.{ℕ, zero, suc, ◌+◌, ◌≤◌, ◌<◌, true, List, ◌++◌, ◌≡◌, refl, sym, ◌∙◌, ap, arith, length, get_or, set, drop, get_or-replicate, Ok}
 use Rattle.ground.proofs.Kit.{get_or-set_same, get_or-set_other}
 use Rattle.ground.specs.Folds.{sum_to, list_to}
 use Rattle.ground.proofs.Cases.{by-eq}
 use Rattle.ground.proofs.Buffer.{list_at, list-cong}
 use Rattle.kinds.specs.declared.Task.{Task}
 use Rattle.kinds.specs.declared.Settings.{Settings}
-use Rattle.kinds.specs.declared.Verdict.TheVariants.{Accepted}
 use Rattle.kinds.specs.Limits.{scale, most_processors}
 use Rattle.fit.specs.Fit.{loads_after, place_at, fits, places_to}
 use Rattle.fit.proofs.Placing.{fits-placed, after-long, after_more, each-load-most}
@@ -85,8 +84,8 @@ module _ (s : Settings) (rows : List Task) (n k : ℕ) (rest old : List ℕ) (al
   unfolding places_to
   proposed i l = list_at 0 (λ x. place_at s.m load x + 1) n i rest l
 
-  pub first-fit-accepted : admission s rows n (length (places_to s.m (loads_under s rows n k) n ++ rest)) (length old) ≡ Accepted
-      → Meets (outcome s rows n k (places_to s.m (loads_under s rows n k) n ++ rest) old) Accepted
+  pub first-fit-accepted : admission s rows n (length (places_to s.m (loads_under s rows n k) n ++ rest)) (length old) ≡ (Ok tt)
+      → Meets (outcome s rows n k (places_to s.m (loads_under s rows n k) n ++ rest) old) (Ok tt)
       (list_to (λ j. get_or (loads_after s.m (loads_under s rows n k) n) j 0) s.m ++ drop s.m old)
   first-fit-accepted a =
       let few = (admitted s rows n (length proposal) (length old) a).passed.few.m-most in

@@ -1,7 +1,8 @@
 -- The walk over the tasks that works out the load of each processor, and the walks that find what is out of range or overfull.
 -- Assumes nothing.
-use Rattle.ground.proofs.Kit.{ℕ, ◌+◌, ◌*◌, ◌≤◌, ◌<◌, false, List, ◌≡◌, refl, sym, ◌∙◌, ap, arith, get_or, set, replicate, length-set, get_or-replicate}
+use Rattle.ground.proofs.Kit.{ℕ, ◌+◌, ◌*◌, ◌≤◌, ◌<◌, false, List, ◌≡◌, refl, sym, ◌∙◌, ap, arith, length, get_or, set, take, replicate, length-set, length-take-le, get_or-replicate}
 use Rattle.ground.proofs.Kit.{get_or-set_same, get_or-set_other, eq-eqb, ne_eqb, lt-ltb, le-ltb, ltb-false}
+use Rattle.std.proofs.lemmas.List.{get_or-take}
 use Rattle.ground.specs.First.{first_below}
 use Rattle.ground.specs.Folds.{list_to}
 use Rattle.ground.proofs.Cases.{by-eq, by_le, true-false}
@@ -10,6 +11,8 @@ use Rattle.ground.proofs.Folds.{sum-none, sum_more, sum-cong}
 use Rattle.ground.proofs.Buffer.{list-cong}
 use Rattle.kinds.specs.Limits.{scale, most_processors}
 use Rattle.proposal.specs.Loads.{put_on, processor_load, loads_to, is_out_of_range, is_overfull, before_overfull, InRange}
+use Rattle.fit.specs.Fit.{load_in}
+use Rattle.proposal.specs.Proposal.{place_in}
 use Rattle.proposal.specs.Handover.{LoadsAre}
 
 -- what a task puts on its own processor, and on another
@@ -87,6 +90,20 @@ module _ (load place : ℕ → ℕ) (n : ℕ) where
               (λ e. rw e (omega (arith, loaded-here, w.most j inside)))
               (λ d. omega (arith, loaded-other x d, w.most x g));
         }
+
+-- a walk over the first n loads beside the first n processors has come to task i
+pub record Turn (block proposal : List ℕ) (n i load processor : ℕ) : Type 0 where
+  pub below : i < n
+  pub load_is : load ≡ load_in block i
+  pub place_is : processor ≡ place_in proposal i
+
+pub turn : (block proposal : List ℕ) (n i load processor : ℕ) → n ≤ length block → n ≤ length proposal
+    → (i < length (take n block)) × (i < length (take n proposal))
+    × ((d : ℕ) → load ≡ get_or (take n block) i d) × ((d : ℕ) → processor ≡ get_or (take n proposal) i d)
+    → Turn block proposal n i load processor
+turn block proposal n i load processor b p z =
+    let l : i < n = omega (arith, z.0, length-take-le n block b) in
+    record { below = l; load_is = z.2 0 ∙ get_or-take n block i 0 l; place_is = z.3 0 ∙ get_or-take n proposal i 0 l }
 
 -- a processor is out of range, or from 1 to m
 module _ (m p : ℕ) where

@@ -1,12 +1,10 @@
 -- Ask 7, whole: what the checker of a proposal hands back and what it leaves in the lent output, for every input.
 -- Assumes nothing.
-use Rattle.std.specs.Prelude.{ℕ, ◌+◌, List, ◌≡◌, ltb, length, get_or}
+use Rattle.std.specs.Prelude.{ℕ, ◌+◌, List, ◌≡◌, ltb, length, get_or, Ok, Err}
 use Rattle.kinds.specs.declared.Task.{Task}
 use Rattle.kinds.specs.declared.Settings.{Settings}
 use Rattle.kinds.specs.declared.Refusal.TheVariants.{ProcessorOutOfRange, ProcessorOverfull}
-use Rattle.kinds.specs.declared.Verdict.{Verdict}
-use Rattle.kinds.specs.declared.Verdict.TheVariants.{Accepted, Refused}
-use Rattle.kinds.specs.Answer.{NumberAndPlace, check, handed_verdict, after}
+use Rattle.kinds.specs.Answer.{NumberAndPlace, check, handed_verdict, after, Verdict}
 use Rattle.policy.specs.Under.{loads_under}
 use Rattle.admission.specs.Admission.{and_then, misset_numbers, gate, roomy, records_good}
 use Rattle.proposal.specs.Loads.{loads_to, first_out_of_range, before_overfull}
@@ -27,9 +25,9 @@ admission s rows n proposed room = and_then (gate_of s n proposed room) (records
 -- "then 13 names the first task with a processor out of range, then 14 the lowest overfull processor", over any loads
 unfoldable pub placing : (ℕ → ℕ) → (ℕ → ℕ) → ℕ → ℕ → Verdict
 placing load place n m =
-    check (ltb (first_out_of_range m place n) n) (Refused (ProcessorOutOfRange (first_out_of_range m place n)))
-    (check (ltb (before_overfull load place n m) m) (Refused (ProcessorOverfull (before_overfull load place n m + 1)))
-    Accepted)
+    check (ltb (first_out_of_range m place n) n) (Err (ProcessorOutOfRange (first_out_of_range m place n)))
+    (check (ltb (before_overfull load place n m) m) (Err (ProcessorOverfull (before_overfull load place n m + 1)))
+    (Ok tt))
 
 -- every check of a proposal at step k, with so much room for the loads
 unfoldable pub proposal_verdict : Settings → List Task → ℕ → ℕ → List ℕ → ℕ → Verdict

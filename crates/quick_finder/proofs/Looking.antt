@@ -1,7 +1,6 @@
 -- A search, look by look: what has failed so far, and how it ends.
 -- Assumes nothing.
-use Rattle.ground.proofs.Kit.{ℕ, zero, suc, ◌+◌, ◌≤◌, ◌<◌, Bool, true, false, ◌≡◌, refl, arith}
-use Rattle.ground.specs.declared.Step.TheVariants.{At, Nothing}
+use Rattle.ground.proofs.Kit.{ℕ, zero, suc, ◌+◌, ◌≤◌, ◌<◌, Bool, true, false, ◌≡◌, refl, arith, Some, None}
 use Rattle.ground.specs.Folds.{max_to}
 use Rattle.ground.specs.Least.{LeastAt}
 use Rattle.ground.proofs.Cases.{by_le, true-false}
@@ -23,18 +22,18 @@ pub record Failed (test : ℕ → Bool) (saturation : ℕ → ℕ) (n p looks : 
   pub failed : test p ≡ false
   pub count : looks ≡ 1 + distinct_below saturation n (p + 1)
 
-looks-above : (s : ℕ → ℕ) (n k : ℕ) → 0 < k → looks_for s n (At k) ≡ 2 + distinct_below s n k
+looks-above : (s : ℕ → ℕ) (n k : ℕ) → 0 < k → looks_for s n (Some k) ≡ 2 + distinct_below s n k
 looks-above s n zero h = absurd (omega arith)
 looks-above s n (suc k) h = refl
 
 module _ (w : Weights) (springs : ℕ → Spring) (n : ℕ) where
   -- the first look passes
   pub ends-at-zero : (looks : ℕ) → looks ≡ 1 → weighed_at w springs n 0 ≡ true
-      → SearchEnds (weighed_at w springs n) (saturations springs) n (record { step = At 0; looks = looks })
+      → SearchEnds (weighed_at w springs n) (saturations springs) n (record { step = Some 0; looks = looks })
   ends-at-zero looks c t =
       record {
         least =
-            least-unique (weighed_at w springs n) (max_to (saturations springs) n) (At 0) _
+            least-unique (weighed_at w springs n) (max_to (saturations springs) n) (Some 0) _
             (record { within = omega arith; passes = t; before = λ j l. absurd (omega arith) })
             (least-is (weighed_at w springs n) (max_to (saturations springs) n));
         count = c;
@@ -50,11 +49,11 @@ module _ (w : Weights) (springs : ℕ → Spring) (n : ℕ) where
 
     -- no further look is due
     pub ends_nowhere : ((i : ℕ) → i < n → saturations springs i ≤ p)
-        → SearchEnds (weighed_at w springs n) (saturations springs) n (record { step = Nothing; looks = looks })
+        → SearchEnds (weighed_at w springs n) (saturations springs) n (record { step = None; looks = looks })
     ends_nowhere h =
         record {
           least =
-              least-unique (weighed_at w springs n) (max_to (saturations springs) n) Nothing _
+              least-unique (weighed_at w springs n) (max_to (saturations springs) n) None _
               (λ j l. fails-up-to j (omega (arith, max-to-le (saturations springs) n p h)))
               (least-is (weighed_at w springs n) (max_to (saturations springs) n));
           count = omega (arith, k.count, below_all (saturations springs) n p h);
@@ -67,7 +66,7 @@ module _ (w : Weights) (springs : ℕ → Spring) (n : ℕ) where
 
       -- a further look passes: the division has the step
       pub ends-divided : weighed_at w springs n q ≡ true
-          → SearchEnds (weighed_at w springs n) (saturations springs) n (record { step = At (divided w springs n p q); looks = looks + 1 })
+          → SearchEnds (weighed_at w springs n) (saturations springs) n (record { step = Some (divided w springs n p q); looks = looks + 1 })
       ends-divided t =
           let K = max_to (saturations springs) n in
           let l : LeastAt (weighed_at w springs n) K (divided w springs n p q) =
@@ -76,7 +75,7 @@ module _ (w : Weights) (springs : ℕ → Spring) (n : ℕ) where
           by_le (divided w springs n p q) p (λ h. true-false l.passes (fails-up-to _ h)) (λ h. h) in
           let same = below-same (saturations springs) n p q (divided w springs n p q) x.least above (divided-most w springs n p q) in
           record {
-            least = least-unique (weighed_at w springs n) K (At (divided w springs n p q)) _ l (least-is (weighed_at w springs n) K);
+            least = least-unique (weighed_at w springs n) K (Some (divided w springs n p q)) _ l (least-is (weighed_at w springs n) K);
             count = omega (arith, k.count, same, looks-above (saturations springs) n (divided w springs n p q) (omega arith));
           }
 

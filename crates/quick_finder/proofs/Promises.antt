@@ -1,9 +1,9 @@
 -- One promise for every call: no second answer, looks included; the plain finder's outcome where policy 4 is not asked; and it depends on
 -- the first n records only.
 -- Assumes nothing.
+use Rattle.kinds.specs.Answer.{Answer}
 use Rattle.ground.proofs.Kit.{ℕ, ◌≤◌, ◌<◌, true, false, List, ◌≡◌, refl, sym, ◌∙◌, ap₂}
 use Rattle.kinds.specs.declared.Task.{Task}
-use Rattle.kinds.specs.declared.Answer.{Answer}
 use Rattle.kinds.specs.declared.Settings.{Settings}
 use Rattle.kinds.specs.Limits.{most_tasks}
 use Rattle.kinds.specs.Policy.{meant, is_first_fit}

@@ -1,19 +1,18 @@
 -- Demand 3, whole: demand 2's outcome, and the looks, for every input.
 -- Assumes nothing.
-use Rattle.std.specs.Prelude.{ℕ, ◌≤◌, min, false, List, ◌≡◌, length}
+use Rattle.kinds.specs.Answer.{Verdict}
+use Rattle.std.specs.Prelude.{ℕ, ◌≤◌, min, false, List, ◌≡◌, length, Ok, Err}
 use Rattle.kinds.specs.declared.Task.{Task}
 use Rattle.kinds.specs.declared.Settings.{Settings}
 use Rattle.policy.specs.Under.{looks_under, most_looks}
-use Rattle.kinds.specs.declared.Verdict.{Verdict}
-use Rattle.kinds.specs.declared.Verdict.TheVariants.{Accepted, Refused}
 use Rattle.admission.specs.Admission.{admission}
 use Rattle.outcome.specs.Plan.{outcome, Meets}
 use Rattle.quick_finder.specs.declared.Looked.{Looked}
 
 -- "Refusals before 7 report 0."
 abbrev pub looks_after : Verdict → ℕ → ℕ
-looks_after (Refused r) looks = 0
-looks_after Accepted looks = looks
+looks_after (Err r) looks = 0
+looks_after (Ok _) looks = looks
 
 -- the looks of a call on the first n of some records
 unfoldable pub looks : Settings → List Task → ℕ → ℕ → ℕ

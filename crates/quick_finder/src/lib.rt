@@ -3,29 +3,29 @@
 // `specs/Handover`; the promise of `find` is `outcome false` of `outcome` with the looks of `specs/Looked`.
 #![tactic(auto)]
 
-ghost use Rattle.std.specs.Prelude.{false, ◌≡◌, ◌≤◌, ◌<◌};
+ghost use Rattle.std.specs.Prelude.{false, ◌≡◌, ◌≤◌, ◌<◌, Some};
 ghost use Rattle.kinds.specs.Answer.{handed};
 ghost use Rattle.kinds.specs.Limits.{most_tasks};
 ghost use Rattle.springs.specs.Spring.{saturations};
-ghost use Rattle.springs.specs.Columns.{spring_in};
-ghost use Rattle.springs.specs.Handover.{SumIs, Springy, Beside};
+ghost use Rattle.springs.specs.Springs.{spring_in};
+ghost use Rattle.springs.specs.Handover.{Empty, SumIs, Beside};
 ghost use Rattle.policy.specs.Weighed.{weighed_at};
 ghost use Rattle.policy.specs.Handover.{Light};
 ghost use Rattle.quick_finder.specs.Search.{due_after, OneLook};
-ghost use Rattle.outcome.specs.Plan.{decided, found};
+ghost use Rattle.outcome.specs.Plan.{found};
 ghost use Rattle.outcome.specs.Handover.{Searchable};
-ghost use Rattle.quick_finder.specs.Handover.{SearchEnds, SearchUnder};
+ghost use Rattle.quick_finder.specs.Handover.{SearchEnds, SearchUnder, LookedSprung};
 ghost use Rattle.quick_finder.specs.Looked.{MeetsLooked};
 
-use ground::{Ended, Step};
-use kinds::{Answer, Settings, Table, Verdict};
-use policy::Weights;
-use springs::Columns;
+use ground::Ended;
+use kinds::{Refusal, Settings, Table};
+use policy::{Test, Total, Weights};
+use springs::Springs;
 
-// What the quick finder answers, and the looks that it made.
+// What the quick finder answers, and the looks that it made, which stand beside the answer since a refusal by 7 has looks too.
 #[derive(Clone, Copy)]
 pub struct Looked {
-    pub answer: Answer,
+    pub answer: Result<u32, Refusal>,
     pub looks: u32,
 }
 
@@ -45,81 +45,67 @@ pub fn find(table: Table, settings: Settings, periods: &mut [u32], processors: &
     ensures { MeetsLooked settings table.rows table.n periods.old processors.old result
         periods.new processors.new }
 {
-    let n = table.n;
-    let room = ground::shorter(periods.len(), processors.len());
-    let mut block = [0u32; Columns::ROOM];
-    let gate = admission::gate_of(settings, false, n, room);
-    let Verdict::Accepted = gate else {
-        return refused(gate);
-    };
-    let bad = springs::springs_of(table, settings.swap, settings.notch, &mut block);
-    let admission = admission::judge(bad, n);
-    let Verdict::Accepted = admission else {
-        return refused(admission);
-    };
-    let ended = search_under(settings, &mut block, n);
-    let step = ended.step;
-    let answer = outcome::decide(admission, step);
-    outcome::grant(answer, settings, &mut block, n, periods, processors);
+    let room = periods.len().min(processors.len());
+    let mut springs = Springs::new(settings.notch);
+    let looked = find_step(table, settings, room, &mut springs);
+    if let Ok(step) = looked.answer {
+        outcome::grant(step, settings, &mut springs, periods, processors);
+    }
+    looked
+}
+
+// The answer, for outputs of which the shorter has so much room.
+pub fn decide(table: Table, settings: Settings, room: usize) -> Result<u32, Refusal>
+    ensures { handed result ≡ found false settings table.rows table.n room }
+{
+    let mut springs = Springs::new(settings.notch);
+    find_step(table, settings, room, &mut springs).answer
+}
+
+// The answer and its looks; the springs of the table are taken in. No look is made of a table that is not admitted.
+fn find_step(table: Table, settings: Settings, room: usize, springs: &mut Springs) -> Looked
+    requires { Empty settings.notch springs.old }
+    ensures { LookedSprung settings table.rows table.n room result.answer result.looks springs.new }
+{
+    if let Err(refusal) = admission::admit(table, settings, false, room, springs) {
+        return Looked {
+            answer: Err(refusal),
+            looks: 0,
+        };
+    }
+    let ended = search_under(settings, springs);
     Looked {
-        answer,
+        answer: ended.step.ok_or(Refusal::NoStepPasses),
         looks: ended.looks,
     }
 }
 
-// The answer, for outputs of which the shorter has so much room.
-pub fn decide(table: Table, settings: Settings, room: usize) -> Answer
-    ensures { handed result ≡ found false settings table.rows table.n room }
-{
-    let n = table.n;
-    let mut block = [0u32; Columns::ROOM];
-    let gate = admission::gate_of(settings, false, n, room);
-    let Verdict::Accepted = gate else {
-        return outcome::decide(gate, Step::Nothing);
-    };
-    let bad = springs::springs_of(table, settings.swap, settings.notch, &mut block);
-    let admission = admission::judge(bad, n);
-    let Verdict::Accepted = admission else {
-        return outcome::decide(admission, Step::Nothing);
-    };
-    let ended = search_under(settings, &mut block, n);
-    let step = ended.step;
-    outcome::decide(admission, step)
-}
-
-// What a verdict that refuses the call comes to. No look is made.
-fn refused(verdict: Verdict) -> Looked
-    ensures { (handed result.answer ≡ decided verdict Step.Nothing) × (result.looks ≡ 0) }
-{
-    let looks = 0;
-    Looked {
-        answer: outcome::decide(verdict, Step::Nothing),
-        looks,
-    }
-}
-
 // The search of the settings' edition.
-fn search_under(settings: Settings, block: &mut [u32; Columns::ROOM], n: usize) -> Ended
-    requires { Searchable settings block.old n }
-    ensures { SearchUnder settings block.old n result × Beside block.old block.new }
+fn search_under(settings: Settings, springs: &mut Springs) -> Ended
+    requires { Searchable settings springs.old }
+    ensures { SearchUnder settings springs.old result × Beside springs.old springs.new }
 {
     let asked = settings.policy;
-    let w = policy::weights_of(asked.meant(), settings.m, n);
+    let test = Test {
+        policy: asked.meant(),
+        m: settings.m,
+    };
+    let w = test.weights(springs.n);
     if settings.tests_charge() {
-        return halve::least_step(w, settings.notch, block, n);
+        return halve::least_step(w, springs);
     }
-    search_columns(w, block, n)
+    search_columns(w, springs)
 }
 
 // One look under edition 1: tests the policy at the step due, and raises the count by one.
-fn look(w: Weights, block: &[u32; Columns::ROOM], n: usize, before: Search, due: u32) -> Search
-    requires { Light w × Springy block.now n × (before.looks ≤ most_tasks)
-        × (due ≡ due_after (saturations (spring_in block.now)) n before) × (0 < before.looks → before.step < due) }
-    ensures { OneLook (weighed_at w (spring_in block.now) n) (saturations (spring_in block.now)) n before result
-        × SumIs (spring_in block.now) n result.step result.sum }
+fn look(w: Weights, springs: &Springs, before: Search, due: u32) -> Search
+    requires { Light w × (before.looks ≤ most_tasks)
+        × (Some due ≡ due_after (saturations (spring_in springs.now)) springs.now.n before) × (0 < before.looks → before.step < due) }
+    ensures { OneLook (weighed_at w (spring_in springs.now) springs.now.n) (saturations (spring_in springs.now)) springs.now.n before result
+        × SumIs (spring_in springs.now) springs.now.n result.step result.sum }
 {
-    let total = policy::total_at(block, n, due);
-    let passed = policy::weighs(w, total);
+    let total = Total::at(springs, due);
+    let passed = w.hold(total);
     Search {
         looks: before.looks + 1,
         step: due,
@@ -130,9 +116,9 @@ fn look(w: Weights, block: &[u32; Columns::ROOM], n: usize, before: Search, due:
 }
 
 // The looks of edition 1, one after the other, and the division at the end.
-fn search_columns(w: Weights, block: &[u32; Columns::ROOM], n: usize) -> Ended
-    requires { Light w × Springy block.now n }
-    ensures { SearchEnds (weighed_at w (spring_in block.now) n) (saturations (spring_in block.now)) n result }
+fn search_columns(w: Weights, springs: &Springs) -> Ended
+    requires { Light w }
+    ensures { SearchEnds (weighed_at w (spring_in springs.now) springs.now.n) (saturations (spring_in springs.now)) springs.now.n result }
 {
     let start = Search {
         looks: 0,
@@ -141,28 +127,26 @@ fn search_columns(w: Weights, block: &[u32; Columns::ROOM], n: usize) -> Ended
         passed: false,
         sum: 0,
     };
-    let mut search = look(w, block, n, start, 0);
+    let mut search = look(w, springs, start, 0);
     if search.passed {
         return Ended {
-            step: Step::At(0),
+            step: Some(0),
             looks: search.looks,
         };
     }
-    let mut due = division::next_due(block, n, 0);
-    while due != 0 {
+    while let Some(due) = division::next_due(springs, search.step) {
         let sum = search.sum;
-        search = look(w, block, n, search, due);
+        search = look(w, springs, search, due);
         if search.passed {
-            let step = division::divide(w, block, n, search.from, search.step, sum);
+            let step = division::divide(w, springs, search.from, search.step, sum);
             return Ended {
-                step: Step::At(step),
+                step: Some(step),
                 looks: search.looks,
             };
         }
-        due = division::next_due(block, n, search.step);
     }
     Ended {
-        step: Step::Nothing,
+        step: None,
         looks: search.looks,
     }
 }

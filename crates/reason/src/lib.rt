@@ -2,14 +2,14 @@
 // Contracts cite `specs/Reason` and, for a task that needs several cores, `specs/WideReason`.
 #![tactic(auto)]
 
-ghost use Rattle.std.specs.Prelude.{◌≡◌};
+ghost use Rattle.std.specs.Prelude.{◌≡◌, Some};
 ghost use Rattle.reason.specs.Reason.{notch_reason, reason_of, reason_number};
 ghost use Rattle.reason.specs.WideReason.{rest_reason, wide_reason_of, wide_reason_number};
 
 use kinds::Task;
 use wide_task::WideTask;
 
-// The limits of a record, in the documents' order, and that none is broken.
+// The limits of a record, in the documents' order.
 #[derive(Clone, Copy)]
 pub enum Reason {
     NoCost,
@@ -20,16 +20,14 @@ pub enum Reason {
     NoNotch,
     TminOffNotch,
     TmaxOffNotch,
-    Good,
 }
 
 impl Reason {
-    // Its number: 0 where no limit is broken, then the limits in their order, and last that there is no notch to stand on.
+    // Its number from 1: the limits in their order, and last that there is no notch to stand on; 0 is told where no limit is broken.
     pub fn number(self) -> u16
-        ensures { result ≡ reason_number self }
+        ensures { result ≡ reason_number (Some self) }
     {
         match self {
-            Reason::Good => 0,
             Reason::NoCost => 1,
             Reason::CostAboveTmin => 2,
             Reason::TminAboveTmax => 3,
@@ -42,7 +40,8 @@ impl Reason {
     }
 }
 
-// The limits of a task that needs several cores, in the documents' order, and that none is broken.
+// The limits of a task that needs several cores, in the documents' order. Three of them are those of a record too, and are checked here again: an
+// enum of those three, with a conversion to either kind, would be longer.
 #[derive(Clone, Copy)]
 pub enum WideReason {
     NoSpan,
@@ -53,16 +52,14 @@ pub enum WideReason {
     TminAboveTmax,
     TmaxTooLong,
     ElasticityTooGreat,
-    Good,
 }
 
 impl WideReason {
-    // Its number: 0 where no limit is broken, then the limits in their order.
+    // Its number from 1: the limits in their order; 0 is told where no limit is broken.
     pub fn number(self) -> u16
-        ensures { result ≡ wide_reason_number self }
+        ensures { result ≡ wide_reason_number (Some self) }
     {
         match self {
-            WideReason::Good => 0,
             WideReason::NoSpan => 1,
             WideReason::SpanNotBelowTmin => 2,
             WideReason::SpanNotBelowCost => 3,
@@ -76,80 +73,84 @@ impl WideReason {
 }
 
 // The first limit that a record breaks where a swap costs so much and a notch is so wide.
-pub fn reason_of(task: Task, swap: u16, notch: u16) -> Reason
+#[tactic(auto, unfolding(crate::specs::Reason::reason_of))]
+pub fn reason_of(task: Task, swap: u16, notch: u16) -> Option<Reason>
     ensures { result ≡ reason_of swap notch task }
 {
     let cost = task.cost(swap);
     if task.c < 1 {
-        return Reason::NoCost;
+        return Some(Reason::NoCost);
     }
-    if (task.tmin as u64) < cost {
-        return Reason::CostAboveTmin;
+    if u64::from(task.tmin) < cost {
+        return Some(Reason::CostAboveTmin);
     }
     if task.tmax < task.tmin {
-        return Reason::TminAboveTmax;
+        return Some(Reason::TminAboveTmax);
     }
     if Task::LONGEST_PERIOD < task.tmax {
-        return Reason::TmaxTooLong;
+        return Some(Reason::TmaxTooLong);
     }
     if Task::GREATEST_ELASTICITY < task.e {
-        return Reason::ElasticityTooGreat;
+        return Some(Reason::ElasticityTooGreat);
     }
     off_notch(task, notch)
 }
 
 // The same of a record that keeps document 01's limits: whether it stands on notches.
-fn off_notch(task: Task, notch: u16) -> Reason
+#[tactic(auto, unfolding(crate::specs::Reason::notch_reason))]
+fn off_notch(task: Task, notch: u16) -> Option<Reason>
     ensures { result ≡ notch_reason notch task }
 {
     if notch == 0 {
-        return Reason::NoNotch;
+        return Some(Reason::NoNotch);
     }
-    let q = notch as u32;
+    let q = u32::from(notch);
     if task.tmin % q != 0 {
-        return Reason::TminOffNotch;
+        return Some(Reason::TminOffNotch);
     }
     if task.tmax % q != 0 {
-        return Reason::TmaxOffNotch;
+        return Some(Reason::TmaxOffNotch);
     }
-    Reason::Good
+    None
 }
 
 // The first limit that a task which needs several cores breaks.
-pub fn wide_reason_of(task: WideTask) -> WideReason
+#[tactic(auto, unfolding(crate::specs::WideReason::wide_reason_of))]
+pub fn wide_reason_of(task: WideTask) -> Option<WideReason>
     ensures { result ≡ wide_reason_of task }
 {
     if task.l < 1 {
-        return WideReason::NoSpan;
+        return Some(WideReason::NoSpan);
     }
     if task.tmin <= task.l {
-        return WideReason::SpanNotBelowTmin;
+        return Some(WideReason::SpanNotBelowTmin);
     }
-    if task.c <= task.l as u64 {
-        return WideReason::SpanNotBelowCost;
+    if task.c <= u64::from(task.l) {
+        return Some(WideReason::SpanNotBelowCost);
     }
-    if task.c <= task.tmax as u64 {
-        return WideReason::CostNotAboveTmax;
+    if task.c <= u64::from(task.tmax) {
+        return Some(WideReason::CostNotAboveTmax);
     }
     wide_rest(task)
 }
 
 // The same of one that keeps the limits of its span and whose cost is above Tmax: the rest of Ask 4's, and Tmax and E as in document 01.
-fn wide_rest(task: WideTask) -> WideReason
+#[tactic(auto, unfolding(crate::specs::WideReason::rest_reason))]
+fn wide_rest(task: WideTask) -> Option<WideReason>
     ensures { result ≡ rest_reason task }
 {
-    let costliest = WideTask::MOST_TMINS * ground::widened(task.tmin);
+    let costliest = WideTask::MOST_TMINS * u64::from(task.tmin);
     if costliest < task.c {
-        return WideReason::CostTooGreat;
+        return Some(WideReason::CostTooGreat);
     }
     if task.tmax < task.tmin {
-        return WideReason::TminAboveTmax;
+        return Some(WideReason::TminAboveTmax);
     }
     if WideTask::LONGEST_PERIOD < task.tmax {
-        return WideReason::TmaxTooLong;
+        return Some(WideReason::TmaxTooLong);
     }
     if WideTask::GREATEST_ELASTICITY < task.e {
-        return WideReason::ElasticityTooGreat;
+        return Some(WideReason::ElasticityTooGreat);
     }
-    WideReason::Good
+    None
 }

@@ -1,22 +1,16 @@
--- Bytes copied one by one to a place of a buffer, as `put_bytes` goes.
+-- Bytes copied to a place of a buffer, as `put_bytes` goes.
 -- Assumes nothing.
-use Rattle.ground.proofs.Kit.{ℕ, ◌+◌, ◌<◌, List, ◌≡◌, ◌∙◌, ap, add-one, arith, length, get_or, set, take}
-use native.Mathlib.Nat.{add-zero}
-use lib.Seq.{take-suc, take_all}
-use Rattle.field.specs.Handover.{Put}
-use Rattle.field.proofs.Stores.{put-none, put_then}
-use Rattle.numeral.proofs.Digits.{put_byte}
+use Rattle.ground.proofs.Kit.{ℕ, ◌+◌, ◌≤◌, List, ◌++◌, ◌≡◌, refl, sym, ◌∙◌, ap, arith, length, take, drop}
+use borrow.Rule.Slice.PartMut.{put_mid}
+use Rattle.std.proofs.lemmas.Slice.{put_mid-paste}
+use Rattle.std.proofs.lemmas.List.{take_all}
+use Rattle.std.proofs.lemmas.List.Edits.{sets-eq}
+use Rattle.field.specs.Handover.{stored, Put}
 
-module _ (old bytes : List ℕ) (at : ℕ) where
-  pub copied_none : Put old at 0 (take 0 bytes) (at + 0) old
-  copied_none = rw (add-zero at) (put-none old at)
-
-  module _ (out : List ℕ) (i : ℕ) (p : Put old at i (take i bytes) (at + i) out) where
-    pub copied_more : i < length bytes → Put old at (i + 1) (take (i + 1) bytes) (at + (i + 1)) (set out (at + i) (get_or bytes i 0))
-    copied_more h =
-        let front : take (i + 1) bytes ≡ _ = ap (λ (k : ℕ). take k bytes) (add-one i) ∙ take-suc bytes i 0 h in
-        let place : at + (i + 1) ≡ at + i + 1 = omega arith in
-        rw (front, place) (put_then p (put_byte out (at + i) (get_or bytes i 0)))
-
-    pub copied_all : i ≡ length bytes → Put old at (length bytes) bytes (at + length bytes) out
-    copied_all e = rw (← e) (rw (take_all i bytes (omega arith)) at p)
+pub copied : (old bytes now : List ℕ) (at k : ℕ) → at + length bytes ≤ length old → now ≡ bytes → length bytes ≡ k
+    → Put old at (length bytes) bytes (at + length bytes) (put_mid at k old now)
+unfolding stored
+copied old bytes now at k room e f =
+    let part = put_mid-paste at k old now bytes (length bytes) e f refl in
+    let whole = ap (λ (run : List ℕ). take at old ++ run ++ drop (at + length bytes) old) (take_all (length bytes) bytes (omega arith)) in
+    record { next-is = refl; run_long = refl; new_is = part ∙ (whole ∙ sym (sets-eq bytes old at room)) }

@@ -1,11 +1,12 @@
 -- Bytes at the front of a buffer, as stores leave them, and that no second answer has them there.
 -- Assumes nothing.
 use Rattle.ground.proofs.Kit.{ℕ, ◌≤◌, List, ◌++◌, ◌≡◌, sym, ◌∙◌, ap, ap₂, arith, length, take, drop, length-append, length-drop, take-append-drop}
-use Rattle.ground.proofs.Kit.{length-take-le}
+use Rattle.ground.proofs.Kit.{length-take-le, Result, Ok, Err}
 use lib.Seq.{take_at, drop_at}
+use Rattle.kinds.specs.declared.Refusal.{Refusal}
 use Rattle.field.specs.Handover.{Put}
 use Rattle.field.proofs.Stores.{stored-front}
-use Rattle.refusal_line.specs.Fronts.{Fronts}
+use Rattle.refusal_line.specs.Fronts.{Fronts, FrontsOrRefuses, CountOrLine}
 
 -- some bytes and then what stood there
 pub fronts : (bytes old new : List ℕ) (k : ℕ) → k ≡ length bytes → k ≤ length old → new ≡ bytes ++ drop k old → Fronts bytes old k new
@@ -31,3 +32,9 @@ fronts-one bytes old j k new other a b =
     let e : j ≡ k = a.taken ∙ (ap length front ∙ sym b.taken) in
     let back : drop j new ≡ drop k other = a.kept ∙ (ap (λ (n : ℕ). drop n old) e ∙ sym b.kept) in
     (e, sym (take-append-drop j new) ∙ (ap₂ ◌++◌ front back ∙ take-append-drop k other))
+
+-- the line that is written in the place of a refusal stands for it
+pub line_written : (bytes old mid new : List ℕ) (k : ℕ) (answer : Result ℕ Refusal) → FrontsOrRefuses bytes old answer mid → CountOrLine answer mid k new
+    → Fronts bytes old k new
+line_written bytes old mid new k (Ok j) front count = rw (count.0, count.1) front
+line_written bytes old mid new k (Err refusal) front line = rw (front.0, ← front.1) line

@@ -1,71 +1,50 @@
-// The refusals of documents 01 and 02 in words, put at a place of a lent buffer as `text` puts them. Printed by `scripts/refusals rattle` from
-// docs/refusals.txt: the sentences stand in one run of bytes, as a check costs seconds for each place where bytes are lent.
+// The refusals of documents 01 and 02 as people read them, for every program that shows one.
 #![tactic(auto)]
 
-// One sentence on what to look at, of the refusal of a number at a place; none has the number 0.
-pub fn sentence(out: &mut [u8], at: usize, number: u16, place: usize) -> usize {
-    text::nth_form(
-        out,
-        at,
-        b"|\
-            the policy must be 1, 2, 4 or 5|\
-            m must be 1 to 16 (policy 5: 1), q not 0, the edition 1 or 2|\
-            a table has at most 32 tasks|\
-            policy 4 has no quick finder and no margin|\
-            what is lent is too short: # entries or bytes are needed|\
-            task # is not good|\
-            the tasks fit at no step, not even at full compression|\
-            the sheet ends at byte #, where more is due|\
-            the sheet must begin with a settings count of 2 to 5|\
-            the result count is neither 0 nor the task count|\
-            the sheet is over at byte #, and bytes follow|\
-            there is no task # to leave|\
-            the processor proposed for task # is not 1 to m|\
-            the tasks proposed for processor # do not fit it|\
-            policy 3 is withdrawn: choose 1, 2, 4 or 5|\
-            line # (from 0) is not four numbers C,Tmin,Tmax,E|\
-            the period of task # is 0 or above 1,000,000,000|\
-            there are tasks without results: fill the sheet in first|\
-            the result of task # is not the one that we give|",
-        number,
-        &[place as u64],
-    )
+mod words;
+
+use kinds::Refusal;
+use std::fmt;
+pub use words::{Because, Sentence, WideBecause};
+
+// The line of a refusal: its number, its place and one sentence on what to look at, and behind them the reason of a record that is not good.
+#[derive(Clone, Copy)]
+pub struct Line<B> {
+    refusal: Refusal,
+    reason: Option<B>,
 }
 
-// Why a record is not good, behind a colon, by the number of the reason; nothing of a good one, whose number is 0.
-pub fn reason(out: &mut [u8], at: usize, number: u16) -> usize {
-    text::nth_form(
-        out,
-        at,
-        b"|\
-            : C is 0|\
-            : C + 2w is above Tmin|\
-            : Tmin is above Tmax|\
-            : Tmax is above 1,000,000,000|\
-            : E is above 1,000,000|\
-            : Tmin is not a multiple of q|\
-            : Tmax is not a multiple of q|\
-            : q is 0|",
-        number,
-        &[],
-    )
+impl<B> Line<B> {
+    // The line of a refusal of a table; the reason is that of the record which it says is not good.
+    pub fn of<R: Copy, F: Fn(R) -> Option<B>>(refusal: Refusal, rows: &[R], because: F) -> Line<B>
+        requires { (row : R) → F.pre because row }
+    {
+        let reason = match refusal {
+            Refusal::BadRecord(place) => rows.get(place).and_then(|row| because(*row)),
+            _ => None,
+        };
+        Line { refusal, reason }
+    }
 }
 
-// The same for a job that needs several cores.
-pub fn wide_reason(out: &mut [u8], at: usize, number: u16) -> usize {
-    text::nth_form(
-        out,
-        at,
-        b"|\
-            : L is 0|\
-            : L is not below Tmin|\
-            : L is not below C|\
-            : C is not above Tmax|\
-            : C is above 16 times Tmin|\
-            : Tmin is above Tmax|\
-            : Tmax is above 1,000,000,000|\
-            : E is above 1,000,000|",
-        number,
-        &[],
-    )
+impl Line<Because> {
+    // The line of a refusal that stands alone.
+    pub fn alone(refusal: Refusal) -> Line<Because> {
+        Line {
+            refusal,
+            reason: None,
+        }
+    }
+}
+
+impl<B: fmt::Display> fmt::Display for Line<B> {
+    fn fmt<W: fmt::Write>(&self, f: &mut fmt::Formatter<W>) -> fmt::Result {
+        let number = self.refusal.number();
+        let place = self.refusal.place();
+        write!(f, "refused {number} at {place}: {}", Sentence(self.refusal))?;
+        match &self.reason {
+            Some(reason) => write!(f, "{reason}"),
+            None => Ok(()),
+        }
+    }
 }

@@ -2,7 +2,7 @@
 -- `nothing-told`; each refusal is given exactly when its sentence holds, `relief-exactly`; no second answer fits, `no-second-relief`; and the
 -- call depends on the first n records only, `relieved-same`.
 -- Assumes nothing.
-use Rattle.ground.proofs.Kit.{ℕ, ◌-◌, ◌≤◌, ◌<◌, Bool, true, false, not, List, [], ◌∷◌, ◌++◌, ◌≡◌, refl, sym, ◌∙◌, ap, arith, ltb}
+use Rattle.ground.proofs.Kit.{ℕ, ◌-◌, ◌≤◌, ◌<◌, Bool, true, false, not, List, [], ◌∷◌, ◌++◌, ◌≡◌, refl, sym, ◌∙◌, ap, arith, ltb, Ok, Err}
 use Rattle.ground.proofs.Kit.{length, get_or, drop}
 use Rattle.ground.specs.Choice.{both}
 use Rattle.ground.specs.Folds.{list_to}
@@ -13,10 +13,7 @@ use Rattle.kinds.specs.declared.Task.{Task}
 use Rattle.kinds.specs.declared.Settings.{Settings}
 use Rattle.kinds.specs.declared.Refusal.{Refusal}
 use Rattle.kinds.specs.declared.Refusal.TheVariants.{TooManyTasks, PolicyNotServed, OutputTooShort}
-use Rattle.kinds.specs.declared.Answer.{Answer}
-use Rattle.kinds.specs.declared.Verdict.{Verdict}
-use Rattle.kinds.specs.declared.Verdict.TheVariants.{Accepted, Refused}
-use Rattle.kinds.specs.Answer.{handed, handed_verdict}
+use Rattle.kinds.specs.Answer.{handed, handed_verdict, Answer, Verdict}
 use Rattle.kinds.specs.Chain.{Check, ◌when◌, first_of, Exactly, numbers_given}
 use Rattle.kinds.specs.Limits.{most_tasks, most_processors}
 use Rattle.kinds.specs.Policy.{meant, is_first_fit, is_one_core}
@@ -26,20 +23,29 @@ use Rattle.kinds.proofs.Chains.{first-without, verdict-exactly}
 use Rattle.policy.specs.Under.{least_under}
 use Rattle.admission.specs.Admission.{admission}
 use Rattle.admission.specs.Chain.{settings_chain, record_check}
-use Rattle.admission.proofs.Chain.{Ready, admitted}
+use Rattle.admission.proofs.Chain.{Ready, admitted, not-admitted}
 use Rattle.admission.proofs.Exactly.{ready-admitted, admission-chain}
 use Rattle.admission.proofs.Gated.{answer-same}
 use Rattle.outcome.specs.Plan.{found}
 use Rattle.order.proofs.Gone.{from_low}
 use Rattle.keep.specs.Keep.{left_row, left_rows}
 use Rattle.keep.proofs.Rows.{left-good}
-use Rattle.relief.specs.declared.Relief.{Relief}
 use Rattle.relief.specs.Chain.{relief_chain}
-use Rattle.relief.specs.Relief.{one_more, told_step, least_told, least_with, least_without, admitted_by, Relieved, told_with, relieved, MeetsRelief}
+use Rattle.relief.specs.Relief.{one_more, told_step, least_told, least_with, least_without, admitted_by, Answered, verdict_of, told_of, Relieved, told_with, relieved, MeetsRelief}
 use Rattle.relief.proofs.Telling.{told, told-least, told-roomy, told-refused, told-agrees, admitted-is}
 
-relief : Verdict → ℕ → ℕ → Relief
-relief verdict least more = record { verdict = verdict; least = least; more = more }
+-- a verdict as an answer that tells nothing
+answered-as : Verdict → Answered
+answered-as (Ok _) = Ok (record { least = 0; more = 0 })
+answered-as (Err r) = Err r
+
+-- an answer is known by its verdict and what it tells
+answered-one : (r q : Answered) → verdict_of r ≡ verdict_of q → (told_of r).least ≡ (told_of q).least → (told_of r).more ≡ (told_of q).more → r ≡ q
+unfolding answered-as
+answered-one (Ok x) (Ok y) v l m = λ i. Ok (record { least = l i; more = m i })
+answered-one (Ok x) (Err b) v l m = not-admitted (Ok tt) v refl
+answered-one (Err a) (Ok y) v l m = not-admitted (Ok tt) (sym v) refl
+answered-one (Err a) (Err b) v l m = ap answered-as v
 
 -- policy 4 is never refused by 4 where it is served
 served-never : (first : Bool) → both first (not true) ≡ false
@@ -48,8 +54,8 @@ served-never false = refl
 
 -- number and place are those of the verdict
 verdict-handed : (v : Verdict) (least more : ℕ) (front : List ℕ) (n : ℕ) (old : List ℕ) → (told_with v least more front n old).handed ≡ handed_verdict v
-verdict-handed Accepted least more front n old = refl
-verdict-handed (Refused r) least more front n old = refl
+verdict-handed (Ok _) least more front n old = refl
+verdict-handed (Err r) least more front n old = refl
 
 module _ (s : Settings) (rows : List Task) (n : ℕ) (old : List ℕ) where
   pub relief-handed : (relieved s rows n old).handed ≡ handed_verdict (admission true s rows n (length old))
@@ -57,14 +63,11 @@ module _ (s : Settings) (rows : List Task) (n : ℕ) (old : List ℕ) where
   relief-handed = verdict-handed (admission true s rows n (length old)) _ _ _ n old
 
   -- no second answer, nor a second content of the output
-  pub no-second-relief : (r q : Relief) (xs ys : List ℕ) → MeetsRelief (relieved s rows n old) r xs → MeetsRelief (relieved s rows n old) q ys
+  pub no-second-relief : (r q : Answered) (xs ys : List ℕ) → MeetsRelief (relieved s rows n old) r xs → MeetsRelief (relieved s rows n old) q ys
       → (r ≡ q) × (xs ≡ ys)
-  unfolding relief
   no-second-relief r q xs ys a b =
-      let same = verdict-one r.verdict q.verdict (a.answers ∙ sym b.answers) in
-      let least = a.least-told ∙ sym b.least-told in
-      let more = a.more-told ∙ sym b.more-told in
-      (λ i. relief (same i) (least i) (more i), a.leaves ∙ sym b.leaves)
+      let same = verdict-one (verdict_of r) (verdict_of q) (a.answers ∙ sym b.answers) in
+      (answered-one r q same (a.least-told ∙ sym b.least-told) (a.more-told ∙ sym b.more-told), a.leaves ∙ sym b.leaves)
 
   -- the admission, which serves policy 4, so that 4 may be left out
   relief-chain : admission true s rows n (length old) ≡ first_of (relief_chain s rows n (length old))
@@ -73,11 +76,11 @@ module _ (s : Settings) (rows : List Task) (n : ℕ) (old : List ℕ) where
       let before : List Check = settings_chain s ++ (TooManyTasks n when ltb most_tasks n ∷ []) in
       let four = PolicyNotServed when both first (not true) in
       let after : List Check = OutputTooShort n when ltb (length old) n ∷ record_check s rows n ∷ [] in
-      admission-chain true s rows n (length old) ∙ first-without Refused Accepted before four after (served-never first)
+      admission-chain true s rows n (length old) ∙ first-without Err (Ok tt) before four after (served-never first)
 
   -- 1, 15, 2, 3, 5 and 6 are given exactly when their sentences hold, the earlier first
-  pub relief-exactly : (r : Relief) (xs : List ℕ) → MeetsRelief (relieved s rows n old) r xs
-      → Exactly (relief_chain s rows n (length old)) tt tt (handed_verdict r.verdict)
+  pub relief-exactly : (r : Answered) (xs : List ℕ) → MeetsRelief (relieved s rows n old) r xs
+      → Exactly (relief_chain s rows n (length old)) tt tt (handed_verdict (verdict_of r))
   relief-exactly r xs x =
       rw (x.answers ∙ relief-handed)
       (verdict-exactly (relief_chain s rows n (length old)) (admission true s rows n (length old)) relief-chain)
@@ -87,13 +90,13 @@ module _ (s : Settings) (rows : List Task) (n : ℕ) (old : List ℕ) where
   relief-numbers = refl
 
   -- a refusal tells nothing and writes nothing
-  pub nothing-told : (r : Refusal) → admission true s rows n (length old) ≡ Refused r
+  pub nothing-told : (r : Refusal) → admission true s rows n (length old) ≡ Err r
       → ((relieved s rows n old).least ≡ 0) × ((relieved s rows n old).more ≡ 0) × ((relieved s rows n old).without ≡ old)
   unfolding relieved
   nothing-told r e = (rw e, rw e, rw e)
 
   -- an admitted call tells the least step, that with one processor more, and for each task that without it, and nothing past them moves
-  module _ (admits : admission true s rows n (length old) ≡ Accepted) where
+  module _ (admits : admission true s rows n (length old) ≡ (Ok tt)) where
     pub least-is : (relieved s rows n old).least ≡ least_told s rows n
     unfolding relieved
     least-is = rw admits
@@ -114,7 +117,7 @@ module _ (s : Settings) (rows : List Task) (n : ℕ) (old : List ℕ) where
     ready = admitted true s rows n (length old) admits
 
     -- the table as it stands, whatever the room
-    roomy : admission true s rows n n ≡ Accepted
+    roomy : admission true s rows n n ≡ (Ok tt)
     roomy = ready-admitted true s rows n n enough
       where
         enough : Ready true s rows n n
@@ -206,15 +209,15 @@ module _ (s : Settings) (rows : List Task) (n : ℕ) (old : List ℕ) (answer : 
     verdict-is : verdict ≡ admission true s rows n (length old)
     verdict-is = v ∙ admitted-is s rows n (length old) answer is
 
-    pub untold : (r : Refusal) → verdict ≡ Refused r → MeetsRelief (relieved s rows n old) (record { verdict = verdict; least = 0; more = 0 }) old
+    pub untold : (r : Refusal) → verdict ≡ Err r → MeetsRelief (relieved s rows n old) (Err r) old
     unfolding relieved
     untold r e =
         let a = sym verdict-is ∙ e in
-        record { answers = rw (a, e); least-told = rw a; more-told = rw a; leaves = rw a }
+        record { answers = rw a; least-told = rw a; more-told = rw a; leaves = rw a }
 
     -- what the telling relies on
-    module _ (e : verdict ≡ Accepted) where
-      admits : admission true s rows n (length old) ≡ Accepted
+    module _ (e : verdict ≡ (Ok tt)) where
+      admits : admission true s rows n (length old) ≡ (Ok tt)
       admits = sym verdict-is ∙ e
 
       pub may-tell : (s.m ≤ most_processors) × (n ≤ most_tasks) × (n ≤ length old)
@@ -222,12 +225,12 @@ module _ (s : Settings) (rows : List Task) (n : ℕ) (old : List ℕ) (answer : 
 
       pub all_told : (least : ℕ) → least ≡ told_step (handed answer) → (more : ℕ) → more ≡ least_with s rows n
           → (new : List ℕ) → new ≡ list_to (least_without s rows n) n ++ drop n old
-          → MeetsRelief (relieved s rows n old) (record { verdict = verdict; least = least; more = more }) new
+          → MeetsRelief (relieved s rows n old) (Ok (record { least = least; more = more })) new
       unfolding relieved
       all_told least l more m new w =
           let a = admits in
           let step = l ∙ (ap told_step is ∙ (told-roomy s rows n (length old) a ∙ sym (least-least s rows n old a))) in
-          record { answers = rw (a, e); least-told = rw a step; more-told = rw a m; leaves = rw a w }
+          record { answers = rw a; least-told = rw a step; more-told = rw a m; leaves = rw a w }
 
 -- two tables that agree on the first n records are relieved alike; where n is too large, any two are
 module _ (s : Settings) (xs ys : List Task) (n : ℕ) (old : List ℕ) (same : n ≤ most_tasks → (i : ℕ) → i < n → at xs i ≡ at ys i) where

@@ -1,19 +1,14 @@
 -- A least step told as a number: `told_at` and `told_none` say what it tells, `told-least` that of an admitted table it is demand 2's search; and
 -- what a finder's answer says of the admission, `admitted-is`.
 -- Assumes nothing.
-use Rattle.ground.proofs.Kit.{ℕ, ◌+◌, ◌≤◌, ◌<◌, true, false, List, ◌≡◌, refl, ap, arith, eq-eqb, ne_eqb}
+use Rattle.ground.specs.Least.{Step}
+use Rattle.ground.proofs.Kit.{ℕ, ◌+◌, ◌≤◌, ◌<◌, true, false, List, ◌≡◌, refl, ap, arith, eq-eqb, ne_eqb, Ok, Err, Some, None}
 use lib.Dec.{lit<}
-use Rattle.ground.specs.declared.Step.{Step}
-use Rattle.ground.specs.declared.Step.TheVariants.{At, Nothing}
 use Rattle.kinds.specs.declared.Task.{Task}
 use Rattle.kinds.specs.declared.Settings.{Settings}
 use Rattle.kinds.specs.declared.Refusal.{Refusal}
 use Rattle.kinds.specs.declared.Refusal.TheVariants.{NoStepPasses}
-use Rattle.kinds.specs.declared.Answer.{Answer}
-use Rattle.kinds.specs.declared.Answer.TheVariants as answer
-use Rattle.kinds.specs.declared.Verdict.{Verdict}
-use Rattle.kinds.specs.declared.Verdict.TheVariants.{Accepted, Refused}
-use Rattle.kinds.specs.Answer.{accepted, refused, handed, step_of}
+use Rattle.kinds.specs.Answer.{accepted, refused, handed, step_of, Answer, Verdict}
 use Rattle.kinds.specs.Refusal.{number_of}
 use Rattle.kinds.specs.Limits.{most_tasks}
 use Rattle.kinds.specs.Policy.{meant, is_first_fit}
@@ -37,22 +32,22 @@ refused-told r = rw (ne_eqb (number_of r) 0 (λ e. omega (arith, refusal-numbere
 
 -- a step as a number, and none as 0
 abbrev pub told : Step → ℕ
-told (At k) = k + 1
-told Nothing = 0
+told (Some k) = k + 1
+told None = 0
 
 -- what is told of a decision
-decided-told : (step : Step) → told_step (decided Accepted step) ≡ told step
-decided-told (At k) = refl
-decided-told Nothing = refl
+decided-told : (step : Step) → told_step (decided (Ok tt) step) ≡ told step
+decided-told (Some k) = refl
+decided-told None = refl
 
 decided-at : (a : Verdict) (step : Step) (k : ℕ) → told_step (decided a step) ≡ k + 1 → decided a step ≡ accepted k
-decided-at (Refused r) step k e = absurd (omega (arith, refused-told r))
-decided-at Accepted (At j) k e = let q : j ≡ k = omega arith in ap accepted q
-decided-at Accepted Nothing k e = absurd (omega arith)
+decided-at (Err r) step k e = absurd (omega (arith, refused-told r))
+decided-at (Ok _) (Some j) k e = let q : j ≡ k = omega arith in ap accepted q
+decided-at (Ok _) None k e = absurd (omega arith)
 
-decided-none : (a : Verdict) (step : Step) → (a ≡ Accepted → ⊥) → told_step (decided a step) ≡ 0
-decided-none (Refused r) step h = refused-told r
-decided-none Accepted step h = absurd (h refl)
+decided-none : (a : Verdict) (step : Step) → (a ≡ (Ok tt) → ⊥) → told_step (decided a step) ≡ 0
+decided-none (Err r) step h = refused-told r
+decided-none (Ok _) step h = absurd (h refl)
 
 module _ (s : Settings) (rows : List Task) (n : ℕ) where
   -- k + 1 tells that the plain finder accepts at step k
@@ -66,17 +61,17 @@ module _ (s : Settings) (rows : List Task) (n : ℕ) where
   told_none e z = let q = rw (eq-eqb (found true s rows n n).number 0 z) at e in omega (arith, q)
 
   -- of an admitted table it is demand 2's least step
-  pub told-least : admission true s rows n n ≡ Accepted → least_told s rows n ≡ told (least_under s rows n)
+  pub told-least : admission true s rows n n ≡ (Ok tt) → least_told s rows n ≡ told (least_under s rows n)
   unfolding least_told found
   told-least a = rw a (decided-told (least_under s rows n))
 
-  pub told-refused : (admission true s rows n n ≡ Accepted → ⊥) → least_told s rows n ≡ 0
+  pub told-refused : (admission true s rows n n ≡ (Ok tt) → ⊥) → least_told s rows n ≡ 0
   unfolding least_told found
   told-refused h = decided-none (admission true s rows n n) (least_under s rows n) h
 
   module _ (room : ℕ) where
     -- and so is what an answer for any room tells of an admitted table
-    pub told-roomy : admission true s rows n room ≡ Accepted → told_step (found true s rows n room) ≡ told (least_under s rows n)
+    pub told-roomy : admission true s rows n room ≡ (Ok tt) → told_step (found true s rows n room) ≡ told (least_under s rows n)
     unfolding found
     told-roomy a = rw a (decided-told (least_under s rows n))
 
@@ -86,10 +81,10 @@ module _ (s : Settings) (rows : List Task) (n : ℕ) where
     admitted-is x e = by (admission true s rows n room) (least_under s rows n) (admission-unlike true s rows n room) e
       where
         by : (a : Verdict) (step : Step) → Unlike 7 a → handed x ≡ decided a step → admitted_by x ≡ a
-        by (Refused r) step other e =
-            rw (handed-one x (answer.Refused r) e, ne_eqb (number_of r) 7 other)
-        by Accepted (At k) other e = rw (handed-one x (answer.Accepted k) e)
-        by Accepted Nothing other e = rw (handed-one x (answer.Refused NoStepPasses) e)
+        by (Err r) step other e =
+            rw (handed-one x (Err r) e, ne_eqb (number_of r) 7 other)
+        by (Ok _) (Some k) other e = rw (handed-one x (Ok k) e)
+        by (Ok _) None other e = rw (handed-one x (Err NoStepPasses) e)
 
     -- where policy 4 is not asked, a finder that does not serve it finds the same
     pub found-serves : is_first_fit (meant s.policy) ≡ false → found true s rows n room ≡ found false s rows n room
@@ -98,8 +93,8 @@ module _ (s : Settings) (rows : List Task) (n : ℕ) where
 
     -- 32 bits hold the step, and the step + 1
     pub step-low : (x : Answer) → handed x ≡ found true s rows n room → step_of x < 4294967295
-    step-low (answer.Refused r) e = lit< tt
-    step-low (answer.Accepted k) e =
+    step-low (Err r) e = lit< tt
+    step-low (Ok k) e =
         let g = accepting true s rows n room k e in
         let within = (step-at (meant s.policy) s.m (loads_under s rows n) n (full_under s rows n) k g.step).within in
         let full = full-most (rows_under s rows n) n (all-good s.swap s.notch rows n g.ready.none-bad) in

@@ -1,16 +1,13 @@
 -- What would relieve a table: the least step as it stands, with one processor more, and with one task fewer, each by demand 2's own definition.
 -- Assumes nothing.
-use Rattle.std.specs.Prelude.{ℕ, ◌+◌, ◌-◌, true, List, ◌++◌, ◌≡◌, eqb, length, drop}
+use Rattle.std.specs.Prelude.{ℕ, ◌+◌, ◌-◌, true, List, ◌++◌, ◌≡◌, eqb, length, drop, Result, Ok, Err}
 use Rattle.ground.specs.Choice.{pick}
 use Rattle.ground.specs.Folds.{list_to}
 use Rattle.kinds.specs.declared.Task.{Task}
 use Rattle.kinds.specs.declared.Settings.{Settings}
+use Rattle.kinds.specs.declared.Refusal.{Refusal}
 use Rattle.kinds.specs.declared.Refusal.TheVariants.{NoStepPasses}
-use Rattle.kinds.specs.declared.Answer.{Answer}
-use Rattle.kinds.specs.declared.Answer.TheVariants as answer
-use Rattle.kinds.specs.declared.Verdict.{Verdict}
-use Rattle.kinds.specs.declared.Verdict.TheVariants.{Accepted, Refused}
-use Rattle.kinds.specs.Answer.{Handed, NumberAndPlace, accepted, refused, handed_verdict}
+use Rattle.kinds.specs.Answer.{Handed, NumberAndPlace, accepted, refused, handed_verdict, Answer, Verdict}
 use Rattle.kinds.specs.Refusal.{number_of}
 use Rattle.kinds.specs.Settings.{settings}
 use Rattle.admission.specs.Admission.{admission}
@@ -40,8 +37,8 @@ least_without s rows n i = least_told s (left_rows rows n i) (n - 1)
 
 -- whether a finder's answer comes of an admitted table: a step, or that none passes
 abbrev pub admitted_by : Answer → Verdict
-admitted_by (answer.Accepted step) = Accepted
-admitted_by (answer.Refused r) = pick (eqb (number_of r) (number_of NoStepPasses)) Accepted (Refused r)
+admitted_by (Ok step) = (Ok tt)
+admitted_by (Err r) = pick (eqb (number_of r) (number_of NoStepPasses)) (Ok tt) (Err r)
 
 -- number and place, the least step as the table stands and with one processor more, and the lent output as the call leaves it
 pub record Relieved : Type 0 where
@@ -52,17 +49,29 @@ pub record Relieved : Type 0 where
 
 -- an admitted call tells both and writes the rest; a refusal tells nothing, and "lent buffers keep their bytes" in it
 abbrev pub told_with : Verdict → ℕ → ℕ → List ℕ → ℕ → List ℕ → Relieved
-told_with Accepted least more front n old = record { handed = accepted tt; least = least; more = more; without = front ++ drop n old }
-told_with (Refused r) least more front n old = record { handed = refused tt r; least = 0; more = 0; without = old }
+told_with (Ok _) least more front n old = record { handed = accepted tt; least = least; more = more; without = front ++ drop n old }
+told_with (Err r) least more front n old = record { handed = refused tt r; least = 0; more = 0; without = old }
 
 -- the plain finder's admission, refusals 1 to 6, and where it admits the least steps
 unfoldable pub relieved : Settings → List Task → ℕ → List ℕ → Relieved
 relieved s rows n old =
     told_with (admission true s rows n (length old)) (least_told s rows n) (least_with s rows n) (list_to (least_without s rows n) n) n old
 
--- a verdict, what is told with it, and the output at exit are those
-pub record MeetsRelief (o : Relieved) (r : Relief) (without : List ℕ) : Type 0 where
-  pub answers : handed_verdict r.verdict ≡ o.handed
-  pub least-told : r.least ≡ o.least
-  pub more-told : r.more ≡ o.more
+-- what a call answers: what is told, or the refusal, with which nothing is
+abbrev pub Answered : Type 0
+Answered = Result Relief Refusal
+
+abbrev pub verdict_of : Answered → Verdict
+verdict_of (Ok told) = Ok tt
+verdict_of (Err r) = Err r
+
+abbrev pub told_of : Answered → Relief
+told_of (Ok told) = told
+told_of (Err r) = record { least = 0; more = 0 }
+
+-- an answer, what is told with it, and the output at exit are those
+pub record MeetsRelief (o : Relieved) (r : Answered) (without : List ℕ) : Type 0 where
+  pub answers : handed_verdict (verdict_of r) ≡ o.handed
+  pub least-told : (told_of r).least ≡ o.least
+  pub more-told : (told_of r).more ≡ o.more
   pub leaves : without ≡ o.without

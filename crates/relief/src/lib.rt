@@ -9,18 +9,22 @@ ghost use Rattle.kinds.specs.Limits.{most_tasks, most_processors};
 ghost use Rattle.outcome.specs.Plan.{found};
 ghost use Rattle.relief.specs.Relief.{told_step, least_told, one_more, least_without, admitted_by, relieved, MeetsRelief};
 
-use kinds::{Answer, Refusal, Settings, Table, Verdict};
+use kinds::{Refusal, Settings, Table};
 
-// Whether the table is admitted, and where it is its least step and that with one processor more, told as numbers: 0 for none, else the step + 1.
+// The least step of a table and that with one processor more, told as numbers, as they cross to C: 0 for none, else the step + 1.
 #[derive(Clone, Copy)]
 pub struct Relief {
-    pub verdict: Verdict,
     pub least: u32,
     pub more: u32,
 }
 
+impl Relief {
+    // What stands for it where a call is refused.
+    pub const NONE: Relief = Relief { least: 0, more: 0 };
+}
+
 // What the plain finder answers for an output with so much room, by the quick finder's search wherever that serves the policy.
-fn decide(table: Table, settings: Settings, room: usize) -> Answer
+fn decide(table: Table, settings: Settings, room: usize) -> Result<u32, Refusal>
     ensures { handed result ≡ found true settings table.rows table.n room }
 {
     let asked = settings.policy;
@@ -32,14 +36,11 @@ fn decide(table: Table, settings: Settings, room: usize) -> Answer
 }
 
 // The step of an answer as a number: 0 for a refusal, else the step + 1.
-fn tell(answer: Answer) -> u32
+fn tell(answer: Result<u32, Refusal>) -> u32
     requires { step_of answer < 4294967295 }
     ensures { result ≡ told_step (handed answer) }
 {
-    match answer {
-        Answer::Accepted(step) => step + 1,
-        Answer::Refused(_) => 0,
-    }
+    answer.map_or(0, |step| step + 1)
 }
 
 // The least step of a table, told as a number.
@@ -79,46 +80,31 @@ fn write_without(table: Table, settings: Settings, out: &mut [u32])
     ensures { out.new ≡ list_to (least_without settings table.rows table.n) table.n ++ drop table.n out.old }
 {
     let n = table.n;
+    // Over the numbers: each is a task that is left out, and an entry that is written.
     for i in 0..n {
         out[i] = least_without(table, settings, i);
     }
 }
 
 // Whether an answer comes of an admitted table: that no step passes is said of such a one only.
-fn admitted(answer: Answer) -> Verdict
+fn admitted(answer: Result<u32, Refusal>) -> Result<(), Refusal>
     ensures { result ≡ admitted_by answer }
 {
-    let Answer::Refused(refusal) = answer else {
-        return Verdict::Accepted;
-    };
-    let seven = Refusal::NoStepPasses;
-    if refusal.number() == seven.number() {
-        return Verdict::Accepted;
+    match answer {
+        Ok(_) | Err(Refusal::NoStepPasses) => Ok(()),
+        Err(refusal) => Err(refusal),
     }
-    Verdict::Refused(refusal)
 }
 
 // The least step of a table, that with one processor more, and for each task that without it, which is written to the lent output; or the
 // refusal, which tells and writes nothing.
-pub fn relief_of(table: Table, settings: Settings, without: &mut [u32]) -> Relief
+pub fn relief_of(table: Table, settings: Settings, without: &mut [u32]) -> Result<Relief, Refusal>
     ensures { MeetsRelief (relieved settings table.rows table.n without.old) result without.new }
 {
     let answer = decide(table, settings, without.len());
-    let verdict = admitted(answer);
-    let Verdict::Accepted = verdict else {
-        let told = 0;
-        return Relief {
-            verdict,
-            least: told,
-            more: told,
-        };
-    };
+    admitted(answer)?;
     let least = tell(answer);
     let more = least_told(table, one_more(settings));
     write_without(table, settings, without);
-    Relief {
-        verdict,
-        least,
-        more,
-    }
+    Ok(Relief { least, more })
 }

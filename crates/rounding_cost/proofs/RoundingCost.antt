@@ -1,20 +1,16 @@
 -- Ask 13, said of a call's answer under policy 1, under both editions, with any swap cost and any notch: an accepted plan's exact sum of cost over period is at
 -- most m, and where the exact sum of cost over Tmin spares one part for each task the call is accepted at step 0; a part less is enough.
 -- Assumes nothing.
-use Rattle.ground.proofs.Kit.{ℕ, ◌+◌, ◌-◌, ◌*◌, ◌≤◌, ◌<◌, min, Bool, true, List, ◌≡◌, sym, ◌∙◌, ap, subst, le_trans, mul-le-mul_right, arith, length, get_or}
+use Rattle.ground.proofs.Kit.{ℕ, ◌+◌, ◌-◌, ◌*◌, ◌≤◌, ◌<◌, min, Bool, true, List, ◌≡◌, sym, ◌∙◌, ap, subst, le_trans, mul-le-mul_right, arith, length, get_or, Ok, Some}
 use Rattle.ground.proofs.Kit.{le-leb, leb-true}
 use Rattle.ground.specs.Folds.{sum_to}
-use Rattle.ground.specs.declared.Step.TheVariants.{At}
 use Rattle.ground.proofs.Buffer.{list_at}
 use Rattle.ground.proofs.Least.{least-here}
 use Rattle.kinds.specs.declared.Task.{Task}
 use Rattle.kinds.specs.declared.Settings.{Settings}
 use Rattle.kinds.specs.declared.Policy.{Policy}
 use Rattle.kinds.specs.declared.Policy.TheVariants.{Pooled}
-use Rattle.kinds.specs.declared.Verdict.TheVariants as verdict
-use Rattle.kinds.specs.declared.Answer.{Answer}
-use Rattle.kinds.specs.declared.Answer.TheVariants.{Accepted}
-use Rattle.kinds.specs.Answer.{accepted, handed}
+use Rattle.kinds.specs.Answer.{accepted, handed, Answer}
 use Rattle.kinds.specs.Limits.{scale}
 use Rattle.kinds.specs.Policy.{meant}
 use Rattle.kinds.specs.Task.{at}
@@ -71,7 +67,7 @@ module _ (serves : Bool) (s : Settings) (rows : List Task) (n : ℕ) (pooled : m
 
   -- "an accepted plan's exact sum of cost over period is at most m", and its bottom is not 0
   pub plan-within : (k : ℕ) (old_periods old_processors periods processors : List ℕ)
-      → Meets (outcome serves s rows n old_periods old_processors) (Accepted k) periods processors
+      → Meets (outcome serves s rows n old_periods old_processors) (Ok k) periods processors
       → (within_processors s rows n periods ≡ true) × (0 < (cost_over_period s rows n periods).bottom)
   unfolding outcome periods_at
   plan-within k old_periods old_processors periods processors x =
@@ -91,7 +87,7 @@ module _ (serves : Bool) (s : Settings) (rows : List Task) (n : ℕ) (pooled : m
       (le-leb _ _ most, some)
 
   -- of a call that is refused by none of 1 to 6: where m × S − (n − 1) is enough, step 0 is accepted
-  pub fewer-parts-accepted : (room : ℕ) → admission serves s rows n room ≡ verdict.Accepted → spares_fewer_parts s rows n ≡ true
+  pub fewer-parts-accepted : (room : ℕ) → admission serves s rows n room ≡ (Ok tt) → spares_fewer_parts s rows n ≡ true
       → found serves s rows n room ≡ accepted 0
   unfolding least_step
   fewer-parts-accepted room a spares =
@@ -101,7 +97,7 @@ module _ (serves : Bool) (s : Settings) (rows : List Task) (n : ℕ) (pooled : m
       let room-for-all : n ≤ s.m * scale = omega (arith, ready.passed.m-some, ready.passed.few) in
       let sum = sum-within scale tasks load n (s.m * scale) room-for-all (tmin-some room ready) (near room ready) (leb-true _ _ spares) in
       let passing = sum-pooled (meant s.policy) s.m load n pooled sum in
-      sym (admitted-found serves s rows n room verdict.Accepted (sym a) (At 0)
+      sym (admitted-found serves s rows n room (Ok tt) (sym a) (Some 0)
       (least-here (passes_at (meant s.policy) s.m (loads_under s rows n) n) (full_under s rows n) 0 (λ j h. absurd (omega arith)) (omega arith) passing))
 
   -- what spares n parts spares n − 1
@@ -112,13 +108,13 @@ module _ (serves : Bool) (s : Settings) (rows : List Task) (n : ℕ) (pooled : m
       le-leb _ _ (le_trans (leb-true _ _ spares) (mul-le-mul_right wanted.bottom less))
 
   -- "if the exact sum of cost over Tmin, times S, is at most m × S − n for n tasks, step 0 is accepted"
-  pub zero-accepted : (room : ℕ) → admission serves s rows n room ≡ verdict.Accepted → spares_parts s rows n ≡ true → found serves s rows n room ≡ accepted 0
+  pub zero-accepted : (room : ℕ) → admission serves s rows n room ≡ (Ok tt) → spares_parts s rows n ≡ true → found serves s rows n room ≡ accepted 0
   zero-accepted room a spares = fewer-parts-accepted room a (spares-fewer spares)
 
   -- both of a finder's answer
   module _ (answer : Answer) (old_periods old_processors periods processors : List ℕ)
       (meets : Meets (outcome serves s rows n old_periods old_processors) answer periods processors)
-      (admits : admission serves s rows n (min (length old_periods) (length old_processors)) ≡ verdict.Accepted) where
+      (admits : admission serves s rows n (min (length old_periods) (length old_processors)) ≡ (Ok tt)) where
     pub zero-answered : spares_parts s rows n ≡ true → handed answer ≡ accepted 0
     unfolding outcome
     zero-answered spares = meets.answers ∙ zero-accepted _ admits spares

@@ -1,2 +1,3 @@
 pub mod Shares
 pub mod Periods
+pub mod Jobs

@@ -8,7 +8,6 @@ use Rattle.kinds.specs.declared.Settings.{Settings}
 use Rattle.kinds.specs.Task.{priced, Good, is_within, is_on_notch, is_good}
 use Rattle.kinds.proofs.Records.{good-is}
 use Rattle.share.specs.Share.{share_at, share_under}
-use Rattle.share.specs.Handover.{ShareIs}
 use Rattle.share.proofs.Tasks.{share-some}
 
 module _ (s : Settings) (t : Task) (k : ℕ) where
@@ -53,6 +52,6 @@ module _ (s : Settings) (t : Task) (k r : ℕ) where
     pub shared-bad : not b ≡ true → r ≡ 0 → r ≡ share_under s t k
     shared-bad taken z = z ∙ sym (bad-shared s t k (sym e ∙ not-true b taken))
 
-    pub shared-good : not b ≡ false → (paid : Task) → paid ≡ priced s.swap t → ShareIs (share_at paid k) r → r ≡ share_under s t k
+    pub shared-good : not b ≡ false → (paid : Task) → paid ≡ priced s.swap t → r ≡ share_at paid k → r ≡ share_under s t k
     shared-good left paid is share =
-        share.is ∙ (ap (λ (p : Task). share_at p k) is ∙ sym (good-shared s t k (sym e ∙ not-false b left)))
+        share ∙ (ap (λ (p : Task). share_at p k) is ∙ sym (good-shared s t k (sym e ∙ not-false b left)))

@@ -1,10 +1,8 @@
 -- What the functions hand each other.
 -- Assumes nothing.
-use Rattle.std.specs.Prelude.{ℕ, ◌≤◌, ◌≡◌}
-use Rattle.kinds.specs.Limits.{scale}
+use Rattle.std.specs.Prelude.{ℕ}
+use Rattle.rule.specs.Job as job
 
--- a share, with the bounds that its callers need
-pub record ShareIs (share r : ℕ) : Type 0 where
-  pub is : r ≡ share
-  pub some : 1 ≤ r
-  pub most : r ≤ scale
+-- a share of a job that one processor serves: some of it, and no more than all
+abbrev pub ShareIs : ℕ → ℕ → Type 0
+ShareIs share r = job.ShareIs 0 1 share r

@@ -1,4 +1,4 @@
-pub mod RowFields
+pub mod Rows
 pub mod Stages
 pub mod HeadSteps
 pub mod RowSteps

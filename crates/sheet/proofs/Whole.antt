@@ -1,12 +1,11 @@
 -- What an accepted reading says of the bytes. The last laws are those that other crates use: `accepted-whole` from what was handed back,
 -- `whole-accepted` the other way.
 -- Assumes nothing.
-use Rattle.ground.proofs.Kit.{ℕ, ◌≤◌, true, List, ◌≡◌, sym, ◌∙◌, ap, arith, leb, length, leb-true}
+use Rattle.ground.proofs.Kit.{ℕ, ◌≤◌, true, List, ◌≡◌, sym, ◌∙◌, ap, arith, leb, length, leb-true, Ok}
 use Rattle.kinds.specs.declared.Sheet.{Sheet}
 use Rattle.kinds.specs.declared.Refusal.TheVariants.{TooManyTasks, SheetEnds, WrongSettingsCount, WrongResultCount, BytesAfterLast}
 use Rattle.kinds.specs.Limits.{most_settings, most_tasks}
 use Rattle.kinds.specs.Answer.{Handed, accepted}
-use Rattle.kinds.specs.declared.Verdict.TheVariants as verdict
 use Rattle.kinds.proofs.Chain.{judged-passed}
 use Rattle.sheet.specs.declared.Reading.{Reading}
 use Rattle.sheet.specs.Sections.{numbers_place, tasks_place, records_place, results_place, granted_place, settings_fit, results_fit}
@@ -63,5 +62,5 @@ module _ (s : List ℕ) where
       head-whole s (omega arith) w.settings (omega arith) w.few ∙ sym (rows_whole s (omega arith) w.fit e)
 
   -- the same of what the reader hands back
-  pub accepted-whole : (r : Reading) → handed_reading r ≡ read_sheet s → r.verdict ≡ verdict.Accepted → Whole s × (r.sheet ≡ sheet_in s)
+  pub accepted-whole : (r : Reading) → handed_reading r ≡ read_sheet s → r.verdict ≡ (Ok tt) → Whole s × (r.sheet ≡ sheet_in s)
   accepted-whole r e v = whole r.sheet (sym e ∙ rw v)

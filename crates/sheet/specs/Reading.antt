@@ -1,6 +1,6 @@
 -- What a reading of a list of bytes is: the sheet, or the first refusal from the left.
 -- Assumes nothing.
-use Rattle.std.specs.Prelude.{ℕ, Bool, List, leb, length, replicate}
+use Rattle.std.specs.Prelude.{ℕ, Bool, List, leb, length, replicate, Result, Ok, Err}
 use Rattle.kinds.specs.declared.Task.{Task}
 use Rattle.kinds.specs.declared.Granted.{Granted}
 use Rattle.kinds.specs.declared.Sheet.{Sheet}
@@ -9,7 +9,7 @@ use Rattle.kinds.specs.declared.Refusal.TheVariants.{TooManyTasks, SheetEnds, Wr
 use Rattle.kinds.specs.Limits.{most_settings, most_tasks}
 use Rattle.kinds.specs.Settings.{fill_ins, settings_of}
 use Rattle.kinds.specs.Task.{no_tasks}
-use Rattle.kinds.specs.Answer.{Handed, accepted, demanded, handed_with}
+use Rattle.kinds.specs.Answer.{Handed, accepted, refused, demanded, handed_with}
 use Rattle.field.specs.Number.{u16_at}
 use Rattle.sheet.specs.declared.Reading.{Reading}
 use Rattle.sheet.specs.Sections.{setting_size, task_size, granted_size, settings_place, numbers_place, tasks_place, records_place, results_place, granted_place, end_place, settings_fit, results_fit}
@@ -81,6 +81,11 @@ read_sheet s =
     (due s (records_place (settings_count s))
     (judge (leb (task_count s) most_tasks) (TooManyTasks (tasks_place (settings_count s))) (read_rows s))))
 
--- a reading in document 01's numbers
+-- a sheet that was read, or the refusal with a sheet of zeros, in document 01's numbers
+abbrev pub handed_sheet : Result Sheet Refusal → Handed Sheet
+handed_sheet (Ok sheet) = accepted sheet
+handed_sheet (Err refusal) = refused no_sheet refusal
+
+-- and as the reader hands it back
 abbrev pub handed_reading : Reading → Handed Sheet
 handed_reading r = handed_with r.verdict r.sheet

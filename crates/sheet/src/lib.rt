@@ -1,23 +1,34 @@
-// Reading a station sheet: fields, rows and sections on a slice and a place, and above them the `Reader`, which holds both. Callers use
-// `read`. Contracts cite `specs/Sections`, `specs/Rows`, `specs/Reading` and `specs/Handover`.
+// Reading a station sheet: its sections on a slice and a place, by the rows of `row`, and above them the `Reader`, which holds both. Callers
+// use `read`. Contracts cite `specs/Sections`, `specs/Reading` and `specs/Handover`.
 #![tactic(auto)]
 
-ghost use Rattle.std.specs.Prelude.{◌≡◌, ◌≤◌, length};
+ghost use Rattle.std.specs.Prelude.{◌≡◌, ◌≤◌, IfOk, IfErr, Ok, Err, length};
 ghost use Rattle.kinds.specs.Limits.{most_settings, most_tasks};
-ghost use Rattle.kinds.specs.Answer.{refused};
 ghost use Rattle.sheet.specs.Sections.{settings_place, records_place, results_place, end_place, longest_sheet, settings_fit, results_fit};
-ghost use Rattle.sheet.specs.Rows.{task_field, granted_field, setting_rows, task_rows, granted_rows};
-ghost use Rattle.sheet.specs.Reading.{no_sheet, read_rows, read_sheet, handed_reading};
-ghost use Rattle.sheet.specs.Handover.{Begins, HeadTells, head_refused, head_alone, SettingsFew, place_after, RestDue};
+ghost use Rattle.sheet.specs.Reading.{no_sheet, handed_sheet, read_rows, read_sheet, handed_reading};
+ghost use Rattle.sheet.specs.Handover.{Begins, HeadTells};
 
-use field::{Field16, Field32};
-use kinds::{Granted, Refusal, Results, Settings, Sheet, Table, Task, Verdict};
+pub mod row;
 
-// A verdict, and the sheet: that of zeros where it was refused.
+use kinds::{Granted, Refusal, Results, Settings, Sheet, Table, Task};
+
+// A verdict, and the sheet: that of zeros where it was refused. Document 01: "A refused reading hands back a sheet of zeros", which a
+// Result has no place for.
 #[derive(Clone, Copy)]
 pub struct Reading {
-    pub verdict: Verdict,
+    pub verdict: Result<(), Refusal>,
     pub sheet: Sheet,
+}
+
+impl Reading {
+    // The sheet that was read, or the refusal.
+    pub fn accepted(self) -> Result<Sheet, Refusal>
+        ensures ok { IfOk result (λ x. (self.verdict ≡ Ok tt) × (x ≡ self.sheet)) }
+        ensures err { IfErr result (λ q. self.verdict ≡ Err q) }
+    {
+        self.verdict?;
+        Ok(self.sheet)
+    }
 }
 
 // How many bytes a count, a setting, a task record and a result take.
@@ -62,317 +73,109 @@ pub fn end_place(settings: usize, n: usize, r: usize) -> usize
 }
 
 // Ask 2, 9: whether a sheet may have so many settings.
+#[tactic(auto, unfolding(crate::specs::Sections::settings_fit))]
 pub fn settings_fit(settings: usize) -> bool
     ensures { result ≡ settings_fit settings }
 {
-    Settings::FEWEST <= settings && settings <= Settings::MOST
+    (Settings::FEWEST..=Settings::MOST).contains(&settings)
 }
 
 // Document 01, 10: whether a sheet with n tasks may have r results.
+#[tactic(auto, unfolding(crate::specs::Sections::results_fit))]
 pub fn results_fit(r: usize, n: usize) -> bool
     ensures { result ≡ results_fit r n }
 {
-    if r == 0 {
-        return true;
-    }
-    r == n
-}
-
-// A task record and the place after it, or that it is not there.
-#[derive(Clone, Copy)]
-enum TaskField {
-    Value(Task, usize),
-    Missing,
-}
-
-// A result and the place after it, or that it is not there.
-#[derive(Clone, Copy)]
-enum GrantedField {
-    Value(Granted, usize),
-    Missing,
-}
-
-// The task record at a place.
-fn read_task(s: &[u8], at: usize) -> TaskField
-    ensures { result ≡ task_field s.now at }
-{
-    let Field32::Value(c, at_tmin) = field::read_u32(s, at) else {
-        return TaskField::Missing;
-    };
-    let Field32::Value(tmin, at_tmax) = field::read_u32(s, at_tmin) else {
-        return TaskField::Missing;
-    };
-    let Field32::Value(tmax, at_e) = field::read_u32(s, at_tmax) else {
-        return TaskField::Missing;
-    };
-    let Field32::Value(e, next) = field::read_u32(s, at_e) else {
-        return TaskField::Missing;
-    };
-    TaskField::Value(Task::new(c, tmin, tmax, e), next)
-}
-
-// The result at a place.
-fn read_granted(s: &[u8], at: usize) -> GrantedField
-    ensures { result ≡ granted_field s.now at }
-{
-    let Field32::Value(period, at_processor) = field::read_u32(s, at) else {
-        return GrantedField::Missing;
-    };
-    let Field16::Value(processor, next) = field::read_u16(s, at_processor) else {
-        return GrantedField::Missing;
-    };
-    GrantedField::Value(Granted { period, processor }, next)
-}
-
-// The numbers of the settings section: whether all are there, the numbers, and the place after them.
-#[derive(Clone, Copy)]
-struct SettingRows {
-    whole: bool,
-    rows: [u16; Settings::MOST],
-    next: usize,
-}
-
-// The rows of the task section: whether all are there, the rows, and the place after them.
-#[derive(Clone, Copy)]
-struct TaskRows {
-    whole: bool,
-    rows: [Task; Table::MOST_TASKS],
-    next: usize,
-}
-
-// The rows of the results section: whether all are there, the rows, and the place after them.
-#[derive(Clone, Copy)]
-struct GrantedRows {
-    whole: bool,
-    rows: [Granted; Table::MOST_TASKS],
-    next: usize,
-}
-
-// The n settings from a place on, the others filled in; the first field that is not there ends them.
-fn read_settings(s: &[u8], from: usize, n: usize) -> SettingRows
-    requires { (n ≤ most_settings) × (from ≤ length s.now) }
-    ensures { result ≡ setting_rows s.now from n }
-{
-    let mut rows = Settings::FILL_INS;
-    let mut at = from;
-    for i in 0..n {
-        let Field16::Value(row, next) = field::read_u16(s, at) else {
-            return SettingRows {
-                whole: false,
-                rows: Settings::FILL_INS,
-                next: from,
-            };
-        };
-        rows[i] = row;
-        at = next;
-    }
-    SettingRows {
-        whole: true,
-        rows,
-        next: at,
-    }
-}
-
-// The n task records from a place on; the first field that is not there ends them.
-fn read_tasks(s: &[u8], from: usize, n: usize) -> TaskRows
-    requires { (n ≤ most_tasks) × (from ≤ length s.now) }
-    ensures { result ≡ task_rows s.now from n }
-{
-    let mut rows = [Task::NONE; Table::MOST_TASKS];
-    let mut at = from;
-    for i in 0..n {
-        let TaskField::Value(row, next) = read_task(s, at) else {
-            return TaskRows {
-                whole: false,
-                rows: [Task::NONE; Table::MOST_TASKS],
-                next: from,
-            };
-        };
-        rows[i] = row;
-        at = next;
-    }
-    TaskRows {
-        whole: true,
-        rows,
-        next: at,
-    }
-}
-
-// The n results from a place on; the first field that is not there ends them.
-fn read_results(s: &[u8], from: usize, n: usize) -> GrantedRows
-    requires { (n ≤ most_tasks) × (from ≤ length s.now) }
-    ensures { result ≡ granted_rows s.now from n }
-{
-    let mut rows = [Granted::NONE; Table::MOST_TASKS];
-    let mut at = from;
-    for i in 0..n {
-        let GrantedField::Value(row, next) = read_granted(s, at) else {
-            return GrantedRows {
-                whole: false,
-                rows: [Granted::NONE; Table::MOST_TASKS],
-                next: from,
-            };
-        };
-        rows[i] = row;
-        at = next;
-    }
-    GrantedRows {
-        whole: true,
-        rows,
-        next: at,
-    }
+    r == 0 || r == n
 }
 
 // Document 01: "a sheet of zeros (policy: the further choice 0)"; no number is filled in.
+#[tactic(auto, unfolding(crate::specs::Reading::no_sheet))]
 pub fn no_sheet() -> Sheet
     ensures { result ≡ no_sheet }
 {
-    let settings = Settings::of([0; Settings::MOST]);
-    let table = Table::new([Task::NONE; Table::MOST_TASKS], 0);
-    let results = Results {
-        rows: [Granted::NONE; Table::MOST_TASKS],
-        n: 0,
-    };
     Sheet {
         count: 0,
-        settings,
-        table,
-        results,
+        settings: Settings::from([0; Settings::MOST]),
+        table: Table {
+            rows: [Task::NONE; Table::MOST_TASKS],
+            n: 0,
+        },
+        results: Results {
+            rows: [Granted::NONE; Table::MOST_TASKS],
+            n: 0,
+        },
     }
 }
 
-// A refused reading.
-fn refusing(refusal: Refusal) -> Reading
-    ensures { handed_reading result ≡ refused no_sheet refusal }
-{
-    let sheet = no_sheet();
-    let verdict = Verdict::Refused(refusal);
-    Reading { verdict, sheet }
-}
-
-// The settings count, the settings and the task count, or the refusal.
+// The head of a sheet: its settings count, its settings and its task count.
 #[derive(Clone, Copy)]
-enum Head {
-    Value(usize, Settings, usize),
-    Refused(Refusal),
+struct Head {
+    count: usize,
+    settings: Settings,
+    n: usize,
 }
 
 // The settings section and the task count, from the place where a sheet starts. Document 01: "a count is judged as soon as its two bytes
 // are there."
-fn read_head(s: &[u8], start: usize) -> Head
+fn read_head(s: &[u8], start: usize) -> Result<Head, Refusal>
     requires { start ≡ settings_place }
     ensures { HeadTells s.now result }
 {
-    let Field16::Value(number, first) = field::read_u16(s, start) else {
-        return Head::Refused(Refusal::SheetEnds(s.len()));
+    let Some((number, first)) = field::read::<u16>(s, start) else {
+        return Err(Refusal::SheetEnds(s.len()));
     };
-    let count = number as usize;
-    let fit = settings_fit(count);
-    if !fit {
-        return Head::Refused(Refusal::WrongSettingsCount);
+    let count = usize::from(number);
+    if !settings_fit(count) {
+        return Err(Refusal::WrongSettingsCount);
     }
-    let numbers = read_settings(s, first, count);
-    let numbers_there = numbers.whole;
-    if !numbers_there {
-        return Head::Refused(Refusal::SheetEnds(s.len()));
-    }
-    let at_tasks = numbers.next;
-    let Field16::Value(tasks, _) = field::read_u16(s, at_tasks) else {
-        return Head::Refused(Refusal::SheetEnds(s.len()));
+    let mut numbers = Settings::FILL_INS;
+    let Some(at_tasks) = row::read_section(s, first, &mut numbers[..count]) else {
+        return Err(Refusal::SheetEnds(s.len()));
     };
-    let n = tasks as usize;
+    let Some((tasks, _)) = field::read::<u16>(s, at_tasks) else {
+        return Err(Refusal::SheetEnds(s.len()));
+    };
+    let n = usize::from(tasks);
     if Table::MOST_TASKS < n {
-        return Head::Refused(Refusal::TooManyTasks(at_tasks));
+        return Err(Refusal::TooManyTasks(at_tasks));
     }
-    let rows = numbers.rows;
-    Head::Value(count, Settings::of(rows), n)
+    let settings = Settings::from(numbers);
+    Ok(Head { count, settings, n })
 }
 
 // The rows of a sheet whose head was read: its tasks, its results, and nothing after them.
-fn read_rows(s: &[u8], count: usize, settings: Settings, n: usize, from: usize) -> Reading
-    requires { Begins s.now count settings n from }
-    ensures { handed_reading result ≡ read_rows s.now }
+fn read_rows(s: &[u8], head: Head, from: usize) -> Result<Sheet, Refusal>
+    requires { Begins s.now head from }
+    ensures { handed_sheet result ≡ read_rows s.now }
 {
-    let tasks = read_tasks(s, from, n);
-    let tasks_there = tasks.whole;
-    if !tasks_there {
-        return refusing(Refusal::SheetEnds(s.len()));
-    }
-    let at = tasks.next;
-    let Field16::Value(number, first) = field::read_u16(s, at) else {
-        return refusing(Refusal::SheetEnds(s.len()));
+    let Head { count, settings, n } = head;
+    let mut tasks = [Task::NONE; Table::MOST_TASKS];
+    let Some(at) = row::read_section(s, from, &mut tasks[..n]) else {
+        return Err(Refusal::SheetEnds(s.len()));
     };
-    let r = number as usize;
+    let Some((number, first)) = field::read::<u16>(s, at) else {
+        return Err(Refusal::SheetEnds(s.len()));
+    };
+    let r = usize::from(number);
     if !results_fit(r, n) {
-        return refusing(Refusal::WrongResultCount(at));
+        return Err(Refusal::WrongResultCount(at));
     }
-    let granted = read_results(s, first, r);
-    let results_there = granted.whole;
-    if !results_there {
-        return refusing(Refusal::SheetEnds(s.len()));
-    }
-    let end = granted.next;
+    let mut granted = [Granted::NONE; Table::MOST_TASKS];
+    let Some(end) = row::read_section(s, first, &mut granted[..r]) else {
+        return Err(Refusal::SheetEnds(s.len()));
+    };
     if end < s.len() {
-        return refusing(Refusal::BytesAfterLast(end));
+        return Err(Refusal::BytesAfterLast(end));
     }
-    let rows = tasks.rows;
-    let table = Table::new(rows, n);
-    let rows = granted.rows;
-    let results = Results { rows, n: r };
-    let sheet = Sheet {
+    Ok(Sheet {
         count,
         settings,
-        table,
-        results,
-    };
-    let verdict = Verdict::Accepted;
-    Reading { verdict, sheet }
-}
-
-// Whether a head is refused.
-fn is_refused(head: Head) -> bool
-    ensures { result ≡ head_refused head }
-{
-    match head {
-        Head::Value(_, _, _) => false,
-        Head::Refused(_) => true,
-    }
-}
-
-// What a head says by itself: its refusal, or none so far.
-fn so_far(head: Head) -> Reading
-    ensures { handed_reading result ≡ head_alone head }
-{
-    match head {
-        Head::Refused(refusal) => refusing(refusal),
-        Head::Value(_, _, _) => {
-            let sheet = no_sheet();
-            let verdict = Verdict::Accepted;
-            Reading { verdict, sheet }
-        }
-    }
-}
-
-// The place after a head that was read.
-fn place_after(head: Head) -> usize
-    requires { SettingsFew head }
-    ensures { result ≡ place_after head }
-{
-    match head {
-        Head::Value(count, _, _) => records_place(count),
-        Head::Refused(_) => 0,
-    }
-}
-
-// What follows a head that was read: the rows from a place on, or the head's refusal.
-fn read_rest(s: &[u8], at: usize, head: Head) -> Reading
-    requires { RestDue s.now at head }
-    ensures { handed_reading result ≡ read_sheet s.now }
-{
-    match head {
-        Head::Refused(refusal) => refusing(refusal),
-        Head::Value(count, settings, n) => read_rows(s, count, settings, n, at),
-    }
+        table: Table { rows: tasks, n },
+        results: Results {
+            rows: granted,
+            n: r,
+        },
+    })
 }
 
 // Document 01: "a reader that holds the lent sheet and its place in it."
@@ -399,33 +202,30 @@ pub fn moved<'a>(reader: Reader<'a>, at: usize) -> Reader<'a>
     }
 }
 
-// The head of the sheet that a reader holds, from the reader's place, where the sheet starts.
-fn front<'a>(reader: Reader<'a>) -> Head
+// What a reader at the front of a sheet reads: its head, and from the place after the head on its rows.
+fn read_on<'a>(reader: Reader<'a>) -> Result<Sheet, Refusal>
     requires { reader.at ≡ settings_place }
-    ensures { HeadTells reader.entry.sheet.now result }
+    ensures { handed_sheet result ≡ read_sheet reader.entry.sheet.now }
 {
-    read_head(reader.sheet, reader.at)
-}
-
-// What a reader reads from its place on, where that is the place after the head.
-fn rest<'a>(reader: Reader<'a>, head: Head) -> Reading
-    requires { RestDue reader.sheet.now reader.at head }
-    ensures { handed_reading result ≡ read_sheet reader.entry.sheet.now }
-{
-    read_rest(reader.sheet, reader.at, head)
+    let head = read_head(reader.sheet, reader.at)?;
+    let reader = moved(reader, records_place(head.count));
+    read_rows(reader.sheet, head, reader.at)
 }
 
 // Reads a station sheet.
 pub fn read(bytes: &[u8]) -> Reading
     ensures { handed_reading result ≡ read_sheet bytes.now }
 {
-    let reader = open(bytes);
-    let head = front(reader);
-    if is_refused(head) {
-        return so_far(head);
+    match read_on(open(bytes)) {
+        Ok(sheet) => Reading {
+            verdict: Ok(()),
+            sheet,
+        },
+        Err(refusal) => Reading {
+            verdict: Err(refusal),
+            sheet: no_sheet(),
+        },
     }
-    let next = place_after(head);
-    rest(moved(reader, next), head)
 }
 
 // The longest sheet that definitions name is the one that the code names.

@@ -4,13 +4,16 @@
 
 ghost use Rattle.std.specs.Prelude.{◌≤◌};
 ghost use Rattle.kinds.specs.Limits.{most_processors};
-ghost use Rattle.fit.specs.Handover.{Loads};
 
-use kinds::{Policy, Settings, Share, Table, Verdict};
-use springs::Columns;
-use task_names::ROOM;
+use kinds::{Policy, Refusal, Settings, Share, Table};
+use policy::{Total, Weights};
+use relief::Relief;
+use springs::Springs;
+use std::fmt;
+use task_names::Names;
+use text::{Apart, Page, Percent};
 
-// What would help is told of one processor more, and then of each task fewer.
+// What would help is told of one processor more, and then of each task fewer: the step at which the tasks fit then.
 const HELPS: usize = Table::MOST_TASKS + 1;
 
 const MOST_SHOWN: usize = 5;
@@ -26,203 +29,134 @@ struct Sides {
     processors: [u16; Table::MOST_TASKS],
 }
 
-// Those of n loads on m processors.
-fn sides_of(policy: Policy, m: u16, block: &[u32; Columns::ROOM], n: usize) -> Sides
-    requires { Loads block.now n × (m ≤ most_processors) }
+impl Sides {
+    const NONE: Sides = Sides {
+        asked: 0,
+        there: 0,
+        processors: [0; Table::MOST_TASKS],
+    };
+}
+
+impl fmt::Display for Sides {
+    fn fmt<W: fmt::Write>(&self, f: &mut fmt::Formatter<W>) -> fmt::Result {
+        let asked = Percent(self.asked);
+        let there = Percent(self.there);
+        write!(f, "asks for {asked}% of a processor; there is {there}%")
+    }
+}
+
+// Those of the loads on m processors.
+fn sides_of(policy: Policy, m: u16, springs: &Springs) -> Sides
+    requires { m ≤ most_processors }
 {
-    let trial = fit::first_fit(block, n, m as usize);
+    let trial = fit::first_fit(&springs.loads, springs.n, usize::from(m));
     let processors = trial.processors;
     if m == 0 {
-        let asked = 0;
-        let there = 0;
         return Sides {
-            asked,
-            there,
             processors,
+            ..Sides::NONE
         };
     }
-    let weights = policy::weights_of(policy, m, n);
-    let total = policy::total_of(block, n);
+    let weights = Weights::of(policy, m, springs.n);
+    let total = Total::of(springs);
     Sides {
-        asked: policy::left_of(weights, total.sum, total.max),
+        asked: weights.left(total.sum, total.max),
         there: weights.r,
         processors,
     }
 }
 
-// Those of a table under its settings at a step; zeros where refusals 2, 3 and 6 come first.
-fn sides_at(table: Table, settings: Settings, step: u32) -> Sides {
-    let n = table.n;
+// Those of a table under its settings at a step, or why there are none.
+fn sides_at(table: Table, settings: Settings, step: u32) -> Result<Sides, Refusal> {
     let m = settings.m;
     let policy = settings.policy;
-    let mut block = [0u32; Columns::ROOM];
-    let admission = proposal::admit(table, settings, step, n, m as usize, &mut block);
-    let Verdict::Accepted = admission else {
-        let processors = [0u16; Table::MOST_TASKS];
-        return Sides {
-            asked: 0,
-            there: 0,
-            processors,
-        };
-    };
-    sides_of(policy.meant(), m, &block, n)
-}
-
-// The first task that has no processor.
-fn first_unplaced(processors: [u16; Table::MOST_TASKS]) -> usize {
-    for i in 0..Table::MOST_TASKS {
-        if processors[i] == 0 {
-            return i;
-        }
-    }
-    Table::MOST_TASKS
+    let mut springs = Springs::new(settings.notch);
+    proposal::admit(table, settings, step, table.n, usize::from(m), &mut springs)?;
+    Ok(sides_of(policy.meant(), m, &springs))
 }
 
 // By how much a table does not fit: the first task without a processor under first fit, and otherwise both sides of the test.
-fn put_sides(out: &mut [u8], at: usize, sides: Sides, placed: bool, names: &[u8; ROOM]) -> usize {
+fn put_sides(page: &mut Page, sides: Sides, placed: bool, names: &Names) {
     if placed {
-        let processors = sides.processors;
-        let headed = text::words(
-            out,
-            at,
-            b"at full compression no processor has room for task ",
-        );
-        let named = task_names::put_name(out, headed, names, first_unplaced(processors), 0);
-        return text::byte(out, named, b'\n');
+        let unplaced = sides
+            .processors
+            .iter()
+            .position(|processor| *processor == 0);
+        write!(page, "at full compression no processor has room for task ");
+        names.put(page, unplaced.unwrap_or(Table::MOST_TASKS));
+        writeln!(page);
+        return;
     }
-    let asked = sides.asked;
-    let there = sides.there;
-    text::form(
-        out,
-        at,
-        b"full compression asks for #.####% of a processor; there is #.####%\n",
-        &[
-            asked / 10_000,
-            asked % 10_000,
-            there / 10_000,
-            there % 10_000,
-        ],
-    )
+    writeln!(page, "full compression {sides}");
 }
 
 // Both sides of the policy's test at a step.
-pub fn put_test(out: &mut [u8], at: usize, table: Table, settings: Settings, step: u32) -> usize {
-    let sides = sides_at(table, settings, step);
-    let asked = sides.asked;
-    let there = sides.there;
-    text::form(
-        out,
-        at,
-        b"step @ asks for #.####% of a processor; there is #.####%\n",
-        &[
-            step as u64,
-            asked / 10_000,
-            asked % 10_000,
-            there / 10_000,
-            there % 10_000,
-        ],
-    )
+pub fn put_test(page: &mut Page, table: Table, settings: Settings, step: u32) {
+    let sides = sides_at(table, settings, step).unwrap_or(Sides::NONE);
+    writeln!(page, "step {} {sides}", Apart(u64::from(step)));
 }
 
 // What is told of one processor more and of each task fewer, in one list.
-fn helps_of(more: u32, without: &[u32; Table::MOST_TASKS]) -> [u32; HELPS] {
-    let mut helps = [0u32; HELPS];
-    helps[0] = more;
-    for i in 0..Table::MOST_TASKS {
-        helps[i + 1] = without[i];
+fn helps_of(more: u32, without: &[u32; Table::MOST_TASKS]) -> [Option<u32>; HELPS] {
+    let mut helps = [more.checked_sub(1); HELPS];
+    for (help, told) in helps[1..].iter_mut().zip(without) {
+        *help = told.checked_sub(1);
     }
     helps
 }
 
-// Where the least step is told, which is the end of the list where none is.
-fn least_told(helps: &[u32; HELPS]) -> usize {
-    let mut found = HELPS;
-    let mut least: u32 = 0;
-    for i in 0..HELPS {
-        let told = helps[i];
-        if told != 0 && (least == 0 || told < least) {
-            found = i;
-            least = told;
-        }
-    }
-    found
+// The help with the least step, the first of those with the same.
+fn least(helps: &[Option<u32>; HELPS]) -> Option<(usize, u32)> {
+    let steps = helps.iter().enumerate();
+    let told = steps.filter_map(|(i, step)| step.map(|step| (i, step)));
+    told.min_by_key(|(_, step)| *step)
 }
 
 // A line for what would help, with the step at which the tasks fit then.
-fn put_help(out: &mut [u8], at: usize, help: usize, told: u32, names: &[u8; ROOM]) -> usize {
-    let step = ground::less_or_zero(told as u64, 1);
-    if help == 0 {
-        return text::form(
-            out,
-            at,
-            b"with one processor more they fit at step @\n",
-            &[step],
-        );
+fn put_help(page: &mut Page, help: usize, step: u32, names: &Names) {
+    match help.checked_sub(1) {
+        None => write!(page, "with one processor more"),
+        Some(task) => {
+            write!(page, "without task ");
+            names.put(page, task);
+        }
     }
-    let task = ground::less_or_zero(help as u64, 1);
-    let headed = text::words(out, at, b"without task ");
-    let named = task_names::put_name(out, headed, names, task as usize, 0);
-    text::form(out, named, b" they fit at step @\n", &[step])
-}
-
-// The line of the help with the least step, which is told no more.
-fn put_least(out: &mut [u8], at: usize, helps: &mut [u32; HELPS], names: &[u8; ROOM]) -> usize {
-    let help = least_told(helps);
-    if HELPS <= help {
-        return at;
-    }
-    let told = helps[help];
-    helps[help] = 0;
-    put_help(out, at, help, told, names)
+    writeln!(page, " they fit at step {}", Apart(u64::from(step)));
 }
 
 // Such lines, least step first.
-fn put_helps(out: &mut [u8], at: usize, helps: &mut [u32; HELPS], names: &[u8; ROOM]) -> usize {
-    let mut next = at;
+fn put_helps(page: &mut Page, mut helps: [Option<u32>; HELPS], names: &Names) {
     for _ in 0..MOST_SHOWN {
-        next = put_least(out, next, helps, names);
+        let Some((help, step)) = least(&helps) else {
+            return;
+        };
+        put_help(page, help, step, names);
+        if let Some(told) = helps.get_mut(help) {
+            *told = None;
+        }
     }
-    next
 }
 
 // What alone would make a table fit.
-fn put_relief(
-    out: &mut [u8],
-    at: usize,
-    table: Table,
-    settings: Settings,
-    names: &[u8; ROOM],
-) -> usize {
+fn put_relief(page: &mut Page, table: Table, settings: Settings, names: &Names) {
     let mut without = [0u32; Table::MOST_TASKS];
-    let relief = relief::relief_of(table, settings, &mut without);
-    let mut helps = helps_of(relief.more, &without);
-    let helped = put_helps(out, at, &mut helps, names);
-    if at < helped {
-        return helped;
+    let answer = relief::relief_of(table, settings, &mut without);
+    let relief = answer.unwrap_or(Relief::NONE);
+    let helps = helps_of(relief.more, &without);
+    if helps.iter().all(|help| help.is_none()) {
+        writeln!(
+            page,
+            "neither one processor more nor one task fewer makes them fit"
+        );
     }
-    text::words(
-        out,
-        at,
-        b"neither one processor more nor one task fewer makes them fit\n",
-    )
+    put_helps(page, helps, names);
 }
 
 // By how much a table that no step passes does not fit, and what would help.
-pub fn put_shortfall(
-    out: &mut [u8],
-    at: usize,
-    table: Table,
-    settings: Settings,
-    names: &[u8; ROOM],
-) -> usize {
+pub fn put_shortfall(page: &mut Page, table: Table, settings: Settings, names: &Names) {
     let policy = settings.policy;
     let asked = policy.meant();
-    let short = put_sides(
-        out,
-        at,
-        sides_at(table, settings, FULL),
-        asked.is_first_fit(),
-        names,
-    );
-    put_relief(out, short, table, settings, names)
+    let sides = sides_at(table, settings, FULL).unwrap_or(Sides::NONE);
+    put_sides(page, sides, asked.is_first_fit(), names);
+    put_relief(page, table, settings, names);
 }

@@ -1,2 +1,2 @@
-pub mod Springs
-pub mod Blocks
+pub mod Shares
+pub mod Columns

@@ -1,3 +1,4 @@
 pub mod Spring
-pub mod Columns
+pub mod Allowed
+pub mod Springs
 pub mod Handover

@@ -1,48 +1,70 @@
-// The names of tasks, kept beside their table in one lent block, for people to read. They are tested and not promised; each call is proved to stay
-// within what is lent.
+// The names of tasks, kept beside their table, for people to read. They are tested and not promised; each call is proved to stay within what is lent.
 #![tactic(auto)]
 
 use kinds::Table;
-use text::part;
-use text::part::Part;
+use text::Page;
 
 // How many bytes a name may have.
 pub const LONGEST_NAME: usize = 20;
 
-// Room for a name of the greatest length for each task; a byte that no name has is 0.
-pub const ROOM: usize = Table::MOST_TASKS * LONGEST_NAME;
-
-// Keeps a part of a text as the name of the task of this number.
-pub fn keep_name(names: &mut [u8; ROOM], task: usize, s: &[u8], name: Part) {
-    if task < Table::MOST_TASKS {
-        part::put(names, task * LONGEST_NAME, s, name);
-    }
+// A name for each task: its bytes, and zeros behind them, as no name has a 0.
+#[derive(Clone, Copy)]
+pub struct Names {
+    names: [[u8; LONGEST_NAME]; Table::MOST_TASKS],
 }
 
-// Where the name of a task stands, which is empty where it has none.
-pub fn name_at(names: &[u8; ROOM], task: usize) -> Part {
-    if Table::MOST_TASKS <= task {
-        return Part { start: 0, end: 0 };
-    }
-    let start = task * LONGEST_NAME;
-    Part {
-        start,
-        end: part::find(names, start, start + LONGEST_NAME, 0),
-    }
-}
+impl Names {
+    // No task has a name.
+    pub const NONE: Names = Names {
+        names: [[0; LONGEST_NAME]; Table::MOST_TASKS],
+    };
 
-// Puts the name of a task, or its number where it has none.
-fn put_called(out: &mut [u8], at: usize, names: &[u8; ROOM], task: usize) -> usize {
-    let name = name_at(names, task);
-    if name.end <= name.start {
-        return text::form(out, at, b"#", &[task as u64]);
+    // Keeps the name of a task, as far as there is room.
+    pub fn keep(&mut self, task: usize, name: &[u8]) {
+        if let Some(kept) = self.names.get_mut(task) {
+            let n = name.len().min(LONGEST_NAME);
+            kept[..n].copy_from_slice(&name[..n]);
+        }
     }
-    part::put(out, at, names, name)
-}
 
-// Puts the same at the left of a column of so many characters.
-pub fn put_name(out: &mut [u8], at: usize, names: &[u8; ROOM], task: usize, width: usize) -> usize {
-    let put = put_called(out, at, names, task);
-    let blank = ground::less_or_zero(width as u64, part::columns(out, at, put) as u64);
-    text::repeated(out, put, b' ', blank as usize)
+    // The name of a task, which is empty where it has none.
+    pub fn of(&self, task: usize) -> &[u8] {
+        let Some(name) = self.names.get(task) else {
+            return &[];
+        };
+        let end = name.iter().position(|byte| *byte == 0);
+        &name[..end.unwrap_or(LONGEST_NAME)]
+    }
+
+    // How many columns the name of a task takes, or its number where it has none.
+    pub fn columns(&self, task: usize) -> usize {
+        let name = self.of(task);
+        if name.is_empty() {
+            return text::columns_of(task);
+        }
+        text::columns(name)
+    }
+
+    // Puts the name of a task, or its number where it has none.
+    pub fn put(&self, page: &mut Page, task: usize) {
+        let name = self.of(task);
+        if name.is_empty() {
+            write!(page, "{task}");
+        } else {
+            page.put(name);
+        }
+    }
+
+    // Puts the same at the left of a column, and the number where the column does not hold the name.
+    pub fn put_in(&self, page: &mut Page, task: usize, width: usize) {
+        let name = self.of(task);
+        let columns = text::columns(name);
+        if name.is_empty() || width < columns {
+            write!(page, "{task:<width$}");
+            return;
+        }
+        let blank = width - columns;
+        page.put(name);
+        write!(page, "{:blank$}", "");
+    }
 }

@@ -1,210 +1,174 @@
-// Text for people, put at a place of a lent buffer as far as there is room: words, forms with numbers in their columns, gauges. What stands there
-// afterwards is tested and not promised; each call is proved to stay within what is lent.
+// Text for people, on a page of lent bytes: what `write!` writes there, as far as there is room, and what it shows numbers by. What stands there is
+// tested and not promised; each call is proved to stay within what is lent.
 #![tactic(auto)]
 
-pub mod part;
-
-ghost use Rattle.std.specs.Prelude.{◌+◌, ◌≤◌, ◌<◌, length, take, OnOk};
+ghost use Rattle.std.specs.Prelude.{◌≡◌, ◌≤◌, length, OnOk};
 ghost use Rattle.std.specs.Io.KnownBytes.{Appends};
 
 use itoa::Buffer;
-use std::io;
-use std::io::Write;
+use std::{fmt, io};
 
-// Puts one byte; returns the place after it.
-pub fn byte(out: &mut [u8], at: usize, one: u8) -> usize {
-    if at < out.len() {
-        out[at] = one;
-        return at + 1;
+// Lent bytes, of which the first so many are written. What there is no room for is left out, so that no write fails.
+#[derive(Drop)]
+pub struct Page<'a> {
+    room: &'a mut [u8],
+    len: usize,
+    ghost within: { len ≤ length room.now },
+}
+
+impl<'a> Page<'a> {
+    ghost use Rattle.text.specs.Page.{written};
+
+    // A page on which nothing is written yet.
+    pub fn new(room: &'a mut [u8]) -> Page<'a> {
+        Page { room, len: 0 }
     }
-    at
-}
 
-pub fn words(out: &mut [u8], at: usize, bytes: &[u8]) -> usize {
-    let n = bytes.len();
-    let mut next = at;
-    for i in 0..n {
-        next = byte(out, next, bytes[i]);
+    // What is written.
+    pub fn text(&self) -> &[u8]
+        ensures { result.now ≡ written self.now }
+    {
+        &self.room[..self.len]
     }
-    next
-}
 
-pub fn repeated(out: &mut [u8], at: usize, one: u8, count: usize) -> usize {
-    let mut next = at;
-    for _ in 0..count {
-        next = byte(out, next, one);
+    // Adds bytes as far as there is room.
+    pub fn put(&mut self, bytes: &[u8]) {
+        let n = bytes.len().min(self.room.len() - self.len);
+        let end = self.len + n;
+        self.room[self.len..end].copy_from_slice(&bytes[..n]);
+        self.len = end;
     }
-    next
-}
 
-// Bytes at the right of a column that is filled with one byte.
-fn right(out: &mut [u8], at: usize, bytes: &[u8], width: usize, filled: u8) -> usize {
-    let blank = ground::less_or_zero(width as u64, bytes.len() as u64);
-    let next = repeated(out, at, filled, blank as usize);
-    words(out, next, bytes)
-}
-
-// A number in decimal digits, at the right of a column that is filled with one byte.
-fn number(out: &mut [u8], at: usize, n: u64, width: usize, filled: u8) -> usize {
-    let mut digits = Buffer::new();
-    right(out, at, digits.format(n).as_bytes(), width, filled)
-}
-
-// A comma between digits of which so many are put and so many are left, where these are threes.
-fn comma(out: &mut [u8], at: usize, put: usize, left: usize) -> usize {
-    if 0 < put && left % 3 == 0 {
-        return byte(out, at, b',');
+    // What `write!` calls: nothing fails, so that it has no error to hand on.
+    pub fn write_fmt<D: fmt::Display + Drop>(&mut self, value: D) {
+        let _ = fmt::Write::write_fmt(self, value);
     }
-    at
+
+    // Writes the page to what is lent, as standard output.
+    pub fn write_to<W: io::Write>(&self, to: &mut W) -> io::Result<()>
+        ensures { OnOk result (Appends (W.contents to.old) (W.contents to.new) (written self.now)) }
+    {
+        to.write_all(self.text())
+    }
 }
 
-// Digits with a comma before each three that are left.
-fn grouped(out: &mut [u8], digits: &[u8]) -> usize {
-    let n = digits.len();
-    let mut next: usize = 0;
-    for i in 0..n {
-        next = comma(out, next, i, n - i);
-        next = byte(out, next, digits[i]);
+impl fmt::Write for Page<'_> {
+    fn write_str(&mut self, s: &str) -> fmt::Result {
+        self.put(s.as_bytes());
+        Ok(())
     }
-    next
+}
+
+// Whether a byte begins a character: one from 128 to 191 goes on with it.
+fn begins_character(byte: u8) -> bool {
+    !matches!(byte, 128..=191)
+}
+
+// How many columns a text takes: one for each character.
+pub fn columns(text: &[u8]) -> usize {
+    text.iter().filter(|byte| begins_character(**byte)).count()
+}
+
+// The columns of a form that is written.
+#[derive(Drop)]
+struct Counted(usize);
+
+impl fmt::Write for Counted {
+    fn write_str(&mut self, form: &str) -> fmt::Result {
+        self.0 = self.0.saturating_add(columns(form.as_bytes()));
+        Ok(())
+    }
+}
+
+// How many columns a form takes.
+pub fn columns_of<D: fmt::Display + Drop>(form: D) -> usize {
+    let mut counted = Counted(0);
+    let _ = fmt::Write::write_fmt(&mut counted, form);
+    counted.0
 }
 
 // A number with its thousands set apart, at the right of a column.
-fn apart(out: &mut [u8], at: usize, n: u64, width: usize) -> usize {
-    let mut digits = Buffer::new();
-    let mut commas = [0u8; 26];
-    let end = grouped(&mut commas, digits.format(n).as_bytes());
-    if end <= commas.len() {
-        return right(out, at, &commas[..end], width, b' ');
-    }
-    at
-}
+#[derive(Clone, Copy)]
+pub struct Apart(pub u64);
 
-// A number at the right of a column, its thousands set apart or not.
-pub fn number_in(out: &mut [u8], at: usize, n: u64, width: usize, set_apart: bool) -> usize {
-    if set_apart {
-        return apart(out, at, n, width);
-    }
-    number(out, at, n, width, b' ')
-}
-
-// How many columns a number takes.
-pub fn width_of(n: u64, set_apart: bool) -> usize {
-    let mut scratch = [0u8; 26];
-    number_in(&mut scratch, 0, n, 0, set_apart)
-}
-
-// How many `#` or `@` stand one after the other from a place on, as the byte there does.
-fn column(shape: &[u8], from: usize) -> usize
-    requires { from < length shape.now }
-    ensures { from + result ≤ length shape.now }
-{
-    let mark = shape[from];
-    if mark != b'#' && mark != b'@' {
-        return 0;
-    }
-    for i in from..shape.len() {
-        if shape[i] != mark {
-            return i - from;
+impl fmt::Display for Apart {
+    fn fmt<W: fmt::Write>(&self, f: &mut fmt::Formatter<W>) -> fmt::Result {
+        let mut digits = Buffer::new();
+        let digits = digits.format(self.0);
+        let taken = digits.len() + digits.len().saturating_sub(1) / 3;
+        let blank = f.width().unwrap_or(0).saturating_sub(taken);
+        write!(f, "{:blank$}", "")?;
+        for (i, digit) in digits.chars().enumerate() {
+            if 0 < i && (digits.len() - i) % 3 == 0 {
+                write!(f, ",")?;
+            }
+            write!(f, "{digit}")?;
         }
+        Ok(())
     }
-    shape.len() - from
 }
 
-// What fills a column: zeros behind a point, and else blanks.
-fn filling(before: u8) -> u8 {
-    if before == b'.' { b'0' } else { b' ' }
-}
+// Parts of a processor in per cent, rounded down to so many decimals, four at most, at the right of a column.
+#[derive(Clone, Copy)]
+pub struct Percent(pub u64);
 
-// The number that is due, and 0 past the last.
-fn due(numbers: &[u64], k: usize) -> u64 {
-    if k < numbers.len() { numbers[k] } else { 0 }
-}
-
-// A number in a column of a form: `@` sets its thousands apart, `#` does not.
-fn put_due(out: &mut [u8], at: usize, n: u64, width: usize, mark: u8, before: u8) -> usize {
-    if mark == b'@' {
-        return apart(out, at, n, width);
+impl fmt::Display for Percent {
+    fn fmt<W: fmt::Write>(&self, f: &mut fmt::Formatter<W>) -> fmt::Result {
+        let decimals = f.precision().unwrap_or(4).min(4);
+        let rest = self.0 % 10_000 / 10u64.pow(4 - decimals as u32);
+        let width = f.width().unwrap_or(0).saturating_sub(decimals + 1);
+        write!(f, "{:width$}.{rest:0decimals$}", self.0 / 10_000)
     }
-    number(out, at, n, width, filling(before))
 }
 
-// Puts a form: each run of `#` or `@` is a column for the next of the numbers, and every other byte stands for itself.
-pub fn form(out: &mut [u8], at: usize, shape: &[u8], numbers: &[u64]) -> usize {
-    let mut next = at;
-    let mut i: usize = 0;
-    let mut used: usize = 0;
-    let mut before = b' ';
-    while i < shape.len() {
-        let width = column(shape, i);
-        let mark = shape[i];
-        if width == 0 {
-            before = mark;
-            next = byte(out, next, mark);
-            i += 1;
-        } else {
-            next = put_due(out, next, due(numbers, used), width, mark, before);
-            i += width;
-            used += 1;
+// How far a period is stretched from the shortest to the longest, in per cent, rounded down, at the right of a column; `fixed` where it cannot be.
+#[derive(Clone, Copy)]
+pub struct Stretch {
+    pub period: u32,
+    pub shortest: u32,
+    pub longest: u32,
+    pub elasticity: u32,
+}
+
+impl fmt::Display for Stretch {
+    fn fmt<W: fmt::Write>(&self, f: &mut fmt::Formatter<W>) -> fmt::Result {
+        let width = f.width().unwrap_or(0);
+        if self.elasticity == 0 || self.longest <= self.shortest {
+            return write!(f, "{:>width$}", "fixed");
         }
+        let above = u64::from(self.period.saturating_sub(self.shortest));
+        let percent = above * 100 / u64::from(self.longest - self.shortest);
+        let width = width.saturating_sub(1);
+        write!(f, "{percent:width$}%")
     }
-    next
 }
 
-// The place behind so many `|`; the end where there are fewer.
-fn behind(forms: &[u8], bars: usize) -> usize
-    ensures { result ≤ length forms.now }
-{
-    let mut left = bars;
-    let n = forms.len();
-    for i in 0..n {
-        if left == 0 {
-            return i;
+// A gauge between brackets: no cell is full where the value is 0, all are where it is the most, and otherwise at least one is and not all.
+#[derive(Clone, Copy)]
+pub struct Gauge {
+    pub value: u32,
+    pub most: u32,
+}
+
+impl Gauge {
+    const CELLS: usize = 40;
+
+    fn full(self) -> usize {
+        if self.value == 0 {
+            return 0;
         }
-        if forms[i] == b'|' {
-            left -= 1;
+        if self.most <= self.value {
+            return Gauge::CELLS;
         }
+        let full = u64::from(self.value) * Gauge::CELLS as u64 / u64::from(self.most);
+        full.max(1) as usize
     }
-    n
 }
 
-// Puts the form of a number, from 0 on, among some of which each ends with `|`; nothing where there is none of this number.
-pub fn nth_form(out: &mut [u8], at: usize, forms: &[u8], k: u16, numbers: &[u64]) -> usize {
-    let start = behind(forms, k as usize);
-    let end = behind(forms, k as usize + 1);
-    if start < end {
-        return form(out, at, &forms[start..end - 1], numbers);
+impl fmt::Display for Gauge {
+    fn fmt<W: fmt::Write>(&self, f: &mut fmt::Formatter<W>) -> fmt::Result {
+        let full = self.full();
+        let empty = Gauge::CELLS.saturating_sub(full);
+        write!(f, "[{:#<full$}{:.<empty$}]", "", "")
     }
-    at
-}
-
-// How many of a gauge's cells are full: none where the value is 0, all where it is the most, and otherwise at least one and not all.
-fn full_cells(value: u32, most: u32, cells: u32) -> u64 {
-    if value == 0 {
-        return 0;
-    }
-    if most <= value {
-        return cells as u64;
-    }
-    ground::larger(1, ground::times(value, cells) / most as u64)
-}
-
-// A gauge of so many cells between brackets.
-pub fn gauge(out: &mut [u8], at: usize, value: u32, most: u32, cells: u32) -> usize {
-    let full = full_cells(value, most, cells);
-    let empty = ground::less_or_zero(cells as u64, full);
-    let opened = byte(out, at, b'[');
-    let filled = repeated(out, opened, b'#', full as usize);
-    let whole = repeated(out, filled, b'.', empty as usize);
-    byte(out, whole, b']')
-}
-
-// Writes so many bytes of a buffer, where it has them, to what is lent, as standard output.
-pub fn write<W: Write>(to: &mut W, out: &[u8], count: usize) -> io::Result<()>
-    ensures { count ≤ length out.now → OnOk result (Appends (W.contents to.old) (W.contents to.new) (take count out.now)) }
-{
-    if count <= out.len() {
-        return to.write_all(&out[..count]);
-    }
-    Ok(())
 }

@@ -1,22 +1,22 @@
 -- What is handed on: `taken-through`, `handed-taken` and `refused-keeps` say what `Tidies` means, the others that it holds of what the call leaves.
 -- Assumes nothing.
-use Rattle.ground.proofs.Kit.{ℕ, ◌+◌, ◌≤◌, ◌<◌, true, false, List, [], ◌++◌, ◌≡◌, refl, sym, ◌∙◌, ap, subst, arith, length, take, drop, length-append}
+use Rattle.ground.proofs.Kit.{ℕ, ◌+◌, ◌≤◌, ◌<◌, true, false, List, [], ◌++◌, ◌≡◌, refl, sym, ◌∙◌, ap, subst, arith, length, take, drop, length-append, Ok, Err}
 use Rattle.ground.proofs.Kit.{eq-eqb, ne_eqb, eqb-true}
 use lib.Seq.{take_at}
+use Rattle.std.specs.Result.{result_or}
 use Rattle.ground.proofs.Cases.{by_bool, true-false}
-use Rattle.kinds.specs.declared.Counted.{Counted}
-use Rattle.kinds.specs.declared.Counted.TheVariants.{Count, Refused}
 use Rattle.kinds.specs.declared.Refusal.{Refusal}
 use Rattle.kinds.specs.Limits.{most_tasks}
 use Rattle.kinds.specs.Refusal.{number_of}
-use Rattle.kinds.specs.Answer.{Handed, accepted, refused, handed_count}
+use Rattle.kinds.specs.Answer.{Handed, accepted, refused, handed_count, Counted}
 use Rattle.kinds.proofs.Refusals.{refusal-numbered}
 use Rattle.kinds.proofs.Answers.{not-refused, count-one}
 use Rattle.field.specs.Handover.{Put}
 use Rattle.field.proofs.Stores.{stored-front}
+use Rattle.office.specs.declared.Imported.{Imported}
 use Rattle.office.specs.Text.{longest_text}
-use Rattle.office.specs.Reading.{Reading, Rows, Not, read_text, rows_of}
-use Rattle.office.specs.Carrying.{after_carry}
+use Rattle.office.specs.Reading.{Reading, read_text, rows_of}
+use Rattle.office.specs.Carrying.{after_carry, Reads}
 use Rattle.office.proofs.Answers.{after-refused, import-not}
 use Rattle.office.proofs.Longest.{taken-most}
 use Rattle.tidy.specs.Tidied.{strict, is_taken, handed_on, tidy_handed, longest_loose, Tidies}
@@ -24,23 +24,28 @@ use Rattle.tidy.specs.Handover.{only_taken, HandsOn}
 
 -- ---- what the strict import takes
 module _ (s : List ℕ) where
+  -- its answer is that of an import by value
+  pub strict-answers : (i : Imported) → Reads s most_tasks i → handed_count i.answer ≡ strict s
+  unfolding strict
+  strict-answers i reads = reads.answer
+
   taken-by : (n : ℕ) → strict s ≡ accepted n → is_taken s ≡ true
   taken-by n e = rw e
 
   untaken-by : (r : Refusal) → strict s ≡ refused 0 r → is_taken s ≡ false
   untaken-by r e = rw e (ne_eqb (number_of r) 0 (λ z. omega (arith, refusal-numbered r)))
 
-  strict-not : (r : Refusal) → read_text s ≡ Not r → strict s ≡ refused 0 r
+  strict-not : (r : Refusal) → read_text s ≡ Err r → strict s ≡ refused 0 r
   unfolding strict
   strict-not r e = import-not s most_tasks r e
 
   -- what is taken reads as rows
-  pub taken-reads : is_taken s ≡ true → read_text s ≡ Rows (rows_of (read_text s))
+  pub taken-reads : is_taken s ≡ true → read_text s ≡ Ok (rows_of (read_text s))
   taken-reads t = by (read_text s) refl
     where
-      by : (reading : Reading) → read_text s ≡ reading → read_text s ≡ Rows (rows_of (read_text s))
-      by (Rows rows) e = rw e
-      by (Not r) e =
+      by : (reading : Reading) → read_text s ≡ reading → read_text s ≡ Ok (rows_of (read_text s))
+      by (Ok rows) e = rw e
+      by (Err r) e =
           let none = ap (λ (h : Handed ℕ). h.number) (strict-not r e) in
           absurd (omega (arith, refusal-numbered r, eqb-true (strict s).number 0 t))
 
@@ -86,19 +91,19 @@ module _ (s old : List ℕ) where
     strict-is : (r : Counted) → a ≡ r → strict s ≡ handed_count r
     strict-is r e = sym asked ∙ ap handed_count e
 
-    pub hands-refused : (q : Refusal) → a ≡ Refused q → HandsOn s old (Refused q) old
+    pub hands-refused : (q : Refusal) → a ≡ Err q → HandsOn s old (Err q) old
     hands-refused q e =
-        let is = strict-is (Refused q) e in
+        let is = strict-is (Err q) e in
         let only = only-not (untaken-by s q is) ∙ is in
         record { answer = sym only; output = sym (ap (λ (h : Handed ℕ). after_carry h s old) only ∙ after-refused q s old) }
 
-    pub room_for : (n : ℕ) → a ≡ Count n → longest_text ≤ length old → 0 + length s ≤ length old
-    room_for n e l = omega (arith, taken-short s n (strict-is (Count n) e))
+    pub room_for : (n : ℕ) → a ≡ Ok n → longest_text ≤ length old → 0 + length s ≤ length old
+    room_for n e l = omega (arith, taken-short s n (strict-is (Ok n) e))
 
-    pub hands-taken : (n : ℕ) → a ≡ Count n → longest_text ≤ length old → (k : ℕ) (new : List ℕ) → Put old 0 (length s) s k new
-        → HandsOn s old (Count k) new
+    pub hands-taken : (n : ℕ) → a ≡ Ok n → longest_text ≤ length old → (k : ℕ) (new : List ℕ) → Put old 0 (length s) s k new
+        → HandsOn s old (Ok k) new
     hands-taken n e l k new p =
-        let is = strict-is (Count n) e in
+        let is = strict-is (Ok n) e in
         let only = only-taken (taken-by s n is) in
         let long : k ≡ length s = omega (arith, p.next-is) in
         record {
@@ -115,7 +120,7 @@ module _ (s old : List ℕ) where
       pub counted : handed_count r ≡ accepted (length s)
       pub written : new ≡ s ++ drop (length s) old
 
-    was-taken : (n : ℕ) → r ≡ Count n → Taken
+    was-taken : (n : ℕ) → r ≡ Ok n → Taken
     was-taken n e =
         by_bool (is_taken s)
         (λ t.
@@ -125,7 +130,7 @@ module _ (s old : List ℕ) where
         let none : strict s ≡ accepted n = sym (sym (ap handed_count e) ∙ (h.answer ∙ only-not t)) in
         true-false (taken-by s n none) t)
 
-    pub was-refused : (q : Refusal) → r ≡ Refused q → (strict s ≡ refused 0 q) × (new ≡ old)
+    pub was-refused : (q : Refusal) → r ≡ Err q → (strict s ≡ refused 0 q) × (new ≡ old)
     was-refused q e =
         by_bool (is_taken s)
         (λ t. not-refused (length s) 0 q (sym (sym (ap handed_count e) ∙ (h.answer ∙ only-taken t))))
@@ -136,31 +141,38 @@ module _ (s old : List ℕ) where
 
 -- ---- what the call leaves
 module _ (text old : List ℕ) where
-  pub tidies-text : (r : Counted) (new : List ℕ) → HandsOn text old r new → (n : ℕ) → r ≡ Count n → Tidies text old r new
+  pub tidies-text : (r : Counted) (new : List ℕ) → HandsOn text old r new → (n : ℕ) → r ≡ Ok n → Tidies text old r new
   tidies-text r new h n e =
       let was = was-taken text old r new h n e in
       tidies-on text text old (accepted (length text)) text (on-text text text was.taken) (λ l. refl) r new was.counted was.written
 
   module _ (q : Refusal) (not : strict text ≡ refused 0 q) where
-    refused-with : (candidate : List ℕ) → (longest_loose < length text → candidate ≡ text) → is_taken candidate ≡ false → Tidies text old (Refused q) old
+    refused-with : (candidate : List ℕ) → (longest_loose < length text → candidate ≡ text) → is_taken candidate ≡ false → Tidies text old (Err q) old
     refused-with candidate l c =
-        tidies-on text candidate old (strict text) [] (on-nothing text candidate (untaken-by text q not) c) l (Refused q) old
+        tidies-on text candidate old (strict text) [] (on-nothing text candidate (untaken-by text q not) c) l (Err q) old
         (sym not) (sym (ap (λ (h : Handed ℕ). after_carry h [] old) not ∙ after-refused q [] old))
 
-    pub tidies-none : Tidies text old (Refused q) old
+    pub tidies-none : Tidies text old (Err q) old
     tidies-none = refused-with text (λ l. refl) (untaken-by text q not)
 
     module _ (short : length text ≤ longest_loose) (candidate : List ℕ) (r : Counted) (new : List ℕ) (h : HandsOn candidate old r new) where
-      pub tidies-candidate : (n : ℕ) → r ≡ Count n → Tidies text old r new
+      tidies-candidate : (n : ℕ) → r ≡ Ok n → Tidies text old r new
       tidies-candidate n e =
           let was = was-taken candidate old r new h n e in
           tidies-on text candidate old (accepted (length candidate)) candidate
           (on-candidate text candidate (untaken-by text q not) was.taken) (λ l. absurd (omega arith)) r new was.counted was.written
 
-      pub tidies-refused : (p : Refusal) → r ≡ Refused p → Tidies text old (Refused q) new
+      tidies-refused : (p : Refusal) → r ≡ Err p → Tidies text old (Err q) new
       tidies-refused p e =
           let was = was-refused candidate old r new h p e in
           rw was.1 (refused-with candidate (λ l. absurd (omega arith)) (untaken-by candidate p was.0))
+
+      pub tidies-or : (a : Counted) → a ≡ result_or r (Err q) → Tidies text old a new
+      tidies-or a e = by r refl e
+        where
+          by : (b : Counted) → r ≡ b → a ≡ result_or r (Err q) → Tidies text old a new
+          by (Ok n) x e = rw (e ∙ (ap (λ (z : Counted). result_or z (Err q)) x ∙ sym x)) (tidies-candidate n x)
+          by (Err p) x e = rw (e ∙ ap (λ (z : Counted). result_or z (Err q)) x) (tidies-refused p x)
 
   -- a text of which nothing was written at first
   pub tidies-after : (mid : List ℕ) → mid ≡ old → (r : Counted) (new : List ℕ) → Tidies text mid r new → Tidies text old r new
@@ -170,10 +182,10 @@ module _ (text old : List ℕ) where
 module _ (text old : List ℕ) where
   -- a text that the strict import takes goes through byte for byte, and nothing past it is written
   pub taken-through : (n : ℕ) → strict text ≡ accepted n → (r : Counted) (new : List ℕ) → Tidies text old r new
-      → (r ≡ Count (length text)) × (new ≡ text ++ drop (length text) old)
+      → (r ≡ Ok (length text)) × (new ≡ text ++ drop (length text) old)
   taken-through n e r new h =
       let on = on-text text h.candidate (taken-by text n e) in
-      (count-one r (Count (length text)) (h.answer ∙ on.handed), h.output ∙ output-is text h.candidate old _ _ on)
+      (count-one r (Ok (length text)) (h.answer ∙ on.handed), h.output ∙ output-is text h.candidate old _ _ on)
 
   front-taken : (on new : List ℕ) (k : ℕ) → is_taken on ≡ true → accepted k ≡ accepted (length on) → new ≡ on ++ drop (length on) old
       → is_taken (take k new) ≡ true
@@ -187,7 +199,7 @@ module _ (text old : List ℕ) where
       omega (arith, ap (λ (h : Handed ℕ). h.value) a, ap length n, length-append on (drop (length on) old))
 
   -- what is handed on stands inside the output
-  pub count_fits : (r : Counted) (new : List ℕ) → Tidies text old r new → (k : ℕ) → r ≡ Count k → k ≤ length new
+  pub count_fits : (r : Counted) (new : List ℕ) → Tidies text old r new → (k : ℕ) → r ≡ Ok k → k ≤ length new
   count_fits r new h k e =
       let a : accepted k ≡ tidy_handed text h.candidate = sym (ap handed_count e) ∙ h.answer in
       by_bool (is_taken text)
@@ -205,7 +217,7 @@ module _ (text old : List ℕ) where
       true-false (eq-eqb (strict text).number 0 zero) t))
 
   -- what is handed on is a text that the strict import takes
-  pub handed-taken : (k : ℕ) (new : List ℕ) → Tidies text old (Count k) new → is_taken (take k new) ≡ true
+  pub handed-taken : (k : ℕ) (new : List ℕ) → Tidies text old (Ok k) new → is_taken (take k new) ≡ true
   handed-taken k new h =
       by_bool (is_taken text)
       (λ t.
@@ -222,7 +234,7 @@ module _ (text old : List ℕ) where
       true-false (eq-eqb (strict text).number 0 zero) t))
 
   -- a refusal is the strict import's of the text, and nothing is written
-  pub refused-keeps : (q : Refusal) (new : List ℕ) → Tidies text old (Refused q) new → (strict text ≡ refused 0 q) × (new ≡ old)
+  pub refused-keeps : (q : Refusal) (new : List ℕ) → Tidies text old (Err q) new → (strict text ≡ refused 0 q) × (new ≡ old)
   refused-keeps q new h =
       by_bool (is_taken text)
       (λ t. not-refused (length text) 0 q (sym (h.answer ∙ (on-text text h.candidate t).handed)))

@@ -2,8 +2,7 @@
 -- Assumes nothing.
 use Rattle.std.specs.Prelude.{ℕ, List, ◌≡◌, length}
 use Rattle.ground.specs.Choice.{pick}
-use Rattle.kinds.specs.declared.Counted.{Counted}
-use Rattle.kinds.specs.Answer.{Handed, accepted, handed_count}
+use Rattle.kinds.specs.Answer.{Handed, accepted, handed_count, Counted}
 use Rattle.office.specs.Carrying.{after_carry}
 use Rattle.tidy.specs.Tidied.{strict, is_taken}
 

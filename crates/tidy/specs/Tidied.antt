@@ -2,9 +2,8 @@
 -- Assumes nothing.
 use Rattle.std.specs.Prelude.{ℕ, ◌<◌, Bool, List, [], ◌≡◌, eqb, length}
 use Rattle.ground.specs.Choice.{pick}
-use Rattle.kinds.specs.declared.Counted.{Counted}
 use Rattle.kinds.specs.Limits.{most_tasks}
-use Rattle.kinds.specs.Answer.{Handed, accepted, handed_count}
+use Rattle.kinds.specs.Answer.{Handed, accepted, handed_count, Counted}
 use Rattle.office.specs.Carrying.{import_handed, after_carry}
 
 -- what the strict import of Ask 11 says of a text, with room for the most tasks

@@ -4,62 +4,49 @@
 #![tactic(auto)]
 
 ghost use Rattle.std.specs.Prelude.{◌≡◌};
-ghost use Rattle.kinds.specs.Answer.{handed_count, refused};
+ghost use Rattle.kinds.specs.Answer.{refused};
 ghost use Rattle.tidy.specs.Tidied.{strict, Tidies};
 ghost use Rattle.tidy.specs.Handover.{HandsOn};
 
-use kinds::{Counted, Refusal, Table};
-use loosen::Loosened;
+use kinds::{Refusal, Table};
 
 // How many bytes a text may have that is not the strict import's.
 pub const LONGEST: usize = loosen::LONGEST;
 
-// What the strict import says of a text.
-fn asked(text: &[u8]) -> Counted
-    ensures { handed_count result ≡ strict text.now }
-{
-    let imported = office::import(text, Table::MOST_TASKS);
-    imported.answer
-}
-
 // Writes a text that the strict import takes, and nothing of another.
-fn hand_on(text: &[u8], out: &mut [u8; office::LONGEST]) -> Counted
+fn hand_on(text: &[u8], out: &mut [u8; office::LONGEST]) -> Result<usize, Refusal>
     ensures { HandsOn text.now out.old result out.new }
 {
-    let answer = asked(text);
-    if let Counted::Refused(refusal) = answer {
-        return Counted::Refused(refusal);
-    }
-    Counted::Count(refusal_line::put_bytes(out, 0, text))
+    office::read(text, Table::MOST_TASKS)?;
+    Ok(refusal_line::put_bytes(out, 0, text))
 }
 
 // Writes what is made of a text that the strict import refuses, where it takes that.
-fn hand_on_candidate(text: &[u8], refusal: Refusal, out: &mut [u8; office::LONGEST]) -> Counted
+fn hand_on_candidate(
+    text: &[u8],
+    refusal: Refusal,
+    out: &mut [u8; office::LONGEST],
+) -> Result<usize, Refusal>
     requires { strict text.now ≡ refused 0 refusal }
     ensures { Tidies text.now out.old result out.new }
 {
     if LONGEST < text.len() {
-        return Counted::Refused(refusal);
+        return Err(refusal);
     }
     let mut candidate = [0u8; office::LONGEST];
-    let Loosened::Text(found) = loosen::loosen(text, &mut candidate) else {
-        return Counted::Refused(refusal);
+    let Some(found) = loosen::loosen(text, &mut candidate) else {
+        return Err(refusal);
     };
-    let n = ground::shorter(found, office::LONGEST);
-    let handed = hand_on(&candidate[..n], out);
-    let Counted::Count(_) = handed else {
-        return Counted::Refused(refusal);
-    };
-    handed
+    let n = found.min(office::LONGEST);
+    hand_on(&candidate[..n], out).or(Err(refusal))
 }
 
 // Writes the text that is handed on; a refused call, with the strict import's refusal of the text, writes nothing.
-pub fn tidied(text: &[u8], out: &mut [u8; office::LONGEST]) -> Counted
+pub fn tidied(text: &[u8], out: &mut [u8; office::LONGEST]) -> Result<usize, Refusal>
     ensures { Tidies text.now out.old result out.new }
 {
-    let through = hand_on(text, out);
-    if let Counted::Refused(refusal) = through {
-        return hand_on_candidate(text, refusal, out);
+    match hand_on(text, out) {
+        Ok(k) => Ok(k),
+        Err(refusal) => hand_on_candidate(text, refusal, out),
     }
-    through
 }

@@ -1,127 +1,111 @@
 // A line of a text that cannot be taken: its number, the reason, and the line with a caret below the place.
-use loosen::fields::Fault;
+use loosen::fields::{Fault, Kind, Reason};
 use loosen::line::Line;
-use loosen::{fields, line};
-use text::part;
-use text::part::Part;
+use loosen::survey::Untaken;
+use std::fmt;
+use text::Page;
 
 // How many bytes of a line, and of a field in the reason, are shown.
 const SHOWN: usize = 72;
 
 const QUOTED: usize = 24;
 
-// The words of a reason by its number; the last three are for jobs that need several cores.
-fn put_reason(out: &mut [u8], at: usize, reason: u16) -> usize {
-    text::nth_form(
-        out,
-        at,
-        b"a table has at most 32 tasks|\
-            the name has more than 20 bytes|\
-            the name is not UTF-8|\
-            a number is missing|\
-            is not a whole number|\
-            begins with a zero|\
-            is above 4,294,967,295|\
-            is above 16,000,000,000|\
-            too few fields: C, Tmin, Tmax and E are due|\
-            too many fields: a name, C, Tmin, Tmax and E are due|\
-            five numbers: a name must not be a number|\
-            too few fields: C, L, Tmin, Tmax and E are due|\
-            too many fields: a name, C, L, Tmin, Tmax and E are due|\
-            six numbers: a name must not be a number|",
-        reason,
-        &[],
-    )
+// Why a line is no task or no job, in words.
+#[derive(Clone, Copy)]
+struct Because {
+    reason: Reason,
+    kind: Kind,
 }
 
-// The number of the words for a reason, where so many numbers are due.
-fn worded(reason: u16, numbers: u8) -> u16 {
-    if numbers != fields::OF_JOB {
-        return reason;
+impl Because {
+    // The numbers that are due.
+    fn due(self) -> &'static str {
+        match self.kind {
+            Kind::Task => "C, Tmin, Tmax and E",
+            Kind::Job => "C, L, Tmin, Tmax and E",
+        }
     }
-    if reason < Fault::TOO_FEW {
-        return reason;
+
+    // How many numbers are one too many.
+    fn one_more(self) -> &'static str {
+        match self.kind {
+            Kind::Task => "five",
+            Kind::Job => "six",
+        }
     }
-    if Fault::NUMBER_FOR_NAME < reason {
-        return reason;
+}
+
+impl fmt::Display for Because {
+    fn fmt<W: fmt::Write>(&self, f: &mut fmt::Formatter<W>) -> fmt::Result {
+        let due = self.due();
+        match self.reason {
+            Reason::LongName => write!(f, "the name has more than 20 bytes"),
+            Reason::OddName => write!(f, "the name is not UTF-8"),
+            Reason::Missing => write!(f, "a number is missing"),
+            Reason::NotWhole => write!(f, "is not a whole number"),
+            Reason::LeadingZero => write!(f, "begins with a zero"),
+            Reason::TooLarge => write!(f, "is above 4,294,967,295"),
+            Reason::TooCostly => write!(f, "is above 16,000,000,000"),
+            Reason::TooFew => write!(f, "too few fields: {due} are due"),
+            Reason::TooMany => write!(f, "too many fields: a name, {due} are due"),
+            Reason::NumberForName => {
+                write!(
+                    f,
+                    "{} numbers: a name must not be a number",
+                    self.one_more()
+                )
+            }
+        }
     }
-    reason + 3
 }
 
 // Whether a reason is one of a number that stands there.
-fn is_of_number(reason: u16) -> bool {
-    if reason < Fault::NOT_WHOLE {
-        return false;
-    }
-    reason < Fault::TOO_FEW
+fn is_of_number(reason: Reason) -> bool {
+    matches!(
+        reason,
+        Reason::NotWhole | Reason::LeadingZero | Reason::TooLarge | Reason::TooCostly
+    )
 }
 
-// A byte as it is shown: a control character is a blank.
-fn shown(byte: u8) -> u8 {
-    if byte < 32 || byte == 127 { 32 } else { byte }
-}
-
-// The first bytes of a part, no more than so many.
-fn cut(part: Part, most: usize) -> Part {
-    let start = part.start;
-    let end = part.end;
-    if end <= start {
-        return part;
-    }
-    if end - start <= most {
-        return part;
-    }
-    Part {
-        start,
-        end: start + most,
+// Puts the first bytes of a text, a blank for each control character.
+fn put_shown(page: &mut Page, text: &[u8], most: usize) {
+    for byte in text.iter().take(most) {
+        page.put(&[if byte.is_ascii_control() { b' ' } else { *byte }]);
     }
 }
 
-// Puts the bytes of a part as they are shown.
-fn put_shown(out: &mut [u8], at: usize, s: &[u8], part: Part) -> usize {
-    let end = part.end;
-    let mut i = part.start;
-    let mut next = at;
-    while i < end {
-        next = text::byte(out, next, shown(part::byte_at(s, i)));
-        i += 1;
+// Puts the reason, behind the field at fault in quotes where it is one of a number that stands there.
+fn put_fault(page: &mut Page, line: &Line, fault: Fault) {
+    let Fault { reason, field } = fault;
+    if is_of_number(reason) {
+        write!(page, "\"");
+        put_shown(page, line.field(field), QUOTED);
+        write!(page, "\" ");
     }
-    next
+    let kind = line.kind;
+    write!(page, "{}", Because { reason, kind });
 }
 
-// The field at fault in quotes, where the reason is one of a number that stands there.
-fn put_quoted(out: &mut [u8], at: usize, s: &[u8], part: Part, reason: u16) -> usize {
-    if !is_of_number(reason) {
-        return at;
+// Puts a line of its own, four columns in, and a caret below one of its fields.
+fn put_pointed(page: &mut Page, line: &Line, field: usize) {
+    write!(page, "\n    ");
+    put_shown(page, line.text, SHOWN);
+    let blank = text::columns(line.before(field)).min(SHOWN);
+    writeln!(page, "\n    {:blank$}^", "");
+}
+
+// Puts a line that cannot be taken; the caret stands below its first field where the table is full.
+pub(crate) fn put_untaken(page: &mut Page, untaken: &Untaken) {
+    let line = &untaken.line;
+    write!(page, "line {}: ", untaken.number.saturating_add(1));
+    match untaken.fault {
+        Some(fault) => {
+            put_fault(page, line, fault);
+            put_pointed(page, line, fault.field);
+        }
+        None => {
+            write!(page, "a table has at most 32 tasks");
+            put_pointed(page, line, 0);
+        }
     }
-    let opened = text::byte(out, at, b'"');
-    let quoted = put_shown(out, opened, s, cut(part, QUOTED));
-    text::words(out, quoted, b"\" ")
-}
-
-// A part of a text in a line of its own, four columns in, and a caret so many columns in below it.
-fn put_pointed(out: &mut [u8], at: usize, s: &[u8], part: Part, column: usize) -> usize {
-    let indented = text::words(out, at, b"\n    ");
-    let put = put_shown(out, indented, s, cut(part, SHOWN));
-    let below = text::words(out, put, b"\n    ");
-    let blank = text::repeated(out, below, b' ', ground::shorter(column, SHOWN));
-    text::words(out, blank, b"^\n")
-}
-
-// A line of a number, from 1, that cannot be taken where so many numbers are due.
-pub(crate) fn put_untaken(
-    out: &mut [u8],
-    at: usize,
-    s: &[u8],
-    line: Line,
-    numbers: u8,
-    number: usize,
-) -> usize {
-    let fault = fields::fault_of(s, line, numbers);
-    let part = line::field(s, line, fault.field);
-    let numbered = text::form(out, at, b"line #: ", &[number as u64]);
-    let quoted = put_quoted(out, numbered, s, part, fault.reason);
-    let said = put_reason(out, quoted, worded(fault.reason, numbers));
-    let column = part::columns(s, line.part.start, part.start);
-    put_pointed(out, said, s, line.part, column)
 }

@@ -4,110 +4,82 @@
 
 mod fault;
 
+use loosen::fields::Kind;
 use loosen::survey;
+use loosen::survey::Survey;
+use std::fmt;
 use std::io::Write;
+use text::Page;
 
 // Room for all that is told: three lines for each line shown, and two more.
 const LONGEST: usize = 3_200;
 
-// The lines that cannot be taken, as many as are shown.
-fn put_lines(out: &mut [u8], s: &[u8], numbers: u8, survey: &[usize; survey::ROOM]) -> usize {
-    let untaken = ground::shorter(survey::count(survey, survey::UNTAKEN), survey::MOST_SHOWN);
-    let mut next: usize = 0;
-    for i in 0..untaken {
-        let line = survey::untaken_line(s, survey, i);
-        let number = survey::untaken_number(survey, i);
-        next = fault::put_untaken(out, next, s, line, numbers, number);
-    }
-    next
-}
+// So many of something.
+#[derive(Clone, Copy)]
+struct Count(usize, &'static str);
 
-// A comma, where something stands before.
-fn put_comma(out: &mut [u8], at: usize, began: usize) -> usize {
-    if began < at {
-        return text::words(out, at, b", ");
+impl fmt::Display for Count {
+    fn fmt<W: fmt::Write>(&self, f: &mut fmt::Formatter<W>) -> fmt::Result {
+        let Count(n, name) = *self;
+        let plural = if n == 1 { "" } else { "s" };
+        write!(f, "{n} {name}{plural}")
     }
-    at
-}
-
-// The letter of the plural.
-fn put_plural(out: &mut [u8], at: usize, n: usize) -> usize {
-    if 1 < n {
-        return text::byte(out, at, b's');
-    }
-    at
-}
-
-// So many of something, where there are any.
-fn put_count(out: &mut [u8], at: usize, began: usize, n: usize, name: &[u8]) -> usize {
-    if n < 1 {
-        return at;
-    }
-    let apart = put_comma(out, at, began);
-    let counted = text::form(out, apart, b"#", &[n as u64]);
-    let named = text::words(out, counted, name);
-    put_plural(out, named, n)
 }
 
 // How many lines cannot be taken beside those that are shown.
-fn put_more(out: &mut [u8], at: usize, untaken: usize) -> usize {
-    if untaken <= survey::MOST_SHOWN {
-        return at;
+fn put_more(page: &mut Page, untaken: usize) {
+    let more = Count(untaken.saturating_sub(survey::MOST_SHOWN), "more such line");
+    if 0 < more.0 {
+        writeln!(page, "and {more}");
     }
-    let began = text::words(out, at, b"and ");
-    let counted = put_count(
-        out,
-        began,
-        began,
-        untaken - survey::MOST_SHOWN,
-        b" more such line",
-    );
-    text::byte(out, counted, b'\n')
 }
 
-fn put_header(out: &mut [u8], at: usize, headers: usize) -> usize {
-    if headers < 1 {
-        return at;
+// Puts so many of something, where there are any, behind some words. Returns the words for the next.
+fn put_count(page: &mut Page, before: &'static str, count: Count) -> &'static str {
+    if count.0 == 0 {
+        return before;
     }
-    text::words(out, at, b"a header line")
+    write!(page, "{before}{count}");
+    ", "
 }
 
 // What was passed over, in one line, and nothing where nothing was.
-fn put_passed_over(out: &mut [u8], at: usize, survey: &[usize; survey::ROOM]) -> usize {
-    let began = text::words(out, at, b"passed over: ");
-    let headed = put_header(out, began, survey::count(survey, survey::HEADER));
-    let comments = survey::count(survey, survey::COMMENT);
-    let commented = put_count(out, headed, began, comments, b" comment");
-    let blanks = survey::count(survey, survey::BLANK);
-    let whole = put_count(out, commented, began, blanks, b" blank line");
-    if whole <= began {
-        return at;
+fn put_passed_over(page: &mut Page, survey: &Survey) {
+    let comments = Count(survey.comments, "comment");
+    let blanks = Count(survey.blanks, "blank line");
+    if !survey.has_header && comments.0 == 0 && blanks.0 == 0 {
+        return;
     }
-    text::byte(out, whole, b'\n')
+    write!(page, "passed over: ");
+    let mut before = "";
+    if survey.has_header {
+        write!(page, "a header line");
+        before = ", ";
+    }
+    before = put_count(page, before, comments);
+    put_count(page, before, blanks);
+    writeln!(page);
 }
 
-// All that is told of a text with so many numbers in a line. Returns how many bytes.
-fn put_told(s: &[u8], numbers: u8, out: &mut [u8]) -> usize {
-    if loosen::LONGEST < s.len() {
-        return text::words(out, 0, b"the text has more than 16384 bytes\n");
+// All that is told of a text whose lines are to be of a kind.
+fn put_told(page: &mut Page, given: &[u8], kind: Kind) {
+    if loosen::LONGEST < given.len() {
+        writeln!(page, "the text has more than {} bytes", loosen::LONGEST);
+        return;
     }
-    let mut survey = [0usize; survey::ROOM];
-    survey::take(s, numbers, &mut survey);
-    let shown = put_lines(out, s, numbers, &survey);
-    let more = put_more(out, shown, survey::count(&survey, survey::UNTAKEN));
-    put_passed_over(out, more, &survey)
-}
-
-// Writes so many bytes of a buffer, where it has them, to what is lent; what cannot be written is let go.
-fn write<W: Write>(to: &mut W, out: &[u8], count: usize) {
-    if count <= out.len() {
-        let _ = to.write_all(&out[..count]);
+    let survey = Survey::of(given, kind);
+    for untaken in survey.shown() {
+        fault::put_untaken(page, untaken);
     }
+    put_more(page, survey.untaken);
+    put_passed_over(page, &survey);
 }
 
 // Tells people, on what is lent as standard error, what they should know of a text, which is nothing of one that is exact.
-pub fn tell<W: Write>(to: &mut W, s: &[u8], numbers: u8) {
-    let mut told = [0u8; LONGEST];
-    let k = put_told(s, numbers, &mut told);
-    write(to, &told, k);
+pub fn tell<W: Write>(to: &mut W, given: &[u8], kind: Kind) {
+    let mut room = [0; LONGEST];
+    let mut page = Page::new(&mut room);
+    put_told(&mut page, given, kind);
+    // What cannot be written is let go.
+    let _ = page.write_to(to);
 }

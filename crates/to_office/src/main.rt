@@ -6,8 +6,6 @@ use std::io;
 
 fn main(rt: HostRuntime) -> io::Result<()> {
     let mut input = [0u8; sheet::LONGEST + 1];
-    let n = lent_input::read_full(&mut rt.stdin(), &mut input)?;
     let mut out = [0u8; office::LONGEST];
-    let k = office_sheet::take_out(&input[..n], &mut out);
-    rt.write_all(&out[..k])
+    lent_input::run(rt, &mut input, &mut out, office_sheet::take_out)
 }

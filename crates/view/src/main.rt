@@ -3,11 +3,13 @@
 #![tactic(auto)]
 
 use std::io;
+use text::Page;
 
 fn main(rt: HostRuntime) -> io::Result<()> {
     let mut input = [0u8; sheet::LONGEST + 1];
     let n = lent_input::read_full(&mut rt.stdin(), &mut input)?;
-    let mut out = [0u8; view_text::LONGEST];
-    let k = view_text::view(&input[..n], &mut out);
-    text::write(&mut rt.stdout(), &out, k)
+    let mut room = [0u8; view_text::LONGEST];
+    let mut page = Page::new(&mut room);
+    view_text::view(&mut page, &input[..n]);
+    page.write_to(&mut rt.stdout())
 }

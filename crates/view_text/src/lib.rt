@@ -1,12 +1,12 @@
-// What people read of a station sheet, put into a lent buffer: its settings, its tasks and their plan, and what that leaves free, or why it is
-// refused. All of it comes from proved calls: the reader, the filling, the margin and both checkers. The text is tested and not promised.
+// What people read of a station sheet, put on a page: its settings, its tasks and their plan, and what that leaves free, or why it is refused. All
+// of it comes from proved calls: the reader, the filling, the margin and both checkers. The text is tested and not promised.
 #![tactic(auto)]
 
 use fill::SheetPlan;
-use kinds::{
-    Answer, Margin, Policy, Refusal, Results, Settings, Share, Sheet, Table, Task, Verdict,
-};
-use task_names::ROOM;
+use kinds::{Policy, Refusal, Settings, Share, Sheet};
+use refusal_words::{Because, Line, Sentence};
+use task_names::Names;
+use text::{Apart, Gauge, Page, Percent};
 
 // Room for every view: 32 tasks, 16 processors and 16 lines besides, of 80 columns and a name's further bytes.
 pub const LONGEST: usize = 6_400;
@@ -17,204 +17,118 @@ const MUCH: u64 = 50_000;
 // A load for each of the most processors.
 pub const MOST_LOADS: usize = Settings::MOST_PROCESSORS as usize;
 
-// A line with the load of a processor.
-fn put_load(out: &mut [u8], at: usize, processor: usize, load: u32) -> usize {
-    let loaded = text::form(
-        out,
-        at,
-        b"processor ## ###.####% ",
-        &[
-            processor as u64,
-            (load / 10_000) as u64,
-            (load % 10_000) as u64,
-        ],
-    );
-    let gauged = text::gauge(out, loaded, load, Share::SCALE as u32, 40);
-    text::byte(out, gauged, b'\n')
-}
-
 // The load of each of so many processors.
-pub fn put_loads(out: &mut [u8], at: usize, processors: u16, loads: &[u32; MOST_LOADS]) -> usize {
-    let m = ground::shorter(processors as usize, MOST_LOADS);
-    let mut next = text::byte(out, at, b'\n');
-    for j in 0..m {
-        let load = loads[j];
-        next = put_load(out, next, j + 1, load);
-    }
-    next
-}
-
-// A number that is not negative, and 0 for one that is.
-fn positive(x: i64) -> u64 {
-    if x > 0 { x as u64 } else { 0 }
-}
-
-// The parts that a margin leaves free.
-fn free(margin: Margin) -> u64 {
-    match margin {
-        Margin::Is(parts) => positive(parts),
-        Margin::Refused(_) => 0,
+pub fn put_loads(page: &mut Page, processors: u16, loads: &[u32; MOST_LOADS]) {
+    writeln!(page);
+    for (processor, load) in (1..=processors).zip(loads) {
+        let value = *load;
+        let most = Share::SCALE as u32;
+        let percent = Percent(u64::from(value));
+        writeln!(
+            page,
+            "processor {processor:2} {percent:8.4}% {}",
+            Gauge { value, most }
+        );
     }
 }
 
 // What the margin leaves free. Where a step more left much of a processor free, smaller steps would not.
-fn put_free(out: &mut [u8], at: usize, parts: u64, step: u32) -> usize {
-    let coarse = if 0 < step && MUCH <= parts { 1 } else { 0 };
-    text::nth_form(
-        out,
-        at,
-        b"\n#.#% of a processor free\n|\n#.#% of a processor free: the steps are coarse; a smaller E makes them finer\n|",
-        coarse,
-        &[parts / 10_000, parts / 1_000 % 10],
-    )
+fn put_free(page: &mut Page, parts: u64, step: u32) {
+    let coarse = if 0 < step && MUCH <= parts {
+        ": the steps are coarse; a smaller E makes them finer"
+    } else {
+        ""
+    };
+    writeln!(page, "\n{:.1}% of a processor free{coarse}", Percent(parts));
 }
 
 // Which kernel a pooled plan on more than one processor is for: global EDF does not carry it (`pooled-late` of `met`).
-fn put_kernel(out: &mut [u8], at: usize, policy: Policy, m: u16) -> usize {
-    let Policy::Pooled = policy else {
-        return at;
-    };
-    if m < 2 {
-        return at;
+fn put_kernel(page: &mut Page, policy: Policy, m: u16) {
+    if policy == Policy::Pooled && 1 < m {
+        writeln!(
+            page,
+            "for a fluid kernel: global EDF may miss deadlines of this plan"
+        );
     }
-    text::words(
-        out,
-        at,
-        b"for a fluid kernel: global EDF may miss deadlines of this plan\n",
-    )
-}
-
-// The processor of each task in a results section.
-fn processors_of(results: Results) -> [u16; Table::MOST_TASKS] {
-    let mut processors = [0u16; Table::MOST_TASKS];
-    for i in 0..Table::MOST_TASKS {
-        let granted = results.rows[i];
-        processors[i] = granted.processor;
-    }
-    processors
 }
 
 // What a plan leaves free: by processor under first fit, and otherwise the margin.
-fn put_room(out: &mut [u8], at: usize, x: Sheet, step: u32) -> usize {
-    let table = x.table;
+fn put_room(page: &mut Page, x: Sheet, step: u32) {
     let settings = x.settings;
     let policy = settings.policy;
     let asked = policy.meant();
     if !asked.is_first_fit() {
-        let margin = margin::margin_at(table, settings, step);
-        let margined = put_free(out, at, free(margin), step);
-        return put_kernel(out, margined, asked, settings.m);
+        let margin = margin::margin_at(x.table, settings, step);
+        put_free(page, margin.map_or(0, |parts| parts.max(0) as u64), step);
+        put_kernel(page, asked, settings.m);
+        return;
     }
-    let processors = processors_of(x.results);
+    let processors = x.results.rows.map(|granted| granted.processor);
     let mut loads = [0u32; MOST_LOADS];
-    let verdict = proposal::check(table, settings, step, &processors, &mut loads);
-    let Verdict::Accepted = verdict else {
-        return at;
-    };
-    put_loads(out, at, settings.m, &loads)
-}
-
-// The number of the reason for which a record is not good.
-fn reason_of(task: Task, settings: Settings) -> u16 {
-    let reason = reason::reason_of(task, settings.swap, settings.notch);
-    reason.number()
-}
-
-// The line of a refusal, and one sentence on what to look at, without an end.
-fn put_refusal(out: &mut [u8], at: usize, refusal: Refusal) -> usize {
-    let number = refusal.number();
-    let place = refusal.place();
-    let refused = text::form(out, at, b"refused # at #: ", &[number as u64, place as u64]);
-    refusal_words::sentence(out, refused, number, place)
-}
-
-// Why a record of a table is not good, after its refusal.
-fn put_reason(
-    out: &mut [u8],
-    at: usize,
-    refusal: Refusal,
-    table: Table,
-    settings: Settings,
-) -> usize {
-    let Refusal::BadRecord(place) = refusal else {
-        return at;
-    };
-    if Table::MOST_TASKS <= place {
-        return at;
+    if proposal::check(x.table, settings, step, &processors, &mut loads).is_ok() {
+        put_loads(page, settings.m, &loads);
     }
-    let task = table.rows[place];
-    refusal_words::reason(out, at, reason_of(task, settings))
 }
 
-// Where no step passes, by how much the tasks do not fit, and what would help.
-fn put_short(out: &mut [u8], at: usize, refusal: Refusal, x: Sheet, names: &[u8; ROOM]) -> usize {
-    let Refusal::NoStepPasses = refusal else {
-        return at;
-    };
-    shortfall::put_shortfall(out, at, x.table, x.settings, names)
-}
-
-// A sheet that the plain finder refuses: why, and what stands there.
-fn put_refused(out: &mut [u8], refusal: Refusal, x: Sheet, names: &[u8; ROOM]) -> usize {
-    let refused = put_refusal(out, 0, refusal);
-    let reasoned = put_reason(out, refused, refusal, x.table, x.settings);
-    let ended = text::byte(out, reasoned, b'\n');
-    let short = put_short(out, ended, refusal, x, names);
-    let apart = text::byte(out, short, b'\n');
-    let set = view_table::put_settings(out, apart, x.settings);
-    view_table::put_table(out, set, x, names, 0, false)
+// A sheet that the plain finder refuses: why, by how much the tasks do not fit where no step passes, and what stands there.
+fn put_refused(page: &mut Page, refusal: Refusal, x: Sheet, names: &Names) {
+    let Settings { swap, notch, .. } = x.settings;
+    let line = Line::of(refusal, &x.table.rows, |task| {
+        reason::reason_of(task, swap, notch).map(Because)
+    });
+    writeln!(page, "{line}");
+    if refusal == Refusal::NoStepPasses {
+        shortfall::put_shortfall(page, x.table, x.settings, names);
+    }
+    writeln!(page);
+    view_table::put_settings(page, x.settings);
+    view_table::put_table(page, x, names, 0, false);
 }
 
 // A sheet with its plan at a step.
-fn put_accepted(out: &mut [u8], step: u32, x: Sheet, names: &[u8; ROOM]) -> usize {
-    let set = view_table::put_settings(out, 0, x.settings);
-    let fits = text::form(out, set, b"the tasks fit at step @\n", &[step as u64]);
-    let planned = view_table::put_table(out, fits, x, names, step, true);
-    put_room(out, planned, x, step)
+fn put_accepted(page: &mut Page, step: u32, x: Sheet, names: &Names) {
+    view_table::put_settings(page, x.settings);
+    writeln!(page, "the tasks fit at step {}", Apart(u64::from(step)));
+    view_table::put_table(page, x, names, step, true);
+    put_room(page, x, step);
 }
 
-// What is to be read of a sheet that was filled in: its plan with the names of its tasks, or why it has none. Returns how many bytes.
-pub fn put_plan(plan: SheetPlan, names: &[u8; ROOM], out: &mut [u8]) -> usize {
-    let answer = plan.answer;
+// What is to be read of a sheet that was filled in: its plan with the names of its tasks, or why it has none.
+pub fn put_plan(page: &mut Page, plan: SheetPlan, names: &Names) {
     let x = plan.sheet;
-    match answer {
-        Answer::Refused(refusal) => put_refused(out, refusal, x, names),
-        Answer::Accepted(step) => put_accepted(out, step, x, names),
+    match plan.answer {
+        Err(refusal) => put_refused(page, refusal, x, names),
+        Ok(step) => put_accepted(page, step, x, names),
     }
 }
 
 // Whether the results that stand in a sheet are ours; nothing of one that is refused before that is asked.
-fn put_stored(out: &mut [u8], at: usize, verdict: Verdict) -> usize {
-    let Verdict::Refused(refusal) = verdict else {
-        return text::words(out, at, b"stored results: ours\n");
-    };
-    if let Refusal::NoResults = refusal {
-        return text::words(out, at, b"stored results: none\n");
+fn put_stored(page: &mut Page, verdict: Result<(), Refusal>) {
+    match verdict {
+        Ok(()) => writeln!(page, "stored results: ours"),
+        Err(Refusal::NoResults) => writeln!(page, "stored results: none"),
+        Err(Refusal::WrongResult(place)) => {
+            let sentence = Sentence(Refusal::WrongResult(place));
+            writeln!(page, "stored results: not ours; {sentence}")
+        }
+        Err(_) => (),
     }
-    let Refusal::WrongResult(place) = refusal else {
-        return at;
-    };
-    let named = text::words(out, at, b"stored results: not ours; ");
-    let said = refusal_words::sentence(out, named, refusal.number(), place);
-    text::byte(out, said, b'\n')
 }
 
-// One refusal, with nothing beside it. Returns how many bytes.
-pub fn put_line(refusal: Refusal, out: &mut [u8]) -> usize {
-    let said = put_refusal(out, 0, refusal);
-    text::byte(out, said, b'\n')
+// One refusal, with nothing beside it.
+pub fn put_line(page: &mut Page, refusal: Refusal) {
+    writeln!(page, "{}", Line::alone(refusal));
 }
 
-// The view of what was read. Returns how many bytes.
-pub fn view(input: &[u8], out: &mut [u8]) -> usize {
+// The view of what was read.
+pub fn view(page: &mut Page, input: &[u8]) {
     let reading = sheet::read(input);
-    let verdict = reading.verdict;
-    if let Verdict::Refused(refusal) = verdict {
-        return put_line(refusal, out);
+    if let Err(refusal) = reading.verdict {
+        put_line(page, refusal);
+        return;
     }
     let x = reading.sheet;
     let plan = fill::fill_sheet(x);
-    let names = [0u8; ROOM];
-    let said = put_plan(plan, &names, out);
-    put_stored(out, said, filled_sheet::check_plan(x, plan))
+    put_plan(page, plan, &Names::NONE);
+    put_stored(page, filled_sheet::check_plan(x, plan));
 }

@@ -1,12 +1,10 @@
 -- An accepted call in the words of demands 1 and 2: the least passing step, each task's shortest period and fewest cores, and nothing past
 -- them; and a call refused by 7: no step from 0 to K passes.
 -- Assumes nothing.
-use Rattle.ground.proofs.Kit.{ℕ, ◌≤◌, ◌<◌, min, false, List, ◌≡◌, length, get_or}
+use Rattle.ground.proofs.Kit.{ℕ, ◌≤◌, ◌<◌, min, false, List, ◌≡◌, length, get_or, Ok}
 use Rattle.ground.specs.Least.{LeastAt}
 use Rattle.ground.proofs.Buffer.{list_at, list-past}
-use Rattle.kinds.specs.declared.Answer.TheVariants.{Accepted}
 use Rattle.rule.specs.Rule.{Shortest}
-use Rattle.kinds.specs.declared.Verdict.TheVariants as verdict
 use Rattle.outcome.specs.Plan.{Meets}
 use Rattle.wide_task.specs.declared.WideTask.{WideTask}
 use Rattle.wide_task.specs.declared.WideTable.{WideTable}
@@ -30,7 +28,7 @@ pub record Granted (m : ℕ) (t : WideTable) (k : ℕ) (old_periods old_cores pe
   pub cores-past : (i : ℕ) → t.n ≤ i → get_or cores i 0 ≡ get_or old_cores i 0
 
 pub accepted-granted : (m : ℕ) (t : WideTable) (k : ℕ) (old_periods old_cores periods cores : List ℕ)
-    → Meets (outcome m t.rows t.n old_periods old_cores) (Accepted k) periods cores → Granted m t k old_periods old_cores periods cores
+    → Meets (outcome m t.rows t.n old_periods old_cores) (Ok k) periods cores → Granted m t k old_periods old_cores periods cores
 unfolding outcome periods_at core_counts_at
 accepted-granted m t k old_periods old_cores periods cores x =
     let room = min (length old_periods) (length old_cores) in
@@ -50,10 +48,10 @@ accepted-granted m t k old_periods old_cores periods cores x =
 -- refusal 7 is given exactly when the call is admitted and no step from 0 to K passes
 module _ (m : ℕ) (rows : List WideTask) (n room : ℕ) where
   pub seven-none : (found m rows n room).number ≡ 7
-      → (admission m rows n room ≡ verdict.Accepted) × ((k : ℕ) → k ≤ full_compression rows n → passes_at m rows n k ≡ false)
+      → (admission m rows n room ≡ (Ok tt)) × ((k : ℕ) → k ≤ full_compression rows n → passes_at m rows n k ≡ false)
   seven-none e = let s = refused-seven m rows n room e in (s.0, step-nothing m rows n s.1)
 
-  pub none-seven : admission m rows n room ≡ verdict.Accepted → ((k : ℕ) → k ≤ full_compression rows n → passes_at m rows n k ≡ false)
+  pub none-seven : admission m rows n room ≡ (Ok tt) → ((k : ℕ) → k ≤ full_compression rows n → passes_at m rows n k ≡ false)
       → (found m rows n room).number ≡ 7
   unfolding found
   none-seven a h = let e = nothing-passes m rows n h in rw (a, e)

@@ -1,7 +1,7 @@
 -- "Given exactly when", of the finder of jobs that need several cores: `wide-exactly`; the numbers that it gives are `wide-numbers`.
 -- Assumes nothing.
+use Rattle.kinds.specs.Answer.{Verdict}
 use Rattle.ground.proofs.Kit.{ℕ, ◌≤◌, true, false, List, [], ◌∷◌, ◌++◌, ◌≡◌, refl, ◌∙◌, ap, ltb}
-use Rattle.kinds.specs.declared.Verdict.{Verdict}
 use Rattle.kinds.specs.declared.Refusal.TheVariants.{Misset, TooManyTasks, OutputTooShort, BadRecord}
 use Rattle.kinds.specs.Limits.{most_tasks}
 use Rattle.kinds.specs.Chain.{Check, ◌when◌, first_by, first_of, handed_by, Exactly, numbers_given}

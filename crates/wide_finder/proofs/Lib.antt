@@ -1,5 +1,6 @@
 pub mod Tables
 pub mod Passing
+pub mod Admitting
 pub mod Found
 pub mod Outcomes
 pub mod Demand

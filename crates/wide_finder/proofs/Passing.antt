@@ -1,7 +1,6 @@
 -- Passing stays, since the cores of each task never rise with the step; and demand 2's words on the least passing step.
 -- Assumes nothing.
-use Rattle.ground.proofs.Kit.{ℕ, zero, suc, ◌+◌, ◌*◌, ◌≤◌, ◌<◌, true, false, List, ◌≡◌, sym, arith, le-leb, lt-leb, leb-true}
-use Rattle.ground.specs.declared.Step.TheVariants.{At, Nothing}
+use Rattle.ground.proofs.Kit.{ℕ, zero, suc, ◌+◌, ◌*◌, ◌≤◌, ◌<◌, true, false, List, ◌≡◌, sym, arith, le-leb, lt-leb, leb-true, Some, None}
 use Rattle.ground.specs.Folds.{sum_to}
 use Rattle.ground.specs.Least.{LeastAt, Rising}
 use Rattle.kinds.specs.Limits.{most_processors}
@@ -31,19 +30,19 @@ passes-rising m rows n g j k h p =
     le-leb (sum_to (λ i. cores_at (at rows i) k) n) m (omega (arith, s, b))
 
 -- the step passes, and no smaller one does
-pub step-at : (m : ℕ) (rows : List WideTask) (n k : ℕ) → least_step m rows n ≡ At k → LeastAt (passes_at m rows n) (full_compression rows n) k
+pub step-at : (m : ℕ) (rows : List WideTask) (n k : ℕ) → least_step m rows n ≡ Some k → LeastAt (passes_at m rows n) (full_compression rows n) k
 unfolding least_step
 step-at m rows n k e = least_at (passes_at m rows n) (full_compression rows n) k e
 
 -- none means that no step from 0 to K passes
-pub step-nothing : (m : ℕ) (rows : List WideTask) (n : ℕ) → least_step m rows n ≡ Nothing
+pub step-nothing : (m : ℕ) (rows : List WideTask) (n : ℕ) → least_step m rows n ≡ None
     → (k : ℕ) → k ≤ full_compression rows n → passes_at m rows n k ≡ false
 unfolding least_step
 step-nothing m rows n e = least-nothing (passes_at m rows n) (full_compression rows n) e
 
 -- and where none passes there is none
 pub nothing-passes : (m : ℕ) (rows : List WideTask) (n : ℕ) → ((k : ℕ) → k ≤ full_compression rows n → passes_at m rows n k ≡ false)
-    → least_step m rows n ≡ Nothing
+    → least_step m rows n ≡ None
 unfolding least_step
 nothing-passes m rows n h =
     sym (least-none (passes_at m rows n) (full_compression rows n) (full_compression rows n + 1) (λ j l. h j (omega arith)) (omega arith))

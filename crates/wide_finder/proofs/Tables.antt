@@ -2,23 +2,24 @@
 -- Assumes nothing.
 use Rattle.ground.proofs.Kit.{ℕ, ◌≤◌, ◌<◌, false, not, List, ◌≡◌, ◌∙◌, ap, arith, leb}
 use Rattle.ground.specs.First.{IsFirst}
-use Rattle.ground.specs.Folds.{max_to}
+use Rattle.ground.specs.Folds.{sum_to, max_to}
 use Rattle.ground.specs.Least.{least_up_to}
 use Rattle.ground.proofs.Buffer.{list-cong}
 use Rattle.ground.proofs.Cases.{by_bool, true-false}
 use Rattle.ground.proofs.First.{first-is, first_cong}
-use Rattle.ground.proofs.Folds.{sum-cong, max-to-le, max-cong}
+use Rattle.ground.proofs.Folds.{sum-cong, sum-most, max-to-le, max-cong}
 use Rattle.ground.proofs.Least.{least-cong}
 use Rattle.kinds.specs.Limits.{most_tasks}
 use Rattle.wide_task.specs.declared.WideTask.{WideTask}
 use Rattle.wide_task.specs.declared.WideTable.{WideTable}
+use Rattle.wide_task.specs.Limits.{most_cores}
 use Rattle.wide_task.specs.WideTask.{at, Good, is_good}
 use Rattle.wide_task.specs.Cores.{saturation_at, period_at, cores_at}
 use Rattle.wide_task.specs.Handover.{StepIs}
 use Rattle.wide_finder.specs.Table.{full_compression, first_bad, passes_at, least_step, periods_at, core_counts_at}
-use Rattle.wide_finder.specs.Handover.{GoodTable}
+use Rattle.wide_finder.specs.Handover.{GoodTable, SumIs}
 use Rattle.wide_task.proofs.Records.{good-is}
-use Rattle.wide_task.proofs.Tasks.{saturation-most}
+use Rattle.wide_task.proofs.Tasks.{saturation-most, cores-most}
 
 -- Ask 4: "K is at most 14,999,999"
 pub full-most : (rows : List WideTask) (n : ℕ) → ((i : ℕ) → i < n → Good (at rows i)) → full_compression rows n ≤ 14999999
@@ -26,11 +27,17 @@ unfolding full_compression
 full-most rows n g =
     max-to-le (λ i. saturation_at (at rows i)) n 14999999 (λ i l. omega (arith, saturation-most (at rows i) (g i l)))
 
--- the walk that works K out has done so
-pub full-done : (t : WideTable) (greatest : ℕ) → GoodTable t → greatest ≡ max_to (λ j. saturation_at (at t.rows j)) t.n
-    → StepIs (full_compression t.rows t.n) greatest
+-- what works K out has done so
+pub full-done : (rows : List WideTask) (n greatest : ℕ) → ((i : ℕ) → i < n → Good (at rows i))
+    → greatest ≡ max_to (λ j. saturation_at (at rows j)) n → StepIs (full_compression rows n) greatest
 unfolding full_compression
-full-done t greatest g e = record { is = e; most = omega (arith, e, full-most t.rows t.n g.good) }
+full-done rows n greatest g e = record { is = e; most = omega (arith, e, full-most rows n g) }
+
+-- and what adds the cores up
+pub sum-done : (rows : List WideTask) (n k sum : ℕ) → ((i : ℕ) → i < n → Good (at rows i))
+    → sum ≡ sum_to (λ i. cores_at (at rows i) k) n → SumIs rows n k sum
+sum-done rows n k sum g e =
+    record { is = e; most = omega (arith, e, sum-most (λ i. cores_at (at rows i) k) n most_cores (λ i l. cores-most (at rows i) (g i l) k)) }
 
 -- the first bad record in words: those before it are good, and it is not
 pub first-bad-is : (rows : List WideTask) (n : ℕ) → IsFirst (λ i. not (is_good (at rows i))) n (first_bad rows n)

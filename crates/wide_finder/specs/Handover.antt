@@ -1,17 +1,14 @@
 -- What the functions hand each other.
 -- Assumes nothing.
-use Rattle.std.specs.Prelude.{ℕ, ◌≤◌, ◌<◌, true, List, ◌≡◌}
+use Rattle.std.specs.Prelude.{ℕ, ◌≤◌, ◌<◌, List, ◌≡◌, length, Ok}
 use Rattle.ground.specs.Folds.{AddedUp}
-use Rattle.kinds.specs.declared.Answer.{Answer}
-use Rattle.kinds.specs.Answer.{Handed, is_accepted, step_of}
-use Rattle.kinds.specs.Limits.{most_tasks, most_processors}
-use Rattle.outcome.specs.Handover.{Written}
+use Rattle.kinds.specs.Limits.{most_tasks}
 use Rattle.wide_task.specs.declared.WideTask.{WideTask}
 use Rattle.wide_task.specs.declared.WideTable.{WideTable}
 use Rattle.wide_task.specs.Limits.{most_cores}
 use Rattle.wide_task.specs.WideTask.{at, Good}
 use Rattle.wide_task.specs.Cores.{cores_at}
-use Rattle.wide_finder.specs.Table.{cores_sum, periods_at, core_counts_at}
+use Rattle.wide_finder.specs.Wide.{admission}
 
 -- a table by value that the rules may be asked of
 pub record GoodTable (t : WideTable) : Type 0 where
@@ -22,17 +19,8 @@ pub record GoodTable (t : WideTable) : Type 0 where
 abbrev pub SumIs : List WideTask → ℕ → ℕ → ℕ → Type 0
 SumIs rows n k r = AddedUp (λ i. cores_at (at rows i) k) most_cores n r
 
--- what the writing of an accepted step k relies on
-pub record Grantable (t : WideTable) (k periods cores : ℕ) : Type 0 where
-  pub table : GoodTable t
-  pub roomy : t.n ≤ periods
-  pub roomy-cores : t.n ≤ cores
-  pub fits : cores_sum t.rows t.n k ≤ most_processors
-
--- what the writing of an answer leaves in the two outputs
-abbrev pub Leaves : Handed ℕ → List WideTask → ℕ → List ℕ → List ℕ → List ℕ → List ℕ → Type 0
-Leaves h rows n old_periods old_cores periods cores = Written h (periods_at rows n) (core_counts_at rows n) n old_periods old_cores periods cores
-
--- an accepted answer may be written
-abbrev pub MayGrant : Answer → WideTable → ℕ → ℕ → Type 0
-MayGrant answer t periods cores = is_accepted answer ≡ true → Grantable t (step_of answer) periods cores
+-- a table that is let in, and its records
+pub record LetsIn (m : ℕ) (t : WideTable) (room : ℕ) (rows : List WideTask) : Type 0 where
+  pub passed : admission m t.rows t.n room ≡ Ok tt
+  pub long : length rows ≡ t.n
+  pub same : (i : ℕ) → i < t.n → at rows i ≡ at t.rows i

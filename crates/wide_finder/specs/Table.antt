@@ -1,10 +1,9 @@
 -- The rules for the first n of some tasks that need several cores: when they pass, and the least step at which they do.
 -- Assumes nothing.
 use Rattle.std.specs.Prelude.{ℕ, Bool, not, List, leb}
-use Rattle.ground.specs.declared.Step.{Step}
 use Rattle.ground.specs.First.{first_below}
 use Rattle.ground.specs.Folds.{sum_to, max_to, list_to}
-use Rattle.ground.specs.Least.{least_up_to}
+use Rattle.ground.specs.Least.{least_up_to, Step}
 use Rattle.wide_task.specs.declared.WideTask.{WideTask}
 use Rattle.wide_task.specs.WideTask.{at, is_good}
 use Rattle.wide_task.specs.Cores.{saturation_at, period_at, cores_at}

@@ -2,8 +2,7 @@
 -- every input.
 -- Assumes nothing.
 use Rattle.std.specs.Prelude.{ℕ, min, List, length}
-use Rattle.kinds.specs.Answer.{Handed}
-use Rattle.kinds.specs.declared.Verdict.{Verdict}
+use Rattle.kinds.specs.Answer.{Handed, Verdict}
 use Rattle.admission.specs.Admission.{and_then, misset, gate, roomy, judged}
 use Rattle.outcome.specs.Plan.{decided, Outcome, settled}
 use Rattle.wide_task.specs.declared.WideTask.{WideTask}

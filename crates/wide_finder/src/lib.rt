@@ -2,157 +2,128 @@
 // of `find` is `outcome` of `specs/Wide`.
 #![tactic(auto)]
 
-ghost use Rattle.std.specs.Prelude.{◌++◌, ◌≡◌, ◌≤◌, length, drop};
+ghost use Rattle.std.specs.Prelude.{◌++◌, ◌≡◌, ◌≤◌, not, length, drop, position, All, IfOk, IfErr, Err};
 ghost use Rattle.kinds.specs.Answer.{handed};
 ghost use Rattle.kinds.specs.Limits.{most_tasks, most_processors};
 ghost use Rattle.outcome.specs.Plan.{Meets};
+ghost use Rattle.wide_task.specs.WideTask.{Good, is_good};
 ghost use Rattle.wide_task.specs.Handover.{StepIs};
-ghost use Rattle.wide_finder.specs.Table.{full_compression, first_bad, cores_sum, passes_at, least_step, periods_at, core_counts_at};
+ghost use Rattle.wide_finder.specs.Table.{full_compression, cores_sum, passes_at, least_step, periods_at, core_counts_at};
 ghost use Rattle.wide_finder.specs.Wide.{admission, found, outcome};
-ghost use Rattle.wide_finder.specs.Handover.{GoodTable, SumIs, MayGrant, Leaves};
+ghost use Rattle.wide_finder.specs.Handover.{SumIs, LetsIn};
 
-use ground::Step;
-use kinds::{Answer, Refusal, Verdict};
-use wide_task::WideTable;
+use kinds::Refusal;
+use rule::Job;
+use wide_task::{WideTable, WideTask};
 
-// Document 01: "Full compression K: the greatest saturation step, 0 if there is none."
-fn full_compression(table: WideTable) -> u32
-    requires { GoodTable table }
-    ensures { StepIs (full_compression table.rows table.n) result }
-{
-    let n = table.n;
-    let mut greatest: u32 = 0;
-    for i in 0..n {
-        greatest = ground::later(greatest, wide_task::saturation(table.rows[i]));
-    }
-    greatest
+// The tasks of a table that is let in: at most the most, and all good.
+#[derive(Clone, Copy)]
+struct Admitted<'a> {
+    rows: &'a [WideTask],
+    ghost few: { length rows.now ≤ most_tasks },
+    ghost good: { All Good rows.now },
 }
 
-// The first record that is not good, or how many there are.
-fn first_bad(table: WideTable) -> usize
-    requires { table.n ≤ most_tasks }
-    ensures { result ≡ first_bad table.rows table.n }
-{
-    let n = table.n;
-    for i in 0..n {
-        if !table.rows[i].good() {
-            return i;
+impl Admitted<'_> {
+    // Document 01: "Full compression K: the greatest saturation step, 0 if there is none."
+    fn full_compression(&self) -> u32
+        ensures { StepIs (full_compression self.now.rows.now (length self.now.rows.now)) result }
+    {
+        self.rows
+            .iter()
+            .map(|task| task.saturation())
+            .max()
+            .unwrap_or(0)
+    }
+
+    // The cores that the tasks need at step k.
+    fn cores_sum(&self, k: u32) -> u64
+        ensures { SumIs self.now.rows.now (length self.now.rows.now) k result }
+    {
+        self.rows
+            .iter()
+            .map(|task| wide_task::cores_at(*task, k))
+            .sum()
+    }
+
+    // Ask 4: "A table of such tasks passes at a step when the cores add up to at most m".
+    fn passes_at(&self, m: u16, k: u32) -> bool
+        ensures { result ≡ passes_at m self.now.rows.now (length self.now.rows.now) k }
+    {
+        self.cores_sum(k) <= u64::from(m)
+    }
+
+    // The least step from 0 to full compression that passes. Passing stays, so the range is halved.
+    fn least_step(&self, m: u16) -> Option<u32>
+        ensures { result ≡ least_step m self.now.rows.now (length self.now.rows.now) }
+    {
+        ground::least_passing(self.full_compression(), |k| self.passes_at(m, k))
+    }
+
+    // Writes the period of each task at step k, and nothing past them: by index, since after a `zip` with `iter_mut` no entry is known.
+    fn write_periods(&self, k: u32, out: &mut [u32])
+        requires { length self.now.rows.now ≤ length out.old }
+        ensures { out.new ≡ periods_at self.now.rows.now (length self.now.rows.now) k ++ drop (length self.now.rows.now) out.old }
+    {
+        for (i, task) in self.rows.iter().enumerate() {
+            out[i] = task.period_at(k);
         }
     }
-    n
-}
 
-// The cores that the table needs at step k.
-fn cores_sum(table: WideTable, k: u32) -> u64
-    requires { GoodTable table }
-    ensures { SumIs table.rows table.n k result }
-{
-    let n = table.n;
-    let mut sum: u64 = 0;
-    for i in 0..n {
-        sum += wide_task::cores_at(table.rows[i], k);
-    }
-    sum
-}
-
-// Ask 4: "A table of such tasks passes at a step when the cores add up to at most m".
-fn passes_at(m: u16, table: WideTable, k: u32) -> bool
-    requires { GoodTable table }
-    ensures { result ≡ passes_at m table.rows table.n k }
-{
-    cores_sum(table, k) <= m as u64
-}
-
-// The least step from 0 to full compression that passes. Passing stays, so the range is halved; full compression + 1 stands for none.
-fn least_step(m: u16, table: WideTable) -> Step
-    requires { GoodTable table }
-    ensures { result ≡ least_step m table.rows table.n }
-{
-    let full = full_compression(table);
-    let mut from: u32 = 0;
-    let mut to: u32 = full + 1;
-    while from < to {
-        let middle = (from + to) / 2;
-        if passes_at(m, table, middle) {
-            to = middle;
-        } else {
-            from = middle + 1;
+    // Writes the cores that each task needs at step k, which fit the processors there are, and nothing past them.
+    fn write_cores(&self, k: u32, out: &mut [u16])
+        requires room { length self.now.rows.now ≤ length out.old }
+        requires fit { cores_sum self.now.rows.now (length self.now.rows.now) k ≤ most_processors }
+        ensures { out.new ≡ core_counts_at self.now.rows.now (length self.now.rows.now) k ++ drop (length self.now.rows.now) out.old }
+    {
+        for (i, task) in self.rows.iter().enumerate() {
+            out[i] = wide_task::cores_at(*task, k) as u16;
         }
     }
-    if from <= full {
-        return Step::At(from);
-    }
-    Step::Nothing
+}
+
+// The first record that is not good.
+fn first_bad(rows: &[WideTask]) -> Option<usize>
+    ensures { result ≡ position (λ task. not (is_good task)) rows.now }
+{
+    rows.iter().position(|task| !task.good())
 }
 
 // Refusals 2, 3, 5 and 6, for outputs of which the shorter has so much room.
-fn admit(table: WideTable, m: u16, room: usize) -> Verdict
-    ensures { result ≡ admission m table.rows table.n room }
+fn admit(table: &WideTable, m: u16, room: usize) -> Result<Admitted<'_>, Refusal>
+    ensures admits { IfOk result (λ admitted. LetsIn m table.now room admitted.rows.now) }
+    ensures refuses { IfErr result (λ refusal. admission m table.now.rows table.now.n room ≡ Err refusal) }
 {
     let n = table.n;
-    let few = admission::gate(admission::misset(m), n);
-    let gate = admission::and_then(few, admission::roomy(n, room));
-    let Verdict::Accepted = gate else {
-        return gate;
-    };
-    let bad = first_bad(table);
-    if bad < n {
-        return Verdict::Refused(Refusal::BadRecord(bad));
+    admission::gate(admission::misset(m), n)?;
+    admission::roomy(n, room)?;
+    let rows = &table.rows[..n];
+    if let Some(bad) = first_bad(rows) {
+        return Err(Refusal::BadRecord(bad));
     }
-    Verdict::Accepted
+    Ok(Admitted { rows })
 }
 
 // The answer, for outputs of which the shorter has so much room.
-pub fn decide(table: WideTable, m: u16, room: usize) -> Answer
+pub fn decide(table: WideTable, m: u16, room: usize) -> Result<u32, Refusal>
     ensures { handed result ≡ found m table.rows table.n room }
 {
-    let admission = admit(table, m, room);
-    let Verdict::Accepted = admission else {
-        return outcome::decide(admission, Step::Nothing);
-    };
-    let step = least_step(m, table);
-    outcome::decide(admission, step)
-}
-
-// Writes the period of each task at step k, and nothing past them.
-fn write_periods(table: WideTable, k: u32, out: &mut [u32])
-    requires { GoodTable table × (table.n ≤ length out.old) }
-    ensures { out.new ≡ periods_at table.rows table.n k ++ drop table.n out.old }
-{
-    let n = table.n;
-    for i in 0..n {
-        out[i] = wide_task::period_at(table.rows[i], k);
-    }
-}
-
-// Writes the cores that each task needs at step k, which fit the processors there are, and nothing past them.
-fn write_cores(table: WideTable, k: u32, out: &mut [u16])
-    requires { GoodTable table × (table.n ≤ length out.old) × (cores_sum table.rows table.n k ≤ most_processors) }
-    ensures { out.new ≡ core_counts_at table.rows table.n k ++ drop table.n out.old }
-{
-    let n = table.n;
-    for i in 0..n {
-        out[i] = wide_task::cores_at(table.rows[i], k) as u16;
-    }
-}
-
-// Writes what an answer grants to the two lent outputs: the periods and core counts of an accepted step, or nothing.
-fn grant(answer: Answer, table: WideTable, periods: &mut [u32], cores: &mut [u16])
-    requires { MayGrant answer table (length periods.old) (length cores.old) }
-    ensures { Leaves (handed answer) table.rows table.n periods.old cores.old periods.new cores.new }
-{
-    if answer.accepted() {
-        let k = answer.step();
-        write_periods(table, k, periods);
-        write_cores(table, k, cores);
-    }
+    let admitted = admit(&table, m, room)?;
+    admitted.least_step(m).ok_or(Refusal::NoStepPasses)
 }
 
 // The periods and core counts of the least passing step, written to the two lent outputs, or the refusal, which writes nothing.
-pub fn find(table: WideTable, m: u16, periods: &mut [u32], cores: &mut [u16]) -> Answer
+pub fn find(
+    table: WideTable,
+    m: u16,
+    periods: &mut [u32],
+    cores: &mut [u16],
+) -> Result<u32, Refusal>
     ensures { Meets (outcome m table.rows table.n periods.old cores.old) result periods.new cores.new }
 {
-    let answer = decide(table, m, ground::shorter(periods.len(), cores.len()));
-    grant(answer, table, periods, cores);
-    answer
+    let admitted = admit(&table, m, periods.len().min(cores.len()))?;
+    let k = admitted.least_step(m).ok_or(Refusal::NoStepPasses)?;
+    admitted.write_periods(k, periods);
+    admitted.write_cores(k, cores);
+    Ok(k)
 }

@@ -1,15 +1,16 @@
-// Ask 4: a task that needs several cores, as a type with its limits, and its rules by the leaf functions of `rule`: shares, saturation
-// step, periods, and the cores that it needs at a step. Contracts cite `specs/`, one file for each notion.
+// Ask 4: a task that needs several cores, as a type with its limits; shares, saturation step and periods by `rule::Job`; and the cores that it
+// needs at a step. Contracts cite `specs/`, one file for each notion.
 #![tactic(auto)]
 
 ghost use Rattle.std.specs.Prelude.{◌≡◌};
 ghost use Rattle.kinds.specs.Limits.{longest_period, greatest_elasticity};
 ghost use Rattle.wide_task.specs.Limits.{most_tmins};
 ghost use Rattle.wide_task.specs.WideTask.{wide_task, Good, is_good};
-ghost use Rattle.wide_task.specs.Cores.{largest_of, least_of, share_at, saturation_at};
-ghost use Rattle.wide_task.specs.Handover.{ShareIs, StepIs, PeriodIs, CoresIs};
+ghost use Rattle.wide_task.specs.Job.{numbers_of, wide-limited};
+ghost use Rattle.wide_task.specs.Handover.{CoresIs};
 
-use kinds::{Share, Table, Task};
+use kinds::{Table, Task};
+use rule::Job;
 
 // A task that needs several cores: cost C, span L, shortest and longest period, elasticity E. Any numbers may stand in it.
 #[repr(C)]
@@ -52,15 +53,15 @@ impl WideTask {
     }
 
     // Ask 4: "1 ≤ L < Tmin, L < C, Tmax < C, C at most 16 × Tmin, and Tmax and E as in 01".
+    #[tactic(auto, unfolding(crate::specs::WideTask::is_good))]
     pub fn good(self) -> bool
         ensures { result ≡ is_good self }
     {
-        let costliest = WideTask::MOST_TMINS * ground::widened(self.tmin);
         1 <= self.l
             && self.l < self.tmin
-            && (self.l as u64) < self.c
-            && (self.tmax as u64) < self.c
-            && self.c <= costliest
+            && u64::from(self.l) < self.c
+            && u64::from(self.tmax) < self.c
+            && self.c <= WideTask::MOST_TMINS * u64::from(self.tmin)
             && self.tmin <= self.tmax
             && self.tmax <= WideTask::LONGEST_PERIOD
             && self.e <= WideTask::GREATEST_ELASTICITY
@@ -68,6 +69,7 @@ impl WideTask {
 }
 
 // A table of such tasks by value: room for the most tasks, of which the first n count. A lent count may be greater than the room.
+// It is no generic table together with `kinds::Table`, since that one is laid out for C, and every promise on a table names it.
 #[derive(Clone, Copy)]
 pub struct WideTable {
     pub rows: [WideTask; Table::MOST_TASKS],
@@ -81,49 +83,33 @@ pub fn limits()
     ensures greatest_elasticity { WideTask.GREATEST_ELASTICITY ≡ greatest_elasticity }
 {}
 
-// Document 01: "Largest share: C × S / Tmin rounded up."
-fn largest(task: WideTask) -> Share
-    requires { Good task }
-    ensures { ShareIs (largest_of task) result.parts }
-{
-    Share::new(rule::part(task.c, task.tmin))
-}
+// Its rules are those of every job; document 01's shares of one are above one processor's.
+impl Job for WideTask {
+    ghost numbers = { numbers_of };
 
-// Document 01: "Least share: C × S / Tmax rounded up."
-fn least(task: WideTask) -> Share
-    requires { Good task }
-    ensures { ShareIs (least_of task) result.parts }
-{
-    Share::new(rule::part(task.c, task.tmax))
-}
+    ghost Good = { Good };
 
-// The share at any step, which is above one processor's.
-fn share_at(task: WideTask, k: u32) -> Share
-    requires { Good task }
-    ensures { ShareIs (share_at task k) result.parts }
-{
-    let high = largest(task);
-    let low = least(task);
-    Share::new(rule::share_at(high.parts, low.parts, task.e, k))
-}
+    ghost over = { 1 };
 
-// The saturation step; 0 where the elasticity is 0.
-pub fn saturation(task: WideTask) -> u32
-    requires { Good task }
-    ensures { StepIs (saturation_at task) result }
-{
-    let high = largest(task);
-    let low = least(task);
-    rule::saturation(high.parts, low.parts, task.e) as u32
-}
+    ghost within = { most_tmins };
 
-// The period at any step.
-pub fn period_at(task: WideTask, k: u32) -> u32
-    requires { Good task }
-    ensures { PeriodIs task k result }
-{
-    let share = share_at(task, k);
-    rule::period(task.c, task.tmin, share.parts) as u32
+    fn c(self) -> u64 {
+        self.c
+    }
+
+    fn tmin(self) -> u32 {
+        self.tmin
+    }
+
+    fn tmax(self) -> u32 {
+        self.tmax
+    }
+
+    fn e(self) -> u32 {
+        self.e
+    }
+
+    ghost limited = { wide-limited };
 }
 
 // The cores needed at any step: (C − L) / (T − L) rounded up, T the period at that step.
@@ -131,7 +117,7 @@ pub fn cores_at(task: WideTask, k: u32) -> u64
     requires { Good task }
     ensures { CoresIs task k result }
 {
-    let l = ground::widened(task.l);
-    let t = ground::widened(period_at(task, k));
+    let l = u64::from(task.l);
+    let t = u64::from(task.period_at(k));
     ground::ceil_div(task.c - l, t - l)
 }

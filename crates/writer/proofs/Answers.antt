@@ -1,56 +1,31 @@
--- What the writer answers in each case, with the buffer after it, and that no second answer meets its promise.
+-- What the writer answers where it accepts, with the buffer after it, and that no second answer meets its promise.
 -- Assumes nothing.
-use Rattle.ground.proofs.Kit.{ℕ, ◌≤◌, ◌<◌, true, false, List, ◌++◌, ◌≡◌, sym, ◌∙◌, ap, arith, leb, length, drop, le-leb, lt-leb, leb-true}
+use Rattle.ground.proofs.Kit.{ℕ, ◌≤◌, true, List, ◌++◌, ◌≡◌, sym, ◌∙◌, ap, arith, leb, length, drop, le-leb, leb-true, Ok}
 use Rattle.kinds.specs.declared.Sheet.{Sheet}
 use Rattle.kinds.specs.declared.Refusal.TheVariants.{TooManyTasks, OutputTooShort, WrongSettingsCount, WrongResultCount}
 use Rattle.kinds.specs.Limits.{most_tasks}
-use Rattle.kinds.specs.Answer.{Handed, accepted}
+use Rattle.kinds.specs.Answer.{Handed, accepted, Counted}
 use Rattle.field.specs.Handover.{Put}
 use Rattle.field.proofs.Stores.{stored-front}
 use Rattle.sheet.specs.Sections.{settings_fit, results_fit}
-use Rattle.kinds.specs.declared.Counted.{Counted}
-use Rattle.kinds.specs.declared.Counted.TheVariants.{Count, Refused}
 use Rattle.kinds.proofs.Answers.{count-one}
 use Rattle.kinds.proofs.Chain.{judged-passed}
 use Rattle.writer.specs.Encode.{encode, length_of}
 use Rattle.writer.specs.Writing.{write_sheet, after_write, Writes}
 
 module _ (x : Sheet) (old : List ℕ) where
-  -- 9, then 3, then 10, then 5, each with the buffer as it was
-  pub wrong-settings : settings_fit x.count ≡ false → Writes x old (Refused WrongSettingsCount) old
+  -- where the counts are right and there is room: the sheet's bytes, and nothing past them
+  pub wrote : settings_fit x.count ≡ true → x.table.n ≤ most_tasks → results_fit x.results.n x.table.n ≡ true → length_of x ≤ length old
+      → (written : ℕ) (new : List ℕ) → Put old 0 (length_of x) (encode x) written new → Writes x old (Ok written) new
   unfolding write_sheet after_write
-  wrong-settings s = record { answer = rw s; buffer = rw s }
-
-  module _ (s : settings_fit x.count ≡ true) where
-    pub too_many : most_tasks < x.table.n → Writes x old (Refused (TooManyTasks x.table.n)) old
-    unfolding write_sheet after_write
-    too_many a = record { answer = rw (s, lt-leb x.table.n most_tasks a); buffer = rw (s, lt-leb x.table.n most_tasks a) }
-
-    module _ (a : x.table.n ≤ most_tasks) where
-      pub wrong-count : results_fit x.results.n x.table.n ≡ false → Writes x old (Refused (WrongResultCount 0)) old
-      unfolding write_sheet after_write
-      wrong-count b = record { answer = rw (s, le-leb x.table.n most_tasks a, b); buffer = rw (s, le-leb x.table.n most_tasks a, b) }
-
-      module _ (b : results_fit x.results.n x.table.n ≡ true) where
-        pub too_short : length old < length_of x → Writes x old (Refused (OutputTooShort (length_of x))) old
-        unfolding write_sheet after_write
-        too_short d =
-            record {
-              answer = rw (s, le-leb x.table.n most_tasks a, b, lt-leb (length_of x) (length old) d);
-              buffer = rw (s, le-leb x.table.n most_tasks a, b, lt-leb (length_of x) (length old) d);
-            }
-
-        -- else the sheet's bytes, and nothing past them
-        pub wrote : length_of x ≤ length old → (written : ℕ) (new : List ℕ) → Put old 0 (length_of x) (encode x) written new → Writes x old (Count written) new
-        unfolding write_sheet after_write
-        wrote d written new p =
-            let e : written ≡ length_of x = omega (arith, p.next-is) in
-            record {
-              answer = rw (s, le-leb x.table.n most_tasks a, b, le-leb (length_of x) (length old) d) (ap accepted e);
-              buffer =
-                  rw (s, le-leb x.table.n most_tasks a, b, le-leb (length_of x) (length old) d)
-                  (p.new_is ∙ stored-front old (encode x) (length_of x) p.run_long d);
-            }
+  wrote s a b d written new p =
+      let e : written ≡ length_of x = omega (arith, p.next-is) in
+      record {
+        answer = rw (s, le-leb x.table.n most_tasks a, b, le-leb (length_of x) (length old) d) (ap accepted e);
+        buffer =
+            rw (s, le-leb x.table.n most_tasks a, b, le-leb (length_of x) (length old) d)
+            (p.new_is ∙ stored-front old (encode x) (length_of x) p.run_long d);
+      }
 
 -- an accepted call: the counts were right, there was room, and the length written is the sheet's
 pub record Accepts (x : Sheet) (room k : ℕ) : Type 0 where

@@ -10,10 +10,10 @@ use Rattle.kinds.proofs.Numbers.{numbers-back}
 use Rattle.field.specs.Number.{Bytes, u16_at, bytes_of}
 use Rattle.field.proofs.Parts.{Part, part_none, part_then, part-whole, number-stands}
 use Rattle.sheet.specs.Sections.{setting_size, task_size, granted_size, settings_place, numbers_place, tasks_place, records_place, results_place, granted_place}
-use Rattle.sheet.specs.Rows.{task_at, granted_at, no_granted, no_results, rows_at}
+use Rattle.sheet.specs.Rows.{task_at, granted_at, no_granted, no_results, rows_at, task_bytes, granted_bytes, rows_bytes}
 use Rattle.sheet.specs.Reading.{settings_count, task_count, result_count, end_of, numbers_in, sheet_in}
 use Rattle.sheet.proofs.Whole.{Whole, few-settings, few-results}
-use Rattle.writer.specs.Encode.{task_bytes, granted_bytes, rows_bytes, settings_bytes, encode}
+use Rattle.writer.specs.Encode.{settings_bytes, encode}
 
 -- rows that were read, where each stands in its own bytes
 module _ {A : Type 0} (bytes : A → List ℕ) (none : A) (rest : List A) (size : ℕ) (row_at : List ℕ → ℕ → A) (s : List ℕ)

@@ -6,8 +6,8 @@ use Rattle.kinds.specs.declared.Policy.TheVariants.{Pooled}
 use Rattle.kinds.specs.declared.Settings.{Settings}
 use Rattle.kinds.specs.Task.{task}
 use Rattle.field.specs.Number.{bytes_of}
-use Rattle.sheet.specs.Rows.{granted}
-use Rattle.writer.specs.Encode.{task_bytes, granted_bytes, rows_bytes, settings_bytes, encode}
+use Rattle.sheet.specs.Rows.{granted, task_bytes, granted_bytes, rows_bytes}
+use Rattle.writer.specs.Encode.{settings_bytes, encode}
 
 whole-case : encode
     (record {

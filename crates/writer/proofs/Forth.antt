@@ -17,11 +17,11 @@ use Rattle.field.specs.Number.{u16_at, u32_at, bytes_of, limit}
 use Rattle.field.proofs.Numbers.{bytes-long}
 use Rattle.field.proofs.Parts.{Part, part-all, part_left, part_right, part-number}
 use Rattle.sheet.specs.Sections.{setting_size, task_size, granted_size, settings_place, numbers_place, tasks_place, records_place, results_place, granted_place, settings_fit, results_fit}
-use Rattle.sheet.specs.Rows.{task_at, granted_at, no_granted, no_results, rows_at}
+use Rattle.sheet.specs.Rows.{task_at, granted_at, no_granted, no_results, rows_at, task_bytes, granted_bytes, rows_bytes}
 use Rattle.sheet.specs.Reading.{settings_count, task_count, result_count, numbers_in, tasks_in, results_in, sheet_in, read_sheet}
 use Rattle.sheet.proofs.Stages.{settings-few, fits-few}
 use Rattle.sheet.proofs.Whole.{Whole, whole-accepted}
-use Rattle.writer.specs.Encode.{task_bytes, granted_bytes, rows_bytes, numbers_bytes, tasks_bytes, results_bytes, settings_bytes, encode, length_of}
+use Rattle.writer.specs.Encode.{numbers_bytes, tasks_bytes, results_bytes, settings_bytes, encode, length_of}
 use Rattle.writer.specs.Canonical.{setting_in, granted_in, canonical, TaskStorable, GrantedStorable, SheetStorable}
 use Rattle.writer.proofs.Rows.{task-long, granted-long, settings-long, rows_long, tasks-long, encode-long}
 

@@ -1,6 +1,6 @@
 -- Both round trips between bytes and sheets, as the promises of `read` and `write` give them, and when a sheet is its own canonical form.
 -- Assumes nothing.
-use Rattle.ground.proofs.Kit.{ℕ, ◌+◌, ◌*◌, ◌≤◌, true, List, ◌++◌, ◌≡◌, refl, sym, ◌∙◌, ap, leb, length, take, drop, le-leb}
+use Rattle.ground.proofs.Kit.{ℕ, ◌+◌, ◌*◌, ◌≤◌, true, List, ◌++◌, ◌≡◌, refl, sym, ◌∙◌, ap, leb, length, take, drop, le-leb, Ok}
 use lib.Seq.{take_at}
 use Rattle.ground.specs.Laid.{over}
 use Rattle.ground.proofs.Laid.{over-long, over-out, over-is, padded-to-long, padded-to-is, padded-to-out}
@@ -12,15 +12,13 @@ use Rattle.kinds.specs.Limits.{most_settings, most_tasks}
 use Rattle.kinds.specs.Task.{no_task, at}
 use Rattle.kinds.specs.Policy.{meant}
 use Rattle.kinds.specs.Settings.{fill_ins, setting, settings_of, numbers_of}
-use Rattle.kinds.specs.Answer.{accepted, demanded, after}
+use Rattle.kinds.specs.Answer.{accepted, demanded, after, Counted}
 use Rattle.kinds.proofs.Numbers.{numbers-back, settings-back, meant-of}
 use Rattle.field.specs.Number.{Bytes, u16_at}
 use Rattle.sheet.specs.Sections.{setting_size, task_size, granted_size, numbers_place, records_place, granted_place, settings_fit, results_fit}
 use Rattle.sheet.specs.Rows.{no_granted, task_at, granted_at}
 use Rattle.sheet.specs.Reading.{settings_count, task_count, result_count, numbers_in, sheet_in, read_sheet}
 use Rattle.sheet.proofs.Whole.{whole, few-settings, few-results}
-use Rattle.kinds.specs.declared.Counted.{Counted}
-use Rattle.kinds.specs.declared.Counted.TheVariants as counted
 use Rattle.kinds.proofs.Answers.{count-one}
 use Rattle.writer.specs.Encode.{encode, length_of}
 use Rattle.writer.specs.Writing.{write_sheet, after_write, Writes}
@@ -62,15 +60,15 @@ module _ (s : List ℕ) (bytes : Bytes s) (x : Sheet) (e : read_sheet s ≡ acce
 
   -- into one that has the room
   pub read-write : (old new : List ℕ) (r : Counted) → Writes x old r new → length s ≤ length old
-      → (r ≡ counted.Count (length s)) × (new ≡ s ++ drop (length s) old)
+      → (r ≡ Ok (length s)) × (new ≡ s ++ drop (length s) old)
   read-write old new r p room =
       let a : write_sheet x (length old) ≡ accepted (length s) = read-handed (length old) ∙ rw (le-leb (length s) (length old) room) in (
-        count-one r (counted.Count (length s)) (p.answer ∙ a),
+        count-one r (Ok (length s)) (p.answer ∙ a),
         p.buffer ∙ (read-after old ∙ rw a),
       )
 
 -- writing a sheet and reading it gives its canonical form
-pub write_read : (x : Sheet) → SheetStorable x → (old new : List ℕ) (k : ℕ) → Writes x old (counted.Count k) new → read_sheet (take k new) ≡ accepted (canonical x)
+pub write_read : (x : Sheet) → SheetStorable x → (old new : List ℕ) (k : ℕ) → Writes x old (Ok k) new → read_sheet (take k new) ≡ accepted (canonical x)
 write_read x h old new k p =
     let a = accepts x (length old) k (sym p.answer) in
     let front : take k new ≡ encode x =

@@ -1,9 +1,8 @@
--- How long the bytes of a row, of rows and of a sheet are, and one row more.
+-- How long the bytes of a row, of rows and of a sheet are, and the first rows of a list.
 -- Assumes nothing.
-use Rattle.ground.proofs.Kit.{ℕ, ◌+◌, ◌*◌, List, ◌≡◌, add-one, arith, length, get_or, length-append}
-use native.Mathlib.Nat.{mul-zero, mul-suc}
-use Rattle.ground.specs.Folds.{join_to}
-use Rattle.ground.proofs.Joins.{join-sized}
+use Rattle.ground.proofs.Kit.{ℕ, ◌*◌, ◌≤◌, List, ◌≡◌, ap, arith, length, get_or, take, length-append, length-take-le}
+use Rattle.std.proofs.lemmas.List.{get_or-take}
+use Rattle.ground.proofs.Joins.{join-sized, join-cong}
 use Rattle.kinds.specs.declared.Task.{Task}
 use Rattle.kinds.specs.declared.Granted.{Granted}
 use Rattle.kinds.specs.declared.Settings.{Settings}
@@ -12,10 +11,9 @@ use Rattle.kinds.specs.Task.{no_task}
 use Rattle.field.specs.Number.{bytes_of}
 use Rattle.field.specs.Handover.{Put}
 use Rattle.field.proofs.Numbers.{bytes-long}
-use Rattle.field.proofs.Stores.{put-none, put_then}
 use Rattle.sheet.specs.Sections.{setting_size, task_size, granted_size, tasks_place}
-use Rattle.sheet.specs.Rows.{no_granted}
-use Rattle.writer.specs.Encode.{task_bytes, granted_bytes, rows_bytes, numbers_bytes, tasks_bytes, results_bytes, settings_bytes, encode, length_of}
+use Rattle.sheet.specs.Rows.{no_granted, task_bytes, granted_bytes, rows_bytes}
+use Rattle.writer.specs.Encode.{numbers_bytes, tasks_bytes, results_bytes, settings_bytes, encode, length_of}
 
 pub task-long : (t : Task) → length (task_bytes t) ≡ task_size
 unfolding task_bytes
@@ -30,15 +28,14 @@ module _ {A : Type 0} (bytes : A → List ℕ) (none : A) (size : ℕ) (rows : L
   unfolding rows_bytes
   rows_long long n = join-sized (λ i. bytes (get_or rows i none)) size (λ i. long (get_or rows i none)) n
 
-  -- no row yet, and one row more
-  pub put-no-row : (out : List ℕ) (from : ℕ) → Put out from (size * 0) (rows_bytes bytes none rows 0) from out
-  unfolding rows_bytes join_to
-  put-no-row out from = rw (mul-zero size) (put-none out from)
-
-  pub put-row : {out mid new : List ℕ} {from at next : ℕ} (i : ℕ) → Put out from (size * i) (rows_bytes bytes none rows i) at mid
-      → Put mid at size (bytes (get_or rows i none)) next new → Put out from (size * (i + 1)) (rows_bytes bytes none rows (i + 1)) next new
-  unfolding rows_bytes join_to
-  put-row i p q = rw (add-one i) (rw (mul-suc size i) (put_then p q))
+  -- rows that a slice takes from the front are the first ones
+  pub put_front : (n : ℕ) {out new : List ℕ} {from next : ℕ} → n ≤ length rows
+      → Put out from (size * length (take n rows)) (rows_bytes bytes none (take n rows) (length (take n rows))) next new
+      → Put out from (size * n) (rows_bytes bytes none rows n) next new
+  unfolding rows_bytes
+  put_front n few p =
+      let same = join-cong (λ i. bytes (get_or (take n rows) i none)) (λ i. bytes (get_or rows i none)) n (λ i h. ap bytes (get_or-take n rows i none h)) in
+      rw (length-take-le n rows few, same) at p
 
 pub numbers-long : (numbers : List ℕ) (n : ℕ) → length (numbers_bytes numbers n) ≡ setting_size * n
 numbers-long numbers n = rows_long (bytes_of setting_size) 0 setting_size numbers (bytes-long setting_size) n

@@ -1,7 +1,6 @@
 -- Document 01, "The station sheet": the bytes of a sheet. "Sections in fixed order, each after its 2-byte count."
 -- Assumes nothing.
-use Rattle.std.specs.Prelude.{ℕ, List, ◌++◌, get_or}
-use Rattle.ground.specs.Folds.{join_to}
+use Rattle.std.specs.Prelude.{ℕ, List, ◌++◌}
 use Rattle.kinds.specs.declared.Task.{Task}
 use Rattle.kinds.specs.declared.Granted.{Granted}
 use Rattle.kinds.specs.declared.Settings.{Settings}
@@ -10,20 +9,9 @@ use Rattle.kinds.specs.Task.{no_task}
 use Rattle.kinds.specs.Settings.{numbers_of}
 use Rattle.field.specs.Number.{bytes_of}
 use Rattle.sheet.specs.Sections.{setting_size, end_place}
-use Rattle.sheet.specs.Rows.{no_granted}
+use Rattle.sheet.specs.Rows.{no_granted, task_bytes, granted_bytes, rows_bytes}
 
--- "C, Tmin, Tmax, E, 4 bytes each"
-unfoldable pub task_bytes : Task → List ℕ
-task_bytes t = bytes_of 4 t.c ++ (bytes_of 4 t.tmin ++ (bytes_of 4 t.tmax ++ bytes_of 4 t.e))
-
--- "period 4 bytes, processor 2"
-unfoldable pub granted_bytes : Granted → List ℕ
-granted_bytes g = bytes_of 4 g.period ++ bytes_of 2 g.processor
-
--- the bytes of the first n rows
-unfoldable pub rows_bytes : {A : Type 0} → (A → List ℕ) → A → List A → ℕ → List ℕ
-rows_bytes bytes none rows n = join_to (λ i. bytes (get_or rows i none)) n
-
+-- the bytes of each section's rows
 abbrev pub tasks_bytes : List Task → ℕ → List ℕ
 tasks_bytes rows n = rows_bytes task_bytes no_task rows n
 

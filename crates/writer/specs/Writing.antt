@@ -4,9 +4,8 @@ use Rattle.std.specs.Prelude.{ℕ, List, ◌≡◌, leb, length}
 use Rattle.kinds.specs.declared.Sheet.{Sheet}
 use Rattle.kinds.specs.declared.Refusal.TheVariants.{TooManyTasks, OutputTooShort, WrongSettingsCount, WrongResultCount}
 use Rattle.kinds.specs.Limits.{most_tasks}
-use Rattle.kinds.specs.Answer.{Handed, accepted, handed_count, demanded, after}
+use Rattle.kinds.specs.Answer.{Handed, accepted, handed_count, demanded, after, Counted}
 use Rattle.sheet.specs.Sections.{settings_fit, results_fit}
-use Rattle.kinds.specs.declared.Counted.{Counted}
 use Rattle.writer.specs.Encode.{encode, length_of}
 
 -- document 01: "The writer gives 3, 10, 5 in that order."; Ask 2: "it gives 9 first"

@@ -9,5 +9,5 @@ pub overflow_cast-result : goal.overflow_cast-result
 overflow_cast-result c =
     let args = c.args in
     let share : c.share_at-share.result.parts ≡ share_under (station_settings args.station) args.task args.step =
-    rw c.settings_of.ensures at c.share_at-share.ensures in
+    rw c.into.ensures at c.share_at-share.ensures in
     omega (arith, share, shared-most (station_settings args.station) args.task args.step)

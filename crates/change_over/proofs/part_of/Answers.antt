@@ -6,23 +6,23 @@ use Rattle.change_over.proofs.part_of.Goals as goal
 
 pub tasks_of-requires : goal.tasks_of-requires
 tasks_of-requires c =
-    let fits = section-fits _ _ _ (sym c.section_of.ensures ∙ c.in-Tasks.is) in
+    let fits = section-fits _ _ _ (sym c.section_of.ensures ∙ c.in-Some.is) in
     (fits.0, fits.1.0)
 
-pub returns-in-Tasks : goal.returns-in-Tasks
-returns-in-Tasks c =
-    c.tasks_of.ensures ∙ takes-proposed _ _ _ _ (sym c.section_of.ensures ∙ c.in-Tasks.is)
+pub returns-in-Some : goal.returns-in-Some
+returns-in-Some c =
+    c.tasks_of.ensures ∙ takes-proposed _ _ _ _ (sym c.section_of.ensures ∙ c.in-Some.is)
 
-pub tasks_of-requires-in-Tasks-section_of : goal.tasks_of-requires-in-Tasks-section_of
-tasks_of-requires-in-Tasks-section_of c =
-    let fits = section-fits _ _ _ (sym c.section_of-2.ensures ∙ c.in-Tasks-section_of.is) in
+pub tasks_of-requires-in-Some-section_of : goal.tasks_of-requires-in-Some-section_of
+tasks_of-requires-in-Some-section_of c =
+    let fits = section-fits _ _ _ (sym c.section_of-2.ensures ∙ c.in-Some-section_of.is) in
     (fits.0, fits.1.0)
 
-pub returns-in-Tasks-section_of : goal.returns-in-Tasks-section_of
-returns-in-Tasks-section_of c =
-    c.tasks_of-in-Tasks-section_of.ensures
+pub returns-in-Some-section_of : goal.returns-in-Some-section_of
+returns-in-Some-section_of c =
+    c.tasks_of-in-Some-section_of.ensures
     ∙ takes-standing _ _ (sym c.section_of.ensures ∙ c.in_default.is) _ _
-    (sym c.section_of-2.ensures ∙ c.in-Tasks-section_of.is)
+    (sym c.section_of-2.ensures ∙ c.in-Some-section_of.is)
 
 pub returns : goal.returns
 returns c =

@@ -1,28 +1,30 @@
 -- `clock::most_late` meets its contract. Assumes nothing.
-use Rattle.ground.proofs.Kit.{ℕ, ◌≡◌, arith}
-use Rattle.clock.specs.Call.{late_at}
-use Rattle.clock.proofs.Greatest.{Walked, walked_none, walked_here, walked-past, walked_all}
+use Rattle.ground.proofs.Kit.{arith, rules, length}
+use Rattle.clock.proofs.Greatest.{walked_none, walked_here, walked-past, walked_all, later-is, later-not}
 use Rattle.clock.proofs.most_late.Goals as goal
-use Rattle.clock.proofs.most_late.Goals.{then-most-late, else-most-late}
+use Rattle.clock.proofs.most_late.Goals.{in-Some+then-is_none_or, in-Some+else-is_none_or, in_default}
 
-pub loop-i-init : goal.loop-i-init
-loop-i-init c = walked_none _
+pub loop-task-init : goal.loop-task-init
+loop-task-init c = walked_none _
 
-pub loop-i-preserved : goal.loop-i-preserved
-loop-i-preserved c =
-    let args = c.args in
-    let lates : ℕ → ℕ = late_at args.clock args.present in
-    let so_far = c.loop-i.invariant in
-    let late = c.lateness-late.ensures.is in
-    elim c.if-most-late.branch [
-      | then-most-late w ↦ rw (w.most-is, w.task-is) (walked_here lates _ _ _ c.lateness-late.result (omega arith) late w.if-most-late.true so_far)
-      | else-most-late w ↦ rw (w.most-is, w.task-is) (walked-past lates _ _ _ c.lateness-late.result late w.if-most-late.false so_far)
+pub loop-task-preserved : goal.loop-task-preserved
+loop-task-preserved c =
+    elim c.match-ticks_behind.branch [
+      | in-Some+then-is_none_or w ↦
+          let more = later-is w.in-Some.ticks c.loop-task.latest w.is_none_or.result (search rules) w.if-is_none_or.true in
+          rw w.latest-is (walked_here _ _ _ _ w.in-Some.ensures more c.loop-task.invariant)
+      | in-Some+else-is_none_or w ↦
+          let no_more = later-not w.in-Some.ticks c.loop-task.latest w.is_none_or.result (search rules) w.if-is_none_or.false in
+          rw w.latest-is (walked-past _ _ _ (omega (arith, w.in-Some.ensures)) c.loop-task.invariant)
+      | in_default w ↦ rw w.latest-is (walked-past _ _ _ (omega (arith, w.in_default.ensures)) c.loop-task.invariant)
     ]
 
-pub returns : goal.returns
-returns c =
-    let args = c.args in
-    let lates : ℕ → ℕ = late_at args.clock args.present in
-    let all : c.loop-i.i ≡ args.clock.n = omega arith in
-    let walked : Walked lates args.clock.n c.loop-i.most c.loop-i.task = rw all at c.loop-i.invariant in
-    record { greatest = walked.is; lowest = walked_all lates _ _ _ walked; low = walked.low }
+pub returns-in_err-task-clause-listed : goal.returns-in_err-task-clause-listed
+returns-in_err-task-clause-listed c =
+    let all = walked_all _ _ (length c.args.next.now) _ (omega arith) c.loop-task.invariant in
+    rw c.from_residual.ensures (rw c.in_err-task.was at all)
+
+pub returns-clause-listed : goal.returns-clause-listed
+returns-clause-listed c =
+    let all = walked_all _ _ (length c.args.next.now) _ (omega arith) c.loop-task.invariant in
+    rw c.in_ok-task.was at all

@@ -1,17 +1,22 @@
--- `filled_sheet::check_plan` meets its contract: each `return` is one law of `Compared`. Assumes nothing.
-use Rattle.filled_sheet.proofs.Compared.{plan-refuses, without-results, one-differs, all-agree}
+-- `filled_sheet::check_plan` meets its contract: each way out is one law of `Compared`. Assumes nothing.
+use Rattle.ground.proofs.Kit.{refl}
+use Rattle.std.proofs.lemmas.Result.{err_from_is_err_and}
+use Rattle.filled_sheet.proofs.Compared.{plan-refuses, without-results, some-unlike, none-unlike_there, one-differs, all-agree}
 use Rattle.filled_sheet.proofs.check_plan.Goals as goal
 
-pub returns-in-Refused : goal.returns-in-Refused
-returns-in-Refused c = plan-refuses _ _ _ c.in-Refused.is
+pub returns-in_err-plan : goal.returns-in_err-plan
+returns-in_err-plan c =
+    let exit = err_from_is_err_and c.from_residual.result c.from_residual.ensures.1 in
+    rw (exit.1, exit.2) (plan-refuses c.args.x c.args.plan _ c.in_err-plan.was)
 
-pub returns-then-results-n : goal.returns-then-results-n
-returns-then-results-n c = without-results _ _ _ c.in_default.is c.if-results-n.true
+pub returns-then-x : goal.returns-then-x
+returns-then-x c = without-results c.args.x c.args.plan _ c.in_ok-plan.was c.if-x.true
 
-pub returns-then-unlike-n : goal.returns-then-unlike-n
-returns-then-unlike-n c =
-    one-differs _ _ _ c.in_default.is c.if-results-n.false _ c.first_unlike-unlike.ensures c.if-unlike-n.true
+pub returns-in-Some : goal.returns-in-Some
+returns-in-Some c =
+    let found = some-unlike c.args.x.results.rows c.args.plan.sheet.results.rows c.args.x.table.n _ c.in-Some.ensures in
+    one-differs c.args.x c.args.plan _ c.in_ok-plan.was c.if-x.false _ found.0 found.1
 
-pub returns : goal.returns
-returns c =
-    all-agree _ _ _ c.in_default.is c.if-results-n.false _ c.first_unlike-unlike.ensures c.if-unlike-n.false
+pub returns-in-None : goal.returns-in-None
+returns-in-None c =
+    all-agree c.args.x c.args.plan _ c.in_ok-plan.was c.if-x.false _ refl (none-unlike_there c.args.x.results.rows c.args.plan.sheet.results.rows c.args.x.table.n c.in-None.ensures)

@@ -1,7 +1,8 @@
 -- `keep::leave` meets its contract. Assumes nothing.
-use Rattle.ground.proofs.Kit.{◌∙◌}
+use Rattle.ground.proofs.Kit.{◌∙◌, refl}
+use Rattle.springs.proofs.Columns.{taken-good, taken-bad}
 use Rattle.keep.specs.Keep.{left_rows}
-use Rattle.keep.proofs.Blocks.{left-indexable, left-index}
+use Rattle.keep.proofs.Springs.{left-indexable, left-index}
 use Rattle.keep.proofs.Changes.{fresh-is, leave-zero, leave-many, leave-bad, leave-missing, leave-made}
 use Rattle.keep.proofs.leave.Goals as goal
 
@@ -12,26 +13,28 @@ pub returns-then-n-gt-MOST_TASKS : goal.returns-then-n-gt-MOST_TASKS
 returns-then-n-gt-MOST_TASKS c =
     c.refuse-then-n-gt-MOST_TASKS.ensures ∙ leave-many _ _ _ _ c.if-notch-eq0.false c.if-n-gt-MOST_TASKS.true
 
-pub returns-then-bad-n : goal.returns-then-bad-n
-returns-then-bad-n c =
-    c.refuse-then-bad-n.ensures
-    ∙ leave-bad _ _ _ _ c.if-notch-eq0.false c.if-n-gt-MOST_TASKS.false _ c.springs_of-bad.ensures.first c.if-bad-n.true
+pub returns-in-Err : goal.returns-in-Err
+returns-in-Err c =
+    let bad = taken-bad _ c.args.notch _ _ _ _ _ c.new-springs.ensures.notch c.take_in.ensures _ c.in-Err.is in
+    c.refuse-in-Err.ensures ∙ leave-bad _ _ _ _ c.if-notch-eq0.false c.if-n-gt-MOST_TASKS.false _ bad.0 bad.1
 
 pub returns-then-n-place : goal.returns-then-n-place
 returns-then-n-place c =
+    let good = taken-good _ c.args.notch _ _ _ _ _ c.new-springs.ensures.notch c.take_in.ensures c.in_default.is in
     c.refuse-then-n-place.ensures
-    ∙ leave-missing _ _ _ _ c.if-notch-eq0.false c.if-n-gt-MOST_TASKS.false _ c.springs_of-bad.ensures.first c.if-bad-n.false
-    c.if-n-place.true
+    ∙ leave-missing _ _ _ _ c.if-notch-eq0.false c.if-n-gt-MOST_TASKS.false _ refl good.0 c.if-n-place.true
 
 pub index_of-index-requires : goal.index_of-index-requires
 index_of-index-requires c =
-    left-indexable _ _ _ _ _ _ c.springs_of-bad.ensures c.if-bad-n.false c.if-n-gt-MOST_TASKS.false _
+    let good = taken-good _ c.args.notch _ _ _ _ _ c.new-springs.ensures.notch c.take_in.ensures c.in_default.is in
+    left-indexable _ _ _ _ good.1 c.if-n-gt-MOST_TASKS.false _
 
 pub returns : goal.returns
 unfolding left_rows
 returns c =
     let few = c.if-n-gt-MOST_TASKS.false in
-    let index = left-index _ _ _ _ _ _ c.springs_of-bad.ensures c.if-bad-n.false few _ _ c.index_of-index.ensures in
+    let good = taken-good _ c.args.notch _ _ _ _ _ c.new-springs.ensures.notch c.take_in.ensures c.in_default.is in
+    let index = left-index _ _ _ _ good.1 few _ _ c.index_of-index.ensures in
     c.accept.ensures
     ∙ fresh-is _ _ _ _ _ c.without-rest.ensures index
-    ∙ leave-made _ _ _ _ c.if-notch-eq0.false few _ c.springs_of-bad.ensures.first c.if-bad-n.false c.if-n-place.false
+    ∙ leave-made _ _ _ _ c.if-notch-eq0.false few _ refl good.0 c.if-n-place.false

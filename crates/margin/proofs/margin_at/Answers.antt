@@ -1,87 +1,45 @@
 -- `margin::margin_at` meets its contract. Assumes nothing.
-use Rattle.ground.proofs.Kit.{ℕ, ◌<◌, false, ◌≡◌, refl, sym, ◌∙◌, ap, rules}
+use Rattle.ground.proofs.Kit.{ℕ, ◌<◌, false, ◌≡◌, sym, ◌∙◌, ap, arith, rules, Err}
 use Rattle.kinds.specs.Answer.{accepted}
-use Rattle.springs.proofs.Blocks.{loads-are, loads-most}
+use Rattle.springs.proofs.Columns.{loads-are}
 use Rattle.fit.specs.Fit.{load_in}
+use Rattle.policy.specs.Sides.{margin_of}
 use Rattle.policy.specs.Under.{loads_under}
 use Rattle.policy.proofs.Tests.{margin-same}
-use Rattle.policy.proofs.Weighing.{loaded-loads}
-use Rattle.admission.specs.Handover.{AdmittedSprung}
 use Rattle.admission.proofs.Chain.{passed-weighed}
-use Rattle.admission.proofs.Opened.{Opened, opened, may-walk, admitted-sprung, refused-gate}
+use Rattle.admission.proofs.Opened.{opened}
 use Rattle.margin.specs.Margin.{margin_handed}
 use Rattle.margin.proofs.margin_at.Goals as goal
 
-pub returns-in-Refused : goal.returns-in-Refused
+pub returns-in_err-admit : goal.returns-in_err-admit
 unfolding margin_handed
-returns-in-Refused c =
-    let refused = c.in-Refused.is in
-    let args = c.args in
-    rw (← refused-gate false args.settings args.table.rows args.table.n args.table.n _ (sym c.gate_of-gate.ensures ∙ refused))
+returns-in_err-admit c =
+    let e : c.from_residual.result ≡ Err c.in_err-admit.field-0.0 = search rules in
+    rw (e, ← c.admit.ensures.is, c.in_err-admit.was)
 
-pub springs_of-bad-requires : goal.springs_of-bad-requires
-springs_of-bad-requires c =
-    let args = c.args in
-    let walk = may-walk false args.settings args.table.n args.table.n c.gate_of-gate.ensures c.in_default.is in
-    (walk.0, walk.1, refl)
+pub load-requires : goal.load-requires
+load-requires c = sym c.admit.ensures.notch
 
-pub loads_at-requires : goal.loads_at-requires
-loads_at-requires c =
-    let admitted : (
-    let args = c.args in
-    AdmittedSprung false args.settings args.table.rows args.table.n args.table.n c.judge-admission.result c.springs_of-bad.new.block
-    ) =
-    admitted-sprung false c.args.settings _ _ _ _ _ _ c.gate_of-gate.ensures c.in_default.is c.judge-admission.ensures
-    c.springs_of-bad.ensures in
-    let begun : (let args = c.args in Opened false args.settings args.table.rows args.table.n args.table.n c.springs_of-bad.new.block) =
-    opened false _ _ _ _ _ _ admitted c.in_default-admission.is in
-    begun.chargeable
+pub invariant_of-test : goal.invariant_of-test
+invariant_of-test c =
+    let passed = (opened false _ _ _ _ _ _ c.admit.ensures c.in_ok-admit.was).ready.passed in
+    record { some = passed.m-some; few = passed.m-most; served = λ e. rw c.meant.ensures (passed-weighed _ _ _ _ passed) }
 
-pub margin_of-requires : goal.margin_of-requires
-margin_of-requires c =
-    let admitted : (
-    let args = c.args in
-    AdmittedSprung false args.settings args.table.rows args.table.n args.table.n c.judge-admission.result c.springs_of-bad.new.block
-    ) =
-    admitted-sprung false c.args.settings _ _ _ _ _ _ c.gate_of-gate.ensures c.in_default.is c.judge-admission.ensures
-    c.springs_of-bad.ensures in
-    let begun : (let args = c.args in Opened false args.settings args.table.rows args.table.n args.table.n c.springs_of-bad.new.block) =
-    opened false _ _ _ _ _ _ admitted c.in_default-admission.is in
-    let args = c.args in
-    let passed = begun.ready.passed in
-    let most = loads-most args.settings _ _ begun.chargeable args.step in (
-      loaded-loads _ _ _ _ passed.few most c.loads_at.ensures,
-      passed.m-some,
-      passed.m-most,
-      rw c.meant.ensures (passed-weighed _ _ _ _ passed),
-    )
-
-pub returns-in_default-admission : goal.returns-in_default-admission
-unfolding margin_handed
-returns-in_default-admission c =
-    let admitted : (
-    let args = c.args in
-    AdmittedSprung false args.settings args.table.rows args.table.n args.table.n c.judge-admission.result c.springs_of-bad.new.block
-    ) =
-    admitted-sprung false c.args.settings _ _ _ _ _ _ c.gate_of-gate.ensures c.in_default.is c.judge-admission.ensures
-    c.springs_of-bad.ensures in
-    let begun : (let args = c.args in Opened false args.settings args.table.rows args.table.n args.table.n c.springs_of-bad.new.block) =
-    opened false _ _ _ _ _ _ admitted c.in_default-admission.is in
-    let args = c.args in
-    let load = loads_under args.settings args.table.rows args.table.n args.step in
-    let are : (i : ℕ) → i < args.table.n → load_in c.loads_at.new.block i ≡ load i =
-    λ i l. c.loads_at.ensures.are i l ∙ loads-are _ _ _ begun.sprung args.settings args.step i l in
-    let same = margin-same _ _ (load_in c.loads_at.new.block) load _ are in
-    rw (← admitted.is, c.in_default-admission.is, ← c.meant.ensures)
-    (ap accepted (search rules ∙ (c.margin_of.ensures ∙ same)))
+pub margin-requires : goal.margin-requires
+margin-requires c =
+    let passed = (opened false _ _ _ _ _ _ c.admit.ensures c.in_ok-admit.was).ready.passed in
+    rw c.meant.ensures (passed-weighed _ _ _ _ passed)
 
 pub returns : goal.returns
 unfolding margin_handed
 returns c =
-    let admitted : (
     let args = c.args in
-    AdmittedSprung false args.settings args.table.rows args.table.n args.table.n c.judge-admission.result c.springs_of-bad.new.block
-    ) =
-    admitted-sprung false c.args.settings _ _ _ _ _ _ c.gate_of-gate.ensures c.in_default.is c.judge-admission.ensures
-    c.springs_of-bad.ensures in
-    rw (← admitted.is, c.in-Refused-admission.is)
+    let n = args.table.n in
+    let begun = opened false _ _ _ _ _ _ c.admit.ensures c.in_ok-admit.was in
+    let load = loads_under args.settings args.table.rows n args.step in
+    let loaded = c.load.ensures in
+    let are : (i : ℕ) → i < n → load_in c.load.new.self.loads i ≡ load i =
+    λ i l. loaded.are i (omega (arith, begun.sprung.count)) ∙ loads-are _ _ _ begun.sprung args.settings args.step i l in
+    let all = ap (λ (x : ℕ). margin_of c.meant.result args.settings.m (load_in c.load.new.self.loads) x) (loaded.beside.count ∙ begun.sprung.count) in
+    let same = margin-same _ _ (load_in c.load.new.self.loads) load _ are in
+    rw (← c.admit.ensures.is, c.in_ok-admit.was, ← c.meant.ensures) (ap accepted (search rules ∙ (c.margin.ensures ∙ (all ∙ same))))

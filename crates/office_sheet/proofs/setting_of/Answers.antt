@@ -1,17 +1,14 @@
 -- `office_sheet::setting_of` meets its contract. Assumes nothing.
-use Rattle.ground.proofs.Kit.{sym, ◌∙◌}
-use Rattle.office_sheet.proofs.Entering.{setting-bad, setting-large, setting-is}
+use Rattle.ground.proofs.Kit.{◌∙◌, ap}
+use Rattle.office_sheet.specs.Written.{setting_by, setting_of}
+use Rattle.office_sheet.proofs.Entering.{setting_tried}
 use Rattle.office_sheet.proofs.setting_of.Goals as goal
 
-pub returns-in_default : goal.returns-in_default
-returns-in_default c = sym (setting-bad _ (sym c.numeral_in.ensures ∙ c.in_default.is))
-
-pub returns-then-number-gt-GREATEST : goal.returns-then-number-gt-GREATEST
-returns-then-number-gt-GREATEST c =
-    let is_number = sym c.numeral_in.ensures ∙ c.in-Is.is in
-    sym (setting-large _ _ _ is_number c.if-number-gt-GREATEST.true)
+pub returns-in_err-number : goal.returns-in_err-number
+unfolding setting_of
+returns-in_err-number c = c.from_residual.ensures ∙ ap setting_by c.in_err-number.ensures
 
 pub returns : goal.returns
+unfolding setting_of
 returns c =
-    let is_number = sym c.numeral_in.ensures ∙ c.in-Is.is in
-    sym (setting-is _ _ _ is_number c.if-number-gt-GREATEST.false)
+    c.ok.ensures.value ∙ (setting_tried c.in_ok-number.number _ c.try_from.ensures ∙ ap setting_by c.in_ok-number.ensures)

@@ -1,20 +1,16 @@
 -- `outcome::write_periods` meets its contract. The loop: the first i periods are written, and nothing past them has moved; n − i falls.
 -- Assumes nothing.
-use Rattle.ground.proofs.Kit.{◌≡◌, ◌∙◌, ap, arith}
+use Rattle.ground.proofs.Kit.{◌≡◌, arith}
 use Rattle.ground.proofs.Buffer.{front-none, front-more}
-use Rattle.springs.specs.declared.Spring.{Spring}
-use Rattle.springs.specs.Spring.{share_on, period_for}
-use Rattle.springs.specs.Columns.{spring_in}
 use Rattle.outcome.proofs.write_periods.Goals as goal
 
 pub loop-i-init : goal.loop-i-init
-loop-i-init c = (omega arith, front-none _ _)
+loop-i-init c = front-none _ _
 
 pub loop-i-preserved : goal.loop-i-preserved
-loop-i-preserved c =
-    let args = c.args in
-    let e = c.period_at.ensures ∙ ap (λ (s : Spring). period_for args.notch s (share_on s args.k)) c.spring_in.ensures in
-    (omega arith, front-more _ _ _ _ _ (omega arith) e c.loop-i.invariant.1)
+loop-i-preserved c = front-more _ _ _ _ _ (omega arith) c.period.ensures c.loop-i.invariant
 
 pub returns : goal.returns
-returns c = let e : c.loop-i.i ≡ c.args.n = omega arith in rw e at c.loop-i.invariant.1.is
+returns c =
+    let all : c.loop-i.i ≡ c.args.springs.now.n = omega arith in
+    rw all at c.loop-i.invariant.is

@@ -1,15 +1,12 @@
--- `plain_finder::least_charged` meets its contract. The loop: no step before this one passes, and nothing but loads has moved; what is left to the last
--- step falls. Assumes nothing.
-use Rattle.ground.proofs.Kit.{ℕ, ◌-◌, ◌≤◌, ◌<◌, false, ◌≡◌}
+-- `plain_finder::least_charged` meets its contract. The loop: no step before this one passes, and nothing but loads has moved. Assumes nothing.
+use Rattle.ground.proofs.Kit.{ℕ, ◌<◌, false, ◌≡◌}
 use Rattle.springs.specs.Spring.{charges_on}
-use Rattle.springs.specs.Columns.{spring_in}
+use Rattle.springs.specs.Springs.{spring_in}
 use Rattle.springs.specs.Handover.{Beside}
 use Rattle.policy.specs.Passing.{passes_at}
 use Rattle.plain_finder.proofs.least_charged.Given as goal
 
-abbrev pub invariant-loop-policy : goal.invariant-loop-policy
-invariant-loop-policy l =
-    (l.step ≤ l.last) × Beside l.initial.block l.block × ((j : ℕ) → j < l.step → passes_at l.policy l.m (charges_on l.notch (spring_in l.initial.block)) l.n j ≡ false)
-
-abbrev pub decreases-loop-policy : goal.decreases-loop-policy
-decreases-loop-policy l = l.last - l.step
+abbrev pub invariant-loop-step : goal.invariant-loop-step
+invariant-loop-step l =
+    let s = l.initial.springs in
+    Beside s l.springs × ((j : ℕ) → j < l.step → passes_at l.test.policy l.test.m (charges_on s.notch (spring_in s)) s.n j ≡ false)

@@ -1,63 +1,30 @@
 -- `proposal::admit` meets its contract. Assumes nothing.
-use Rattle.ground.proofs.Kit.{◌≡◌, sym, ◌∙◌, arith}
-use Rattle.kinds.specs.declared.Verdict.TheVariants.{Accepted}
-use Rattle.springs.specs.Handover.{Sprung}
-use Rattle.springs.proofs.Blocks.{sprung-front}
-use Rattle.policy.specs.Under.{rows_under}
-use Rattle.admission.proofs.Chain.{not-admitted}
-use Rattle.proposal.specs.Proposal.{gate_of, admission}
-use Rattle.proposal.proofs.Admitting.{Ready, gate-passed, admitted, springs-chargeable, loads-held}
+use Rattle.ground.proofs.Kit.{◌≡◌, sym, ◌∙◌, rules, Err}
+use Rattle.proposal.proofs.Admitting.{gate-passed, refused-loaded, err-loaded, well-loaded}
 use Rattle.proposal.proofs.admit.Goals as goal
 
-pub returns-in_default : goal.returns-in_default
-unfolding admission
-returns-in_default c =
-    record {
-      is = rw (← c.gate_of-gate.ensures, c.in_default.is);
-      loads = λ e. not-admitted _ c.in_default.is e;
-    }
+pub returns-in_err-gate_of : goal.returns-in_err-gate_of
+returns-in_err-gate_of c =
+    let e : c.from_residual.result ≡ Err c.in_err-gate_of.field-0.0 = search rules in
+    rw e (refused-loaded _ _ _ _ _ _ c.gate_of.ensures _ _ _ c.in_err-gate_of.was)
 
-pub springs_of-bad-requires : goal.springs_of-bad-requires
-springs_of-bad-requires c =
-    let opens : (let args = c.args in gate_of args.settings args.table.n args.proposed args.room ≡ Accepted) =
-    sym c.gate_of-gate.ensures ∙ c.in-Accepted.is in
+pub take_in-requires : goal.take_in-requires
+take_in-requires c =
     let args = c.args in
-    let checked = gate-passed args.settings args.table.n args.proposed args.room opens in
-    (checked.few.few, checked.notched, c.requires)
+    let passed = gate-passed args.settings args.table.n args.proposed args.room (sym c.gate_of.ensures ∙ c.in_ok-gate_of.was) in
+    (c.requires.count, passed.few.few, rw c.requires.notch passed.notched)
 
-pub returns-in_default-judged : goal.returns-in_default-judged
-unfolding admission
-returns-in_default-judged c =
-    let opens : (let args = c.args in gate_of args.settings args.table.n args.proposed args.room ≡ Accepted) =
-    sym c.gate_of-gate.ensures ∙ c.in-Accepted.is in
-    let judged : (let args = c.args in c.judge-judged.result ≡ admission args.settings args.table.rows args.table.n args.proposed args.room) =
-    rw (opens, ← c.springs_of-bad.ensures.first) c.judge-judged.ensures in
-    record { is = judged; loads = λ e. not-admitted _ c.in_default-judged.is e }
+pub returns-in_err-map_err : goal.returns-in_err-map_err
+returns-in_err-map_err c =
+    let e : c.from_residual-in_err-map_err.result ≡ Err c.in_err-map_err.field-0.0 = search rules in
+    rw e
+    (err-loaded _ _ _ _ _ _ c.gate_of.ensures c.in_ok-gate_of.was c.take_in.result _ _ c.requires.notch c.take_in.ensures c.map_err.result
+    c.map_err.ensures.cases _ c.in_err-map_err.was _ _)
 
-pub loads_at-requires : goal.loads_at-requires
-unfolding admission
-loads_at-requires c =
-    let opens : (let args = c.args in gate_of args.settings args.table.n args.proposed args.room ≡ Accepted) =
-    sym c.gate_of-gate.ensures ∙ c.in-Accepted.is in
-    let judged : (let args = c.args in c.judge-judged.result ≡ admission args.settings args.table.rows args.table.n args.proposed args.room) =
-    rw (opens, ← c.springs_of-bad.ensures.first) c.judge-judged.ensures in
-    let ready : (let args = c.args in Ready args.settings args.table.rows args.table.n args.proposed args.room) =
-    admitted _ _ _ _ _ (sym judged ∙ c.in-Accepted-judged.is) in
-    let sprung : (let args = c.args in Sprung (rows_under args.settings args.table.rows args.table.n) args.table.n c.springs_of-bad.new.block) =
-    let walked = c.springs_of-bad.ensures in
-    sprung-front _ _ _ _ (omega (arith, ready.none-bad, walked.first)) walked.sprung in
-    springs-chargeable _ _ _ _ _ ready _ sprung
+pub load-requires : goal.load-requires
+load-requires c = sym (c.take_in.ensures.notch ∙ c.requires.notch)
 
 pub returns : goal.returns
-unfolding admission
 returns c =
-    let opens : (let args = c.args in gate_of args.settings args.table.n args.proposed args.room ≡ Accepted) =
-    sym c.gate_of-gate.ensures ∙ c.in-Accepted.is in
-    let judged : (let args = c.args in c.judge-judged.result ≡ admission args.settings args.table.rows args.table.n args.proposed args.room) =
-    rw (opens, ← c.springs_of-bad.ensures.first) c.judge-judged.ensures in
-    let ready : (let args = c.args in Ready args.settings args.table.rows args.table.n args.proposed args.room) =
-    admitted _ _ _ _ _ (sym judged ∙ c.in-Accepted-judged.is) in
-    let sprung : (let args = c.args in Sprung (rows_under args.settings args.table.rows args.table.n) args.table.n c.springs_of-bad.new.block) =
-    let walked = c.springs_of-bad.ensures in
-    sprung-front _ _ _ _ (omega (arith, ready.none-bad, walked.first)) walked.sprung in
-    record { is = judged; loads = λ _. loads-held _ _ _ _ _ ready _ sprung _ _ c.loads_at.ensures }
+    well-loaded _ _ _ _ _ _ c.gate_of.ensures c.in_ok-gate_of.was c.take_in.result _ _ c.requires.notch c.take_in.ensures c.map_err.result
+    c.map_err.ensures.cases c.in_ok-map_err.was _ _ c.load.ensures

@@ -1,105 +1,72 @@
 -- `proposal::check` meets its contract. Assumes nothing.
-use Rattle.ground.proofs.Kit.{ℕ, ◌≤◌, List, ◌++◌, ◌≡◌, sym, ◌∙◌, ap, arith, length, drop}
-use Rattle.kinds.specs.declared.Verdict.TheVariants.{Accepted}
-use Rattle.policy.specs.Under.{loads_under}
-use Rattle.proposal.specs.Loads.{first_out_of_range, before_overfull}
-use Rattle.proposal.specs.Proposal.{place_in, admission}
-use Rattle.proposal.specs.Handover.{LoadsOf}
-use Rattle.proposal.proofs.Loading.{overfull-is, front-is}
-use Rattle.proposal.proofs.Admitting.{Passed, admitted}
-use Rattle.proposal.proofs.Calls.{may_load, refused-meets, out-of-range-meets, overfull-meets, well-meets}
+use Rattle.ground.proofs.Kit.{ℕ, List, ◌++◌, ◌≡◌, sym, ◌∙◌, ap, refl, arith, rules, drop, length-take-le, Err, Some, None}
+use Rattle.proposal.specs.Loads.{is_out_of_range, first_out_of_range, is_overfull}
+use Rattle.proposal.proofs.Finding.{found-front}
+use Rattle.proposal.proofs.Admitting.{checked}
+use Rattle.proposal.proofs.Calls.{may_load, counted, refused-meets, out-of-range-meets, overfull-meets, well-meets}
 use Rattle.proposal.proofs.check.Goals as goal
 
-pub returns-in_default : goal.returns-in_default
-returns-in_default c = refused-meets _ _ _ _ _ _ _ c.admit-admission.ensures.is _ c.in_default.is
+pub returns-in_err-admit : goal.returns-in_err-admit
+returns-in_err-admit c =
+    let e : c.from_residual.result ≡ Err c.in_err-admit.field-0.0 = search rules in
+    rw e (refused-meets _ _ _ _ _ _ _ (rw c.in_err-admit.was at c.admit.ensures.is) _ refl)
 
-pub first_out_of_range-first-requires : goal.first_out_of_range-first-requires
-first_out_of_range-first-requires c =
-    let admits : (
-    let args = c.args in
-    admission args.settings args.table.rows args.table.n (length args.proposal.now) (length args.loads.now) ≡ Accepted
-    ) =
-    sym c.admit-admission.ensures.is ∙ c.in-Accepted.is in
-    let passed : (let args = c.args in Passed args.settings args.table.n (length args.proposal.now) (length args.loads.now)) =
-    (admitted _ _ _ _ _ admits).passed in
-    passed.entries
+pub slice_bounds-first_out_of_range-end : goal.slice_bounds-first_out_of_range-end
+slice_bounds-first_out_of_range-end c =
+    let w = checked _ _ _ _ _ _ _ _ c.admit.ensures c.in_ok-admit.was in
+    sym (length-take-le _ _ w.entries)
 
-pub returns-then-first-n : goal.returns-then-first-n
-returns-then-first-n c =
-    let admits : (
-    let args = c.args in
-    admission args.settings args.table.rows args.table.n (length args.proposal.now) (length args.loads.now) ≡ Accepted
-    ) =
-    sym c.admit-admission.ensures.is ∙ c.in-Accepted.is in
-    out-of-range-meets _ _ _ _ _ _ admits _ c.first_out_of_range-first.ensures c.if-first-n.true
+pub returns-in-Some : goal.returns-in-Some
+unfolding first_out_of_range
+returns-in-Some c =
+    let w = checked _ _ _ _ _ _ _ _ c.admit.ensures c.in_ok-admit.was in
+    let found = found-front (is_out_of_range c.args.settings.m) c.args.proposal.now _ w.entries (Some c.in-Some.task) (rw c.in-Some.is at c.first_out_of_range.ensures) in
+    out-of-range-meets _ _ _ _ _ _ w.admits _ found.1 found.0
 
 pub loads_of-held-requires : goal.loads_of-held-requires
+unfolding first_out_of_range
 loads_of-held-requires c =
-    let admits : (
-    let args = c.args in
-    admission args.settings args.table.rows args.table.n (length args.proposal.now) (length args.loads.now) ≡ Accepted
-    ) =
-    sym c.admit-admission.ensures.is ∙ c.in-Accepted.is in
-    let passed : (let args = c.args in Passed args.settings args.table.n (length args.proposal.now) (length args.loads.now)) =
-    (admitted _ _ _ _ _ admits).passed in
-    let held : (let args = c.args in LoadsOf args.settings args.table.rows args.table.n args.step c.admit-admission.new.block) =
-    c.admit-admission.ensures.loads c.in-Accepted.is in
-    let each : (let args = c.args in args.table.n ≤ first_out_of_range args.settings.m (place_in args.proposal.now) args.table.n) =
-    omega (arith, c.if-first-n.false, c.first_out_of_range-first.ensures) in
-    may_load _ _ _ _ _ _ held passed.entries each
+    let w = checked _ _ _ _ _ _ _ _ c.admit.ensures c.in_ok-admit.was in
+    let each = found-front (is_out_of_range c.args.settings.m) c.args.proposal.now _ w.entries None (rw c.in_default.is at c.first_out_of_range.ensures) in
+    may_load _ _ _ _ _ _ w.held w.entries each
 
-pub returns-then-below-processors : goal.returns-then-below-processors
-returns-then-below-processors c =
-    let admits : (
-    let args = c.args in
-    admission args.settings args.table.rows args.table.n (length args.proposal.now) (length args.loads.now) ≡ Accepted
-    ) =
-    sym c.admit-admission.ensures.is ∙ c.in-Accepted.is in
-    let held : (let args = c.args in LoadsOf args.settings args.table.rows args.table.n args.step c.admit-admission.new.block) =
-    c.admit-admission.ensures.loads c.in-Accepted.is in
-    let each : (let args = c.args in args.table.n ≤ first_out_of_range args.settings.m (place_in args.proposal.now) args.table.n) =
-    omega (arith, c.if-first-n.false, c.first_out_of_range-first.ensures) in
-    let lowest : (
-    let args = c.args in
-    c.before_overfull-below.result ≡ before_overfull (loads_under args.settings args.table.rows args.table.n args.step)
-    (place_in args.proposal.now) args.table.n args.settings.m
-    ) =
-    let loads = held in
-    c.before_overfull-below.ensures ∙ overfull-is _ _ _ _ _ _ c.loads_of-held.ensures loads.are loads.m-most in
-    overfull-meets _ _ _ _ _ _ admits each _ lowest c.if-below-processors.true
+pub returns-in-Some-before_overfull : goal.returns-in-Some-before_overfull
+unfolding first_out_of_range
+returns-in-Some-before_overfull c =
+    let m = c.args.settings.m in
+    let w = checked _ _ _ _ _ _ _ _ c.admit.ensures c.in_ok-admit.was in
+    let each = found-front (is_out_of_range m) c.args.proposal.now _ w.entries None (rw c.in_default.is at c.first_out_of_range.ensures) in
+    let held = counted _ _ _ _ _ _ _ w.held c.loads_of-held.ensures in
+    let found = found-front is_overfull c.loads_of-held.result m held.long (Some c.in-Some-before_overfull.below)
+    (rw (c.in-Some-before_overfull.is, c.from-processors.ensures) at c.before_overfull.ensures) in
+    overfull-meets _ _ _ _ _ _ w.admits each _ (found.1 ∙ held.lowest) found.0
 
-pub write_front-requires : goal.write_front-requires
-write_front-requires c =
-    let admits : (
-    let args = c.args in
-    admission args.settings args.table.rows args.table.n (length args.proposal.now) (length args.loads.now) ≡ Accepted
-    ) =
-    sym c.admit-admission.ensures.is ∙ c.in-Accepted.is in
-    let passed : (let args = c.args in Passed args.settings args.table.n (length args.proposal.now) (length args.loads.now)) =
-    (admitted _ _ _ _ _ admits).passed in
-    let held : (let args = c.args in LoadsOf args.settings args.table.rows args.table.n args.step c.admit-admission.new.block) =
-    c.admit-admission.ensures.loads c.in-Accepted.is in
-    (held.m-most, passed.roomy)
+pub slice_bounds-copy_from_slice-end : goal.slice_bounds-copy_from_slice-end
+slice_bounds-copy_from_slice-end c =
+    let w = checked _ _ _ _ _ _ _ _ c.admit.ensures c.in_ok-admit.was in
+    omega (arith, w.roomy, c.from-processors.ensures)
+
+pub slice_bounds-copy_from_slice-end-2 : goal.slice_bounds-copy_from_slice-end-2
+slice_bounds-copy_from_slice-end-2 c =
+    let w = checked _ _ _ _ _ _ _ _ c.admit.ensures c.in_ok-admit.was in
+    sym (length-take-le _ _ (omega (arith, w.roomy, c.from-processors.ensures)))
+
+pub copy_from_slice-requires : goal.copy_from_slice-requires
+copy_from_slice-requires c =
+    let w = checked _ _ _ _ _ _ _ _ c.admit.ensures c.in_ok-admit.was in
+    let held = counted _ _ _ _ _ _ _ w.held c.loads_of-held.ensures in
+    length-take-le _ _ (omega (arith, w.roomy, c.from-processors.ensures))
+    ∙ sym (length-take-le _ _ (omega (arith, held.long, c.from-processors.ensures)))
 
 pub returns : goal.returns
+unfolding first_out_of_range
 returns c =
-    let admits : (
-    let args = c.args in
-    admission args.settings args.table.rows args.table.n (length args.proposal.now) (length args.loads.now) ≡ Accepted
-    ) =
-    sym c.admit-admission.ensures.is ∙ c.in-Accepted.is in
-    let held : (let args = c.args in LoadsOf args.settings args.table.rows args.table.n args.step c.admit-admission.new.block) =
-    c.admit-admission.ensures.loads c.in-Accepted.is in
-    let each : (let args = c.args in args.table.n ≤ first_out_of_range args.settings.m (place_in args.proposal.now) args.table.n) =
-    omega (arith, c.if-first-n.false, c.first_out_of_range-first.ensures) in
-    let lowest : (
-    let args = c.args in
-    c.before_overfull-below.result ≡ before_overfull (loads_under args.settings args.table.rows args.table.n args.step)
-    (place_in args.proposal.now) args.table.n args.settings.m
-    ) =
-    let loads = held in
-    c.before_overfull-below.ensures ∙ overfull-is _ _ _ _ _ _ c.loads_of-held.ensures loads.are loads.m-most in
-    let args = c.args in
-    let front = front-is _ _ _ _ _ _ c.loads_of-held.ensures held.are held.m-most in
-    well-meets _ _ _ _ _ _ admits each (omega (arith, lowest, c.if-below-processors.false)) _
-    (c.write_front.ensures ∙ ap (λ (x : List ℕ). x ++ drop args.settings.m args.loads.now) front)
+    let m = c.args.settings.m in
+    let w = checked _ _ _ _ _ _ _ _ c.admit.ensures c.in_ok-admit.was in
+    let each = found-front (is_out_of_range m) c.args.proposal.now _ w.entries None (rw c.in_default.is at c.first_out_of_range.ensures) in
+    let held = counted _ _ _ _ _ _ _ w.held c.loads_of-held.ensures in
+    let none = found-front is_overfull c.loads_of-held.result m held.long None
+    (rw (c.in_default-before_overfull.is, c.from-processors.ensures) at c.before_overfull.ensures) in
+    let written = (rw c.from-processors.ensures at c.copy_from_slice.ensures.after) ∙ held.front in
+    well-meets _ _ _ _ _ _ w.admits each (omega (arith, none, held.lowest)) _
+    (rw c.from-processors.ensures (ap (λ (x : List ℕ). x ++ drop m c.args.loads.now) written))

@@ -1,20 +1,13 @@
--- `proposal::first_out_of_range` meets its contract. The loop: none of the first i processors is out of range; n − i falls. Assumes nothing.
-use Rattle.ground.proofs.Kit.{◌≡◌, sym, ◌∙◌, arith}
-use Rattle.ground.proofs.First.{first-here, first-none}
-use Rattle.proposal.specs.Loads.{is_out_of_range, first_out_of_range}
-use Rattle.proposal.specs.Proposal.{place_in}
+-- `proposal::first_out_of_range` meets its contract. Assumes nothing.
+use Rattle.std.proofs.Common.{rules, tests}
+use Rattle.std.proofs.lemmas.Iterator.{YieldsList-from_slice}
+use Rattle.std.proofs.lemmas.Iterator.Search.{position_from_yields_List}
+use Rattle.proposal.specs.Loads.{is_out_of_range}
+use Rattle.proposal.proofs.Finding.{position-found}
 use Rattle.proposal.proofs.first_out_of_range.Goals as goal
 
-pub returns-then-out_of_range : goal.returns-then-out_of_range
-unfolding first_out_of_range
-returns-then-out_of_range c =
-    let args = c.args in
-    first-here (λ x. is_out_of_range args.m (place_in args.proposal.now x)) args.n _ c.loop-i.invariant.1 c.loop-i-test.true
-    (sym c.out_of_range.ensures ∙ c.if-out_of_range.true)
-
 pub returns : goal.returns
-unfolding first_out_of_range
 returns c =
-    let args = c.args in
-    let e : c.loop-i.i ≡ args.n = omega arith in
-    sym e ∙ first-none (λ x. is_out_of_range args.m (place_in args.proposal.now x)) args.n _ c.loop-i.invariant.1 e
+    let yields = YieldsList-from_slice _ c.iter.ensures.rest in
+    let test = is_out_of_range c.args.m in
+    position-found test _ _ (position_from_yields_List test _ _ c.position.result c.position.ensures.ran yields (λ x b q k. search (rules, tests)))

@@ -5,12 +5,12 @@ use Rattle.quick_finder.proofs.look.Goals as goal
 
 pub returns : goal.returns
 returns c =
-    let total = c.total_at-total.ensures in (
+    let total = c.at-total.ensures in (
       record {
-        step = c.requires.3;
-        due = c.requires.4;
+        step = c.requires.2;
+        due = c.requires.3;
         from = refl;
-        tested = c.weighs-passed.ensures ∙ weighed-worked-out _ _ _ _ _ total;
+        tested = c.hold-passed.ensures ∙ weighed-worked-out _ _ _ _ _ total;
         count = refl;
       },
       total.added,

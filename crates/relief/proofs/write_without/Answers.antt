@@ -2,7 +2,6 @@
 -- Assumes nothing.
 use Rattle.ground.proofs.Kit.{◌≡◌, refl, arith}
 use Rattle.ground.proofs.Buffer.{front-none, front-more}
-use Rattle.relief.specs.Relief.{least_without}
 use Rattle.relief.proofs.write_without.Goals as goal
 
 pub loop-i-init : goal.loop-i-init

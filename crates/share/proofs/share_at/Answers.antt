@@ -1,6 +1,6 @@
 -- `share::share_at` meets its contract: each `return` is one law of `Under`. Assumes nothing.
 use Rattle.ground.proofs.Kit.{arith}
-use Rattle.kinds.specs.Task.{priced}
+use Rattle.share.specs.Share.{share_at}
 use Rattle.share.proofs.Under.{found-good, shared-unset, shared-bad, shared-good}
 use Rattle.share.proofs.share_at.Goals as goal
 
@@ -15,9 +15,10 @@ priced-requires c =
     let good = found-good _ _ _ _ c.good.ensures c.if-not-good.false-raw in
     omega (arith, good.c-tmin, good.tmin-tmax, good.tmax-most)
 
-pub share_of-requires : goal.share_of-requires
-share_of-requires c = rw c.priced.ensures (found-good _ _ _ _ c.good.ensures c.if-not-good.false-raw)
+pub share_at-requires : goal.share_at-requires
+share_at-requires c = rw c.priced.ensures (found-good _ _ _ _ c.good.ensures c.if-not-good.false-raw)
 
 pub returns : goal.returns
+unfolding share_at
 returns c =
-    shared-good _ _ _ _ _ c.good.ensures c.if-not-good.false-raw _ c.priced.ensures c.share_of.ensures
+    shared-good _ _ _ _ _ c.good.ensures c.if-not-good.false-raw _ c.priced.ensures c.share_at.ensures.is

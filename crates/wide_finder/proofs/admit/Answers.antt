@@ -1,33 +1,33 @@
--- `wide_finder::admit` meets its contract. Assumes nothing.
-use Rattle.ground.proofs.Kit.{◌≡◌, sym, ◌∙◌, lt-ltb, le-ltb}
-use Rattle.admission.specs.Admission.{and_then, misset, gate, roomy}
-use Rattle.admission.proofs.Chain.{gate-passed, then-admitted}
-use Rattle.wide_finder.specs.Wide.{admission}
+-- `wide_finder::admit` meets its contract: each check is a law of `Admitting`. Assumes nothing.
+use Rattle.std.proofs.Common.{rules, arith}
+use Rattle.wide_finder.proofs.Admitting.{gate-refuses, room-refuses, few-in, bad-refuses, few-rows, good-in, lets-in}
 use Rattle.wide_finder.proofs.admit.Goals as goal
-use Rattle.wide_finder.proofs.admit.Goals.{After-and_then-gate}
 
--- 2, 3 and 5
-gate-is : (c : After-and_then-gate) → let args = c.args in
-    c.and_then-gate.result ≡ and_then (gate (misset args.m) args.table.n) (roomy args.table.n args.room)
-gate-is c = rw (c.roomy.ensures, c.gate-few.ensures, c.misset.ensures) at c.and_then-gate.ensures
+pub returns-in_err-gate-clause-refuses : goal.returns-in_err-gate-clause-refuses
+returns-in_err-gate-clause-refuses c =
+    let refused = gate-refuses c.args.m c.args.table.now c.args.room c.misset.ensures c.gate.ensures _ c.in_err-gate.was in
+    search rules
 
-pub returns-in_default : goal.returns-in_default
-unfolding admission
-returns-in_default c = rw (← gate-is c.before, c.in_default.is)
+pub returns-in_err-roomy-clause-refuses : goal.returns-in_err-roomy-clause-refuses
+returns-in_err-roomy-clause-refuses c =
+    let refused = room-refuses c.args.m c.args.table.now c.args.room c.misset.ensures c.gate.ensures c.in_ok-gate.was c.roomy.ensures _ c.in_err-roomy.was in
+    search rules
 
-pub first_bad-bad-requires : goal.first_bad-bad-requires
-first_bad-bad-requires c =
-    let args = c.args in
-    let n = args.table.n in
-    let accepted = sym (gate-is c.before) ∙ c.in-Accepted.is in
-    (gate-passed args.m n (then-admitted (gate (misset args.m) n) (roomy n args.room) accepted).0).few
+pub shared_ref_as_front-rows : goal.shared_ref_as_front-rows
+shared_ref_as_front-rows c = few-in c.args.m c.args.table.now c.args.room c.misset.ensures c.gate.ensures c.in_ok-gate.was c.roomy.ensures
 
-pub returns-then-bad-n : goal.returns-then-bad-n
-unfolding admission
-returns-then-bad-n c =
-    rw (← gate-is c.before.before.before, c.in-Accepted.is, ← c.first_bad-bad.ensures, lt-ltb _ _ c.if-bad-n.true)
+pub returns-in-Some-clause-refuses : goal.returns-in-Some-clause-refuses
+returns-in-Some-clause-refuses c =
+    bad-refuses c.args.m c.args.table.now c.args.room c.misset.ensures c.gate.ensures c.in_ok-gate.was c.roomy.ensures c.in_ok-roomy.was (omega arith) c.first_bad.ensures _ c.in-Some.is
 
-pub returns : goal.returns
-unfolding admission
-returns c =
-    rw (← gate-is c.before.before.before, c.in-Accepted.is, ← c.first_bad-bad.ensures, le-ltb _ _ c.if-bad-n.false)
+pub invariant_of-result-clause-few : goal.invariant_of-result-clause-few
+invariant_of-result-clause-few c =
+    few-rows c.args.m c.args.table.now c.args.room c.misset.ensures c.gate.ensures c.in_ok-gate.was c.roomy.ensures c.in_ok-roomy.was (omega arith) c.first_bad.ensures c.in_default.is
+
+pub invariant_of-result-clause-good : goal.invariant_of-result-clause-good
+invariant_of-result-clause-good c =
+    good-in c.args.m c.args.table.now c.args.room c.misset.ensures c.gate.ensures c.in_ok-gate.was c.roomy.ensures c.in_ok-roomy.was (omega arith) c.first_bad.ensures c.in_default.is
+
+pub returns-clause-admits : goal.returns-clause-admits
+returns-clause-admits c =
+    lets-in c.args.m c.args.table.now c.args.room c.misset.ensures c.gate.ensures c.in_ok-gate.was c.roomy.ensures c.in_ok-roomy.was (omega arith) c.first_bad.ensures c.in_default.is

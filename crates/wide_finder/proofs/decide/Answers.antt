@@ -1,16 +1,16 @@
 -- `wide_finder::decide` meets its contract. Assumes nothing.
-use Rattle.ground.proofs.Kit.{sym, ◌∙◌}
-use Rattle.wide_finder.proofs.Tables.{good-table}
-use Rattle.wide_finder.proofs.Found.{admitted, refused-found, admitted-found}
+use Rattle.ground.proofs.Kit.{◌≡◌, ap, ◌∙◌, Err}
+use Rattle.kinds.specs.Answer.{handed}
+use Rattle.std.proofs.Common.{rules}
+use Rattle.wide_finder.proofs.Found.{refused-found, admitted-found}
 use Rattle.wide_finder.proofs.decide.Goals as goal
 
-pub returns-in_default : goal.returns-in_default
-returns-in_default c = c.decide.ensures ∙ refused-found _ _ _ _ _ c.admit-admission.ensures _ _ c.in_default.is
-
-pub least_step-step-requires : goal.least_step-step-requires
-least_step-step-requires c =
-    let ready = admitted _ _ _ _ (sym c.admit-admission.ensures ∙ c.in-Accepted.is) in
-    good-table _ ready.passed.few ready.none-bad
+pub returns-in_err-admitted : goal.returns-in_err-admitted
+returns-in_err-admitted c =
+    let refused = refused-found c.args.m c.args.table.rows c.args.table.n c.args.room _ c.in_err-admitted.ensures.refuses in
+    let is : c.from_residual.result ≡ Err c.in_err-admitted.field-0.0 = search rules in
+    ap handed is ∙ refused
 
 pub returns : goal.returns
-returns c = c.decide-2.ensures ∙ admitted-found _ _ _ _ _ c.admit-admission.ensures _ c.least_step-step.ensures
+returns c =
+    ap handed c.ok_or.ensures.value ∙ admitted-found _ _ _ _ c.in_ok-admitted.ensures.admits _ c.least_step.ensures

@@ -8,9 +8,9 @@ returns c =
     let sections = c.well_formed.0.1.1.1 in
     let tasks = sections.1.0.1.1.0 in
     let results = sections.1.1.0.1.1.0 in
-    let numbers = c.numbers.type_inv in
+    let numbers = c.from.type_inv in
     record {
-      settings = λ i. rw c.numbers.ensures at (numbers-storable c.numbers.result numbers.0 numbers.1.1 i);
+      settings = λ i. rw c.from.ensures at (numbers-storable c.from.result numbers.0 numbers.1.1 i);
       tasks = tasks-storable x.table.rows tasks.0 tasks.1.1;
       tasks-room = tasks.1.0.1;
       results = results-storable x.results.rows results.0 results.1.1;

@@ -1,44 +1,23 @@
--- `writer::write` meets its contract. Assumes nothing.
-use Rattle.ground.proofs.Kit.{sym, ◌∙◌, arith}
+-- `writer::write` meets its contract; the check finds each refusal from the definitions. Assumes nothing.
+use Rattle.ground.proofs.Kit.{sym, arith}
 use Rattle.sheet.proofs.Stages.{settings-few, fits-few}
-use Rattle.writer.proofs.Answers.{wrong-settings, too_many, wrong-count, too_short, wrote}
+use Rattle.writer.proofs.Answers.{wrote}
 use Rattle.writer.proofs.write.Goals as goal
-
-pub returns-then-not-taken : goal.returns-then-not-taken
-returns-then-not-taken c = wrong-settings _ _ (sym c.settings_fit-taken.ensures ∙ c.if-not-taken.true)
-
-pub returns-then-n-gt-MOST_TASKS : goal.returns-then-n-gt-MOST_TASKS
-returns-then-n-gt-MOST_TASKS c =
-    let taken = sym c.settings_fit-taken.ensures ∙ c.if-not-taken.false in
-    too_many _ _ taken c.if-n-gt-MOST_TASKS.true
-
-pub returns-then-not-fit : goal.returns-then-not-fit
-returns-then-not-fit c =
-    let taken = sym c.settings_fit-taken.ensures ∙ c.if-not-taken.false in
-    wrong-count _ _ taken c.if-n-gt-MOST_TASKS.false (sym c.results_fit-fit.ensures ∙ c.if-not-fit.true)
 
 pub end_place-needed-requires : goal.end_place-needed-requires
 end_place-needed-requires c =
-    let taken = sym c.settings_fit-taken.ensures ∙ c.if-not-taken.false in
-    let fit = sym c.results_fit-fit.ensures ∙ c.if-not-fit.false in
-    (settings-few _ taken, (c.if-n-gt-MOST_TASKS.false, omega (arith, fits-few _ _ fit, c.if-n-gt-MOST_TASKS.false)))
+    let few = c.if-n-gt-MOST_TASKS.false in
+    let most = fits-few _ _ (sym c.if-not-results_fit.ensures) in
+    (settings-few _ (sym c.if-not-settings_fit.ensures), (few, omega arith))
 
-pub returns-then-out-needed : goal.returns-then-out-needed
-returns-then-out-needed c =
-    let taken = sym c.settings_fit-taken.ensures ∙ c.if-not-taken.false in
-    let fit = sym c.results_fit-fit.ensures ∙ c.if-not-fit.false in
-    let end = c.end_place-needed.ensures in
-    rw end (too_short _ _ taken c.if-n-gt-MOST_TASKS.false fit (rw end at c.if-out-needed.true))
-
-pub put_sheet-written-requires : goal.put_sheet-written-requires
-put_sheet-written-requires c =
-    let taken = sym c.settings_fit-taken.ensures ∙ c.if-not-taken.false in
-    let fit = sym c.results_fit-fit.ensures ∙ c.if-not-fit.false in
+pub put_sheet-requires : goal.put_sheet-requires
+put_sheet-requires c =
+    let few = c.if-n-gt-MOST_TASKS.false in
+    let most = fits-few _ _ (sym c.if-not-results_fit.ensures) in
     let room = rw c.end_place-needed.ensures at c.if-out-needed.false in
-    (settings-few _ taken, (c.if-n-gt-MOST_TASKS.false, (omega (arith, fits-few _ _ fit, c.if-n-gt-MOST_TASKS.false), room)))
+    (settings-few _ (sym c.if-not-settings_fit.ensures), (few, (omega arith, room)))
 
 pub returns : goal.returns
 returns c =
-    let taken = sym c.settings_fit-taken.ensures ∙ c.if-not-taken.false in
-    let fit = sym c.results_fit-fit.ensures ∙ c.if-not-fit.false in
-    wrote _ _ taken c.if-n-gt-MOST_TASKS.false fit (rw c.end_place-needed.ensures at c.if-out-needed.false) _ _ c.put_sheet-written.ensures
+    let room = rw c.end_place-needed.ensures at c.if-out-needed.false in
+    wrote _ _ (sym c.if-not-settings_fit.ensures) c.if-n-gt-MOST_TASKS.false (sym c.if-not-results_fit.ensures) room _ _ c.put_sheet.ensures

@@ -1,0 +1,50 @@
+-- The springs from which the index is worked out: that they give the table's after a join (`joined-index`) and after a leave (`left-index`).
+-- Assumes nothing.
+use Rattle.ground.proofs.Kit.{ℕ, ◌-◌, ◌≤◌, ◌<◌, List, ◌≡◌, sym, ◌∙◌, ap, arith}
+use Rattle.kinds.specs.declared.Task.{Task}
+use Rattle.kinds.specs.declared.Index.{Index}
+use Rattle.kinds.specs.Limits.{most_tasks}
+use Rattle.kinds.specs.Task.{at}
+use Rattle.share.specs.Table.{priced_rows}
+use Rattle.springs.specs.Spring.{spring_of}
+use Rattle.springs.specs.declared.Springs.{Springs}
+use Rattle.springs.specs.Handover.{Sprung}
+use Rattle.order.specs.Gone.{left_from}
+use Rattle.order.specs.Index.{index_by, index_under}
+use Rattle.order.specs.Handover.{spring_left, elastic_in, step_in, Indexable}
+use Rattle.order.proofs.Gone.{from-before, from_low}
+use Rattle.order.proofs.Indexes.{sprung-index}
+use Rattle.keep.specs.Keep.{left_rows}
+use Rattle.keep.proofs.Rows.{left-priced}
+
+-- the springs of n records give the index
+module _ (w : ℕ) (rows : List Task) (n : ℕ) (s : Springs) (sprung : Sprung (priced_rows w rows n) n s) (few : n ≤ most_tasks) where
+  -- of m records that stay
+  module _ (after : List Task) (gone m : ℕ) (there : (i : ℕ) → i < m → left_from gone i < n)
+      (stays : (i : ℕ) → i < m → at (priced_rows w after m) i ≡ at (priced_rows w rows n) (left_from gone i)) where
+    springs : (i : ℕ) → i < m → spring_left s gone i ≡ spring_of (at (priced_rows w after m) i)
+    springs i l = sprung.springs (left_from gone i) (omega (arith, there i l)) ∙ ap spring_of (sym (stays i l))
+
+    index : (x : Index) → x ≡ index_by (elastic_in s gone) (step_in s gone) m → x ≡ index_under w after m
+    index x e = e ∙ sprung-index (priced_rows w after m) gone m s springs
+
+  -- of all of them, where none has gone
+  there-all : (i : ℕ) → i < n → left_from n i < n
+  there-all i l = omega (arith, from-before n i l)
+
+  stay_all : (i : ℕ) → i < n → at (priced_rows w rows n) i ≡ at (priced_rows w rows n) (left_from n i)
+  stay_all i l = ap (at (priced_rows w rows n)) (from-before n i l)
+
+  pub joined-indexable : Indexable s n n
+  joined-indexable = record { few = omega (arith, sprung.count); room = λ h. absurd (omega arith) }
+
+  pub joined-index : (x : Index) → x ≡ index_by (elastic_in s n) (step_in s n) n → x ≡ index_under w rows n
+  joined-index = index rows n n there-all stay_all
+
+  -- of those that stay once one has left
+  module _ (place : ℕ) where
+    pub left-indexable : Indexable s place (n - 1)
+    left-indexable = record { few = omega (arith, sprung.count); room = λ h. omega (arith, sprung.count) }
+
+    pub left-index : (x : Index) → x ≡ index_by (elastic_in s place) (step_in s place) (n - 1) → x ≡ index_under w (left_rows rows n place) (n - 1)
+    left-index = index (left_rows rows n place) place (n - 1) (λ i l. from_low place i n l) (left-priced rows n place few w)
