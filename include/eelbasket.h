@@ -40,7 +40,7 @@
  * handed back as it was). An acceptance writes what its answer needs, and nothing past it.
  *
  * The library keeps nothing from call to call, so that calls may be made at once from any threads, and from an interrupt, on outputs of their
- * own. It asks for memcpy and memset, and for nothing else. On x86-64 it has at most 40,000 bytes of code and constants and no data, and no
+ * own. It asks for memcpy and memset, and for nothing else. On x86-64 it has at most 30,000 bytes of code and constants and no data, and no
  * call takes more than 7,200 bytes of stack; docs/EMBEDDING.md has each by itself.
  *
  * Every call ends. The plain finder tests each step from 0 on, at most 1,000,000; the quick one makes at most tasks + 1 looks, in edition 2 at
