@@ -106,17 +106,17 @@ pub fn gate_of(settings: Settings, serves: bool, n: usize, room: usize) -> Resul
 
 // Refusals 1 to 6. Where none is given, the springs of the table are taken in.
 pub fn admit(
-    table: Table,
+    table: &Table,
     settings: Settings,
     serves: bool,
     room: usize,
     springs: &mut Springs,
 ) -> Result<(), Refusal>
     requires { Empty settings.notch springs.old }
-    ensures { AdmittedSprung serves settings table.rows table.n room result springs.new }
+    ensures { AdmittedSprung serves settings table.now.rows table.now.n room result springs.new }
 {
     gate_of(settings, serves, table.n, room)?;
     springs
-        .take_in(table, settings.swap)
+        .take_in(*table, settings.swap, settings.notch)
         .map_err(Refusal::BadRecord)
 }

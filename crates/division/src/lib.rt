@@ -9,7 +9,7 @@ ghost use Rattle.policy.specs.Handover.{Light};
 ghost use Rattle.springs.specs.Spring.{share_on, saturations};
 ghost use Rattle.springs.specs.Springs.{spring_in};
 ghost use Rattle.springs.specs.Allowed.{Within};
-ghost use Rattle.springs.specs.Handover.{SumIs};
+ghost use Rattle.springs.specs.Handover.{Springy, SumIs};
 ghost use Rattle.division.specs.Next.{Next, nearer, next_to};
 ghost use Rattle.division.specs.Division.{slope, need_to, divided, FallIs};
 
@@ -31,6 +31,7 @@ fn nearer_of(p: u32, before: Option<u32>, x: u32) -> Option<u32>
 
 // The next saturation step above p.
 pub fn next_due(springs: &Springs, p: u32) -> Option<u32>
+    requires { Springy springs.now }
     ensures { result ≡ next_to (saturations (spring_in springs.now)) p springs.now.n }
 {
     let mut nearest: Option<u32> = None;
@@ -127,6 +128,7 @@ impl Stretch {
 
     // The steps that are needed, over all tasks.
     fn need_over(self, springs: &Springs) -> u64
+        requires { Springy springs.now }
         ensures { result ≡ need_to self.w (spring_in springs.now) self.p self.sum self.fall springs.now.n }
     {
         let mut hardest = self.line(0, 0).need();
@@ -139,6 +141,7 @@ impl Stretch {
 
     // The same, without the walk where the max does not count: there no task needs more than none.
     fn needed(self, springs: &Springs) -> u64
+        requires { Springy springs.now }
         ensures { result ≡ need_to self.w (spring_in springs.now) self.p self.sum self.fall springs.now.n }
     {
         let w = self.w;
@@ -151,6 +154,7 @@ impl Stretch {
 
 // By how much the sum of the shares falls.
 fn slope_sum(springs: &Springs, p: u32) -> u64
+    requires { Springy springs.now }
     ensures { FallIs (spring_in springs.now) springs.now.n p result }
 {
     let mut fall: u64 = 0;
@@ -164,7 +168,7 @@ fn slope_sum(springs: &Springs, p: u32) -> u64
 // The least passing step of the stretch from p, which fails, to the next saturation step q, which passes. The sum of the shares at p
 // is at hand.
 pub fn divide(w: Weights, springs: &Springs, p: u32, q: u32, sum: u64) -> u32
-    requires { Light w × Next (saturations (spring_in springs.now)) springs.now.n p q
+    requires { Light w × Springy springs.now × Next (saturations (spring_in springs.now)) springs.now.n p q
         × SumIs (spring_in springs.now) springs.now.n p sum }
     ensures { result ≡ divided w (spring_in springs.now) springs.now.n p q }
 {

@@ -10,9 +10,9 @@ use Rattle.springs.specs.Spring.{charges_on}
 use Rattle.springs.specs.Springs.{spring_in}
 use Rattle.springs.specs.declared.Spring.{Spring}
 use Rattle.springs.specs.declared.Springs.{Springs}
-use Rattle.springs.specs.Handover.{Beside}
+use Rattle.springs.specs.Handover.{Chargeable, Beside}
 use Rattle.springs.proofs.Shares.{charge-falls}
-use Rattle.springs.proofs.Columns.{allowed-in, springs-beside}
+use Rattle.springs.proofs.Columns.{springs-beside}
 use Rattle.policy.specs.declared.Weights.{Weights}
 use Rattle.policy.specs.Weighed.{charged_at}
 use Rattle.policy.proofs.Weighing.{weighed-stays}
@@ -47,10 +47,10 @@ module _ (test : ℕ → Bool) (K : ℕ) (r : Range) (g : Going test K r) (d : r
   going-none h = record { least = halved_none test K r.from r.to g.halved d h; count = counted-done test K r.from r.to r.looks g d }
 
 -- the test on charges stays once it holds
-pub charged-rising : (w : Weights) (s : Springs) → Rising (charged_at w s.notch (spring_in s) s.n)
-charged-rising w s j k g t =
+pub charged-rising : (w : Weights) (s : Springs) → Chargeable s.notch s → Rising (charged_at w s.notch (spring_in s) s.n)
+charged-rising w s may j k g t =
     let charges = charges_on s.notch (spring_in s) in
-    weighed-stays w (charges j) (charges k) s.n (λ i l. charge-falls s.notch (spring_in s i) (allowed-in s i l) k j g) t
+    weighed-stays w (charges j) (charges k) s.n (λ i l. charge-falls s.notch (spring_in s i) (may i l) k j g) t
 
 -- and does not look at loads
 pub charged-beside : (w : Weights) (old new : Springs) → Beside old new → charged_at w new.notch (spring_in new) new.n ≡ charged_at w old.notch (spring_in old) old.n

@@ -5,7 +5,7 @@
 ghost use Rattle.std.specs.Prelude.{◌≡◌, ◌≤◌, ◌<◌};
 ghost use Rattle.kinds.specs.Limits.{scale};
 ghost use Rattle.springs.specs.Springs.{spring_in, full_in};
-ghost use Rattle.springs.specs.Handover.{Beside};
+ghost use Rattle.springs.specs.Handover.{Chargeable, Beside};
 ghost use Rattle.policy.specs.Handover.{Light};
 ghost use Rattle.policy.specs.Weighed.{charged_at};
 ghost use Rattle.halve.specs.Halves.{half, HalvingEnds};
@@ -24,7 +24,7 @@ pub struct Range {
 
 // One look: tests the middle, keeps one half, and raises the count by one.
 fn look(w: Weights, springs: &mut Springs, range: Range) -> Range
-    requires { Light w × (range.from < range.to) × (range.to ≤ scale) × (range.looks ≤ 20) }
+    requires { Light w × Chargeable springs.old.notch springs.old × (range.from < range.to) × (range.to ≤ scale) × (range.looks ≤ 20) }
     ensures { (result ≡ half (charged_at w springs.old.notch (spring_in springs.old) springs.old.n) range)
         × Beside springs.old springs.new }
 {
@@ -48,7 +48,7 @@ fn look(w: Weights, springs: &mut Springs, range: Range) -> Range
 
 // The least step that passes, and the looks that it took, which `ground::least_passing` does not count.
 pub fn least_step(w: Weights, springs: &mut Springs) -> Ended
-    requires { Light w }
+    requires { Light w × Chargeable springs.old.notch springs.old }
     ensures { HalvingEnds (charged_at w springs.old.notch (spring_in springs.old) springs.old.n)
         (full_in springs.old springs.old.n) result
         × Beside springs.old springs.new }

@@ -87,7 +87,7 @@ pub fn join(kept: Kept, swap: u16, notch: u16, task: Task) -> Changed
     }
     let after = with(old, task);
     let mut springs = Springs::new(notch);
-    if let Err(bad) = springs.take_in(after, swap) {
+    if let Err(bad) = springs.take_in(after, swap, notch) {
         return refuse(kept, Refusal::BadRecord(bad));
     }
     let index = order::index_of(&springs, n + 1, n + 1);
@@ -107,7 +107,7 @@ pub fn leave(kept: Kept, swap: u16, notch: u16, place: usize) -> Changed
         return refuse(kept, Refusal::TooManyTasks(n));
     }
     let mut springs = Springs::new(notch);
-    if let Err(bad) = springs.take_in(old, swap) {
+    if let Err(bad) = springs.take_in(old, swap, notch) {
         return refuse(kept, Refusal::BadRecord(bad));
     }
     if n <= place {

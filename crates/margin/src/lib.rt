@@ -14,7 +14,7 @@ pub fn margin_at(table: Table, settings: Settings, step: u32) -> Result<i64, Ref
     ensures { handed_margin result ≡ margin_handed settings table.rows table.n step }
 {
     let mut springs = Springs::new(settings.notch);
-    admission::admit(table, settings, false, table.n, &mut springs)?;
+    admission::admit(&table, settings, false, table.n, &mut springs)?;
     springs.load(settings, step);
     let asked = settings.policy;
     let test = Test {

@@ -14,7 +14,8 @@ use Rattle.kinds.proofs.Answers.{not-refused}
 use Rattle.springs.specs.Spring.{periods_on, loads_on}
 use Rattle.springs.specs.declared.Springs.{Springs}
 use Rattle.springs.specs.Springs.{spring_in}
-use Rattle.springs.proofs.Columns.{loads-are, periods-are}
+use Rattle.share.proofs.Tables.{all-good, all-on}
+use Rattle.springs.proofs.Columns.{loads-are, periods-are, sprung-chargeable}
 use Rattle.policy.specs.Passing.{passes}
 use Rattle.policy.specs.Under.{rows_under, loads_under, least_under}
 use Rattle.policy.proofs.Demand.{step-at}
@@ -23,7 +24,7 @@ use Rattle.admission.specs.Admission.{gate_of, admission}
 use Rattle.admission.proofs.Opened.{refused-gate}
 use Rattle.admission.proofs.Chain.{Ready, admitted, not-admitted, Unlike, admission-unlike}
 use Rattle.outcome.specs.Plan.{processor_on, processors_at, periods_under, processors_under, decided, periods_after, processors_after, found, outcome, Meets}
-use Rattle.outcome.specs.Handover.{FoundSprung, Leaves, Grantable}
+use Rattle.outcome.specs.Handover.{FoundSprung, Leaves, Grantable, MayGrant}
 use Rattle.outcome.proofs.Processors.{processors-same}
 use Rattle.outcome.proofs.Writing.{written-kept, written_same}
 
@@ -68,13 +69,16 @@ accepting serves s rows n room k e =
     record { ready = admitted serves s rows n room d.0; step = d.1 }
 
 -- what the writing of a plan relies on, for outputs of which the shorter has the room
-pub may-grant : (serves : Bool) (s : Settings) (rows : List Task) (n a b k : ℕ) (springs : Springs)
-    → FoundSprung serves s rows n (min a b) (Ok k) springs → Grantable s springs k a b
-may-grant serves s rows n a b k springs f =
+pub may-grant : (serves : Bool) (answer : Answer) (s : Settings) (rows : List Task) (n a b : ℕ) (springs : Springs)
+    → FoundSprung serves s rows n (min a b) answer springs → MayGrant answer s springs a b
+may-grant serves (Err r) s rows n a b springs f t = true-false t refl
+may-grant serves (Ok k) s rows n a b springs f t =
     let g = accepting serves s rows n (min a b) k f.answers in
     let p = g.ready.passed in
     let paid = rows_under s rows n in
     let w = f.sprung refl in
+    let good = all-good s.swap s.notch rows n g.ready.none-bad in
+    let on = all-on s.swap s.notch rows n g.ready.none-bad g.ready.notched in
     let passing = (step-at (meant s.policy) s.m (loads_under s rows n) n _ k g.step).passes in
     let same = passes_same (meant s.policy) s.m (loads_on s (spring_in springs) k) (loads_under s rows n k) n (loads-are paid n springs w s k) in
     record {
@@ -82,11 +86,17 @@ may-grant serves s rows n a b k springs f =
       processors-roomy = omega (arith, w.count, p.roomy);
       placeable =
           record {
+            chargeable = sprung-chargeable paid n springs w good s.notch on;
             notch = f.notch;
             m-most = p.m-most;
             passing = ap (passes (meant s.policy) s.m (loads_on s (spring_in springs) k)) w.count ∙ (same ∙ passing);
           };
     }
+
+-- and what that comes to of an acceptance
+pub may-granted : (answer : Answer) (k : ℕ) (s : Settings) (springs : Springs) (a b : ℕ) → answer ≡ Ok k → MayGrant answer s springs a b
+    → Grantable s springs k a b
+may-granted answer k s springs a b e may = (rw e at may) refl
 
 -- as a finder works it out: without a step where the admission refuses, else with the least one
 module _ (serves : Bool) (s : Settings) (rows : List Task) (n room : ℕ) (a : Verdict) (is : a ≡ admission serves s rows n room) where

@@ -45,7 +45,7 @@ module _ (serves : Bool) (s : Settings) (rows : List Task) (n room : ℕ) where
     may-search =
         let admitted = opened serves s rows n room a springs x admits in
         let passed = admitted.ready.passed in
-        record { notch = admitted.notch; m-some = passed.m-some; m-most = passed.m-most; served = passed-served serves _ _ _ _ passed }
+        record { chargeable = admitted.chargeable; notch = admitted.notch; m-some = passed.m-some; m-most = passed.m-most; served = passed-served serves _ _ _ _ passed }
 
     -- with the least step its answer is what demand 2 finds, and the springs are still those
     pub found-sprung : (new : Springs) → Beside springs new → (step : Step) → step ≡ least_under s rows n → (answer : Answer) → answer ≡ ok_or step NoStepPasses

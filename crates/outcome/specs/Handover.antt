@@ -4,20 +4,21 @@ use Rattle.std.specs.Prelude.{ℕ, ◌≤◌, Bool, true, List, ◌≡◌}
 use Rattle.ground.specs.Folds.{list_to}
 use Rattle.kinds.specs.declared.Task.{Task}
 use Rattle.kinds.specs.declared.Settings.{Settings}
-use Rattle.kinds.specs.Answer.{Handed, after, handed, is_accepted, Answer}
+use Rattle.kinds.specs.Answer.{Handed, after, handed, is_accepted, step_of, Answer}
 use Rattle.kinds.specs.Limits.{most_processors}
 use Rattle.kinds.specs.Policy.{meant, Served}
 use Rattle.springs.specs.declared.Spring.{Spring}
 use Rattle.springs.specs.Spring.{periods_on, loads_on}
 use Rattle.springs.specs.declared.Springs.{Springs}
 use Rattle.springs.specs.Springs.{spring_in}
-use Rattle.springs.specs.Handover.{Sprung}
+use Rattle.springs.specs.Handover.{Chargeable, Sprung}
 use Rattle.policy.specs.Passing.{passes}
 use Rattle.policy.specs.Under.{rows_under}
 use Rattle.outcome.specs.Plan.{processor_on, found}
 
--- what the search for a step relies on: the notch of its springs, processors, and a policy that is served
+-- what the search for a step relies on: springs that may be charged, on their notch, processors, and a policy that is served
 pub record Searchable (s : Settings) (springs : Springs) : Type 0 where
+  pub chargeable : Chargeable s.notch springs
   pub notch : springs.notch ≡ s.notch
   pub m-some : 1 ≤ s.m
   pub m-most : s.m ≤ most_processors
@@ -29,8 +30,9 @@ pub record FoundSprung (serves : Bool) (s : Settings) (rows : List Task) (n room
   pub sprung : is_accepted answer ≡ true → Sprung (rows_under s rows n) n springs
   pub notch : springs.notch ≡ s.notch
 
--- what the placing relies on: springs that pass at step k
+-- what the placing relies on: springs that may be charged, on their notch, and pass at step k
 pub record Placeable (s : Settings) (springs : Springs) (k : ℕ) : Type 0 where
+  pub chargeable : Chargeable s.notch springs
   pub notch : springs.notch ≡ s.notch
   pub m-most : s.m ≤ most_processors
   pub passing : passes (meant s.policy) s.m (loads_on s (spring_in springs) k) springs.n ≡ true
@@ -40,6 +42,9 @@ pub record Grantable (s : Settings) (springs : Springs) (k periods processors : 
   pub periods-roomy : springs.n ≤ periods
   pub processors-roomy : springs.n ≤ processors
   pub placeable : Placeable s springs k
+
+abbrev pub MayGrant : Answer → Settings → Springs → ℕ → ℕ → Type 0
+MayGrant answer s springs periods processors = is_accepted answer ≡ true → Grantable s springs (step_of answer) periods processors
 
 -- two outputs as a call leaves them that hands back h, where a step grants these entries
 pub record Written (h : Handed ℕ) (granted placed : ℕ → List ℕ) (n : ℕ) (old_periods old_processors periods processors : List ℕ) : Type 0 where

@@ -4,19 +4,20 @@
 
 ghost use Rattle.std.specs.Prelude.{◌++◌, ◌≡◌, ℕ, ◌≤◌, length, get_or, drop};
 ghost use Rattle.ground.specs.Folds.{list_to};
-ghost use Rattle.kinds.specs.Answer.{accepted};
+ghost use Rattle.kinds.specs.Answer.{handed};
 ghost use Rattle.kinds.specs.Policy.{meant};
 ghost use Rattle.springs.specs.Spring.{periods_on, loads_on};
 ghost use Rattle.springs.specs.Springs.{spring_in};
+ghost use Rattle.springs.specs.Handover.{Chargeable};
 ghost use Rattle.outcome.specs.Plan.{processor_on};
-ghost use Rattle.outcome.specs.Handover.{Placeable, Grantable, Leaves};
+ghost use Rattle.outcome.specs.Handover.{Placeable, MayGrant, Leaves};
 
-use kinds::{Settings, Table};
+use kinds::{Refusal, Settings, Table};
 use springs::Springs;
 
 // Writes the period of step k of each task, and nothing past them.
 fn write_periods(springs: &Springs, k: u32, out: &mut [u32])
-    requires { springs.now.n ≤ length out.old }
+    requires { (springs.now.n ≤ length out.old) × Chargeable springs.now.notch springs.now }
     ensures { out.new ≡ list_to (periods_on springs.now.notch (spring_in springs.now) k) springs.now.n
         ++ drop springs.now.n out.old }
 {
@@ -42,18 +43,21 @@ fn processors_at(settings: Settings, springs: &mut Springs, k: u32) -> [u16; Tab
     [0u16; Table::MOST_TASKS]
 }
 
-// Writes what an accepted step grants to the two lent outputs, worked out of the springs.
+// Writes what an accepted step grants to the two lent outputs, worked out of the springs; a refusal writes nothing.
 pub fn grant(
-    step: u32,
+    answer: Result<u32, Refusal>,
     settings: Settings,
     springs: &mut Springs,
     periods: &mut [u32],
     processors: &mut [u16],
 )
-    requires { Grantable settings springs.old step (length periods.old) (length processors.old) }
-    ensures { Leaves (accepted step) settings (spring_in springs.old) springs.old.n periods.old processors.old
+    requires { MayGrant answer settings springs.old (length periods.old) (length processors.old) }
+    ensures { Leaves (handed answer) settings (spring_in springs.old) springs.old.n periods.old processors.old
         periods.new processors.new }
 {
+    let Ok(step) = answer else {
+        return;
+    };
     let n = springs.n;
     write_periods(springs, step, periods);
     let placed = processors_at(settings, springs, step);

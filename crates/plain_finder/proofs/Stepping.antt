@@ -10,6 +10,7 @@ use Rattle.ground.proofs.Least.{least-here, least-none}
 use Rattle.kinds.specs.declared.Task.{Task}
 use Rattle.kinds.specs.declared.Policy.{Policy}
 use Rattle.kinds.specs.declared.Settings.{Settings}
+use Rattle.kinds.specs.Limits.{scale}
 use Rattle.kinds.specs.Policy.{meant}
 use Rattle.kinds.specs.Settings.{tests_charge}
 use Rattle.kinds.specs.Task.{at}
@@ -19,10 +20,11 @@ use Rattle.springs.specs.declared.Spring.{Spring}
 use Rattle.springs.specs.declared.Springs.{Springs}
 use Rattle.springs.specs.Spring.{share_on, let_down, shares_on, charges_on, loads_on}
 use Rattle.springs.specs.Springs.{spring_in, full_in}
-use Rattle.springs.specs.Handover.{Summed, Beside, Sprung}
-use Rattle.springs.proofs.Shares.{carried}
-use Rattle.springs.proofs.Columns.{beside_same, beside-more, springs-beside, loads-are}
+use Rattle.springs.specs.Handover.{Springy, Summed, Beside, Sprung}
+use Rattle.springs.proofs.Shares.{carried, share-most}
+use Rattle.springs.proofs.Columns.{beside_same, beside-more, springs-beside, springy-beside, loads-are}
 use Rattle.fit.specs.Fit.{load_in}
+use Rattle.fit.specs.Handover.{Loads}
 use Rattle.policy.specs.Passing.{passes_at, least_step}
 use Rattle.policy.specs.Passing as passing
 use Rattle.policy.specs.Under.{rows_under, loads_under, least_under}
@@ -76,6 +78,19 @@ module _ (p : Policy) (m : ℕ) (old : Springs) where
     pub stepped-past : full_in old old.n < k → Searched p m (shares_on (spring_in old)) None old now
     unfolding least_step
     stepped-past h = record { least = least-none (passes_at p m (shares_on (spring_in old)) old.n) _ k w.before (omega arith); beside = w.beside }
+
+    -- what is asked of springs and their loads is true of these
+    module _ (s : Springy old) where
+      pub stepped-springy : Springy now
+      stepped-springy = springy-beside old now w.beside s
+
+      pub stepped-most : (i : ℕ) → i < now.n → load_in now.loads i ≤ scale
+      stepped-most i l =
+          let h : i < old.n = omega (arith, w.beside.count) in
+          rw (w.are i h) (share-most (spring_in old i) (s i h) k)
+
+      pub stepped-loads : Loads now.loads now.n
+      stepped-loads = record { few = now.few; most = stepped-most }
 
     -- the test on the loads is the test of step k
     tested : (b : Bool) → b ≡ passing.passes p m (load_in now.loads) now.n → b ≡ passes_at p m (shares_on (spring_in old)) old.n k

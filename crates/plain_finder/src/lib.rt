@@ -8,7 +8,7 @@ ghost use Rattle.kinds.specs.Answer.{handed};
 ghost use Rattle.kinds.specs.Policy.{meant};
 ghost use Rattle.springs.specs.Spring.{shares_on, charges_on, loads_on};
 ghost use Rattle.springs.specs.Springs.{spring_in};
-ghost use Rattle.springs.specs.Handover.{Empty};
+ghost use Rattle.springs.specs.Handover.{Springy, Chargeable, Empty};
 ghost use Rattle.outcome.specs.Plan.{found, outcome, Meets};
 ghost use Rattle.outcome.specs.Handover.{Searchable, FoundSprung};
 ghost use Rattle.plain_finder.specs.Handover.{Searched};
@@ -29,8 +29,8 @@ pub fn find(
 {
     let room = periods.len().min(processors.len());
     let mut springs = Springs::new(settings.notch);
-    let step = find_step(table, settings, room, &mut springs)?;
-    outcome::grant(step, settings, &mut springs, periods, processors);
+    let step = find_step(&table, settings, room, &mut springs)?;
+    outcome::grant(Ok(step), settings, &mut springs, periods, processors);
     Ok(step)
 }
 
@@ -39,18 +39,18 @@ pub fn decide(table: Table, settings: Settings, room: usize) -> Result<u32, Refu
     ensures { handed result ≡ found true settings table.rows table.n room }
 {
     let mut springs = Springs::new(settings.notch);
-    find_step(table, settings, room, &mut springs)
+    find_step(&table, settings, room, &mut springs)
 }
 
 // The least passing step of a table, whose springs are taken in.
 fn find_step(
-    table: Table,
+    table: &Table,
     settings: Settings,
     room: usize,
     springs: &mut Springs,
 ) -> Result<u32, Refusal>
     requires { Empty settings.notch springs.old }
-    ensures { FoundSprung true settings table.rows table.n room result springs.new }
+    ensures { FoundSprung true settings table.now.rows table.now.n room result springs.new }
 {
     admission::admit(table, settings, true, room, springs)?;
     least_step(settings, springs).ok_or(Refusal::NoStepPasses)
@@ -75,6 +75,7 @@ fn least_step(settings: Settings, springs: &mut Springs) -> Option<u32>
 
 // Edition 2: the least step that passes on the charges.
 fn least_charged(test: Test, springs: &mut Springs) -> Option<u32>
+    requires { Chargeable springs.old.notch springs.old }
     ensures { Searched test.policy test.m (charges_on springs.old.notch (spring_in springs.old)) result
         springs.old springs.new }
 {
@@ -90,6 +91,7 @@ fn least_charged(test: Test, springs: &mut Springs) -> Option<u32>
 // Edition 1: the least step that passes on the shares, which are let down from step to step. A walk of its own: edition 2 charges each step anew,
 // and carries nothing.
 fn least_shared(test: Test, springs: &mut Springs) -> Option<u32>
+    requires { Springy springs.old }
     ensures { Searched test.policy test.m (shares_on (spring_in springs.old)) result springs.old springs.new }
 {
     let full = springs.full_compression();

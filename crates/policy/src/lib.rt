@@ -9,8 +9,9 @@ ghost use Rattle.kinds.specs.Limits.{scale, most_tasks, most_processors};
 ghost use Rattle.kinds.specs.Policy.{is_weighed, Served};
 ghost use Rattle.springs.specs.Spring.{shares_on, charges_on};
 ghost use Rattle.springs.specs.Springs.{spring_in};
-ghost use Rattle.springs.specs.Handover.{Beside};
+ghost use Rattle.springs.specs.Handover.{Springy, Chargeable, Beside};
 ghost use Rattle.fit.specs.Fit.{load_in};
+ghost use Rattle.fit.specs.Handover.{Loads};
 ghost use Rattle.policy.specs.Sides.{weights_of, most_sum, left_of, margin_of};
 ghost use Rattle.policy.specs.Passing.{passes, passes_at};
 ghost use Rattle.policy.specs.Weighed.{weighed, charged_at};
@@ -29,6 +30,7 @@ pub struct Total {
 impl Total {
     // The total of the loads. 32 bits hold it, and are twice as fast as 64.
     pub fn of(springs: &Springs) -> Total
+        requires { Loads springs.now.loads springs.now.n }
         ensures { TotalIs (load_in springs.now.loads) springs.now.n result.sum result.max }
     {
         let mut sum: u32 = 0;
@@ -45,6 +47,7 @@ impl Total {
 
     // The total of the shares at step k, which are not written.
     pub fn at(springs: &Springs, k: u32) -> Total
+        requires { Springy springs.now }
         ensures { TotalIs (shares_on (spring_in springs.now) k) springs.now.n result.sum result.max }
     {
         let mut sum: u32 = 0;
@@ -110,7 +113,7 @@ impl Weights {
     // Whether the test holds for the loads, with their sum at hand: where it is above the right side or the max does not count, they are not walked
     // over.
     fn hold_summed(self, springs: &Springs, sum: u64) -> bool
-        requires { Light self × (sum ≡ sum_to (load_in springs.now.loads) springs.now.n) }
+        requires { Light self × Loads springs.now.loads springs.now.n × (sum ≡ sum_to (load_in springs.now.loads) springs.now.n) }
         ensures { result ≡ weighed self (load_in springs.now.loads) springs.now.n }
     {
         if self.r < sum {
@@ -124,7 +127,7 @@ impl Weights {
 
     // Whether the test holds at step k on the charges, which then stand in the loads.
     pub fn hold_charged(self, springs: &mut Springs, k: u32) -> bool
-        requires { Light self }
+        requires { Light self × Chargeable springs.old.notch springs.old }
         ensures { (result ≡ charged_at self springs.old.notch (spring_in springs.old) springs.old.n k)
             × Beside springs.old springs.new }
     {
@@ -165,6 +168,7 @@ impl Test {
 
     // Whether the loads pass.
     pub fn passes(self, springs: &Springs) -> bool
+        requires { Loads springs.now.loads springs.now.n }
         ensures { result ≡ passes self.policy self.m (load_in springs.now.loads) springs.now.n }
     {
         let policy = self.policy;
@@ -185,7 +189,8 @@ impl Test {
 
     // Whether the loads pass, with their sum at hand, and what it may be at most: where it is more, the policy is not tried.
     pub fn passes_summed(self, springs: &Springs, sum: u64, most: u64) -> bool
-        requires { (sum ≡ sum_to (load_in springs.now.loads) springs.now.n) × (most ≡ most_sum self.policy self.m springs.now.n) }
+        requires { Loads springs.now.loads springs.now.n × (sum ≡ sum_to (load_in springs.now.loads) springs.now.n)
+            × (most ≡ most_sum self.policy self.m springs.now.n) }
         ensures { result ≡ passes self.policy self.m (load_in springs.now.loads) springs.now.n }
     {
         if most < sum {
@@ -197,6 +202,7 @@ impl Test {
     // Whether the springs pass at step k on their charges, which then stand in the loads. The sum is held to the most here: with a second caller
     // `passes_summed` would be a call for each step of edition 1.
     pub fn passes_charged(self, springs: &mut Springs, k: u32) -> bool
+        requires { Chargeable springs.old.notch springs.old }
         ensures { (result ≡ passes_at self.policy self.m (charges_on springs.old.notch (spring_in springs.old)) springs.old.n k)
             × Beside springs.old springs.new }
     {
@@ -209,7 +215,7 @@ impl Test {
 
     // The right side of the test minus the left, as a signed number, of a policy that is weighed.
     pub fn margin(self, springs: &Springs) -> i64
-        requires { is_weighed self.policy ≡ true }
+        requires { Loads springs.now.loads springs.now.n × (is_weighed self.policy ≡ true) }
         ensures { result ≡ margin_of self.policy self.m (load_in springs.now.loads) springs.now.n }
     {
         let w = self.weights(springs.n);

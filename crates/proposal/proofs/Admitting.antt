@@ -6,15 +6,17 @@ use Rattle.kinds.specs.declared.Task.{Task}
 use Rattle.kinds.specs.declared.Settings.{Settings}
 use Rattle.kinds.specs.declared.Refusal.{Refusal}
 use Rattle.kinds.specs.declared.Refusal.TheVariants.{BadRecord}
-use Rattle.kinds.specs.Limits.{most_processors}
 use Rattle.kinds.specs.Answer.{Verdict}
 use Rattle.share.specs.Table.{first_bad}
+use Rattle.share.proofs.Tables.{all-good, all-on}
 use Rattle.springs.specs.Spring.{loads_on}
 use Rattle.springs.specs.declared.Springs.{Springs}
 use Rattle.springs.specs.Springs.{spring_in}
-use Rattle.springs.specs.Handover.{Loaded, Sprung, TakenIn}
-use Rattle.springs.proofs.Columns.{loads-are, taken-good, taken-bad}
+use Rattle.springs.specs.Handover.{Chargeable, Loaded, Sprung, TakenIn}
+use Rattle.springs.proofs.Columns.{loads-are, loads-most, sprung-chargeable, taken-good, taken-bad}
+use Rattle.fit.specs.Handover.{Loads}
 use Rattle.policy.specs.Under.{rows_under}
+use Rattle.policy.proofs.Weighing.{loaded-loads}
 use Rattle.admission.specs.Admission.{and_then, misset_numbers, gate, roomy, records_good}
 use Rattle.admission.proofs.Chain.{Few, unchecked, not-admitted, then-admitted, gate-opens, numbers-set, set-few, roomy-passed}
 use Rattle.admission.proofs.Opened.{by-record}
@@ -53,15 +55,25 @@ admitted s rows n proposed room e =
     let a = then-admitted (gate_of s n proposed room) (records_good s.swap s.notch rows n) e in
     record { passed = gate-passed s n proposed room a.0; none-bad = ltb-false _ _ (unchecked _ _ _ a.1).0 }
 
--- the loads of step k that are worked out from the springs of the records are the tasks'
-pub loads-held : (s : Settings) (rows : List Task) (n : ℕ) (springs : Springs) → s.m ≤ most_processors → Sprung (rows_under s rows n) n springs
-    → (k : ℕ) (new : Springs) → Loaded (loads_on s (spring_in springs) k) springs.n springs new → LoadsOf s rows n k new
-loads-held s rows n springs m-most sprung k new w =
-    record {
-      m-most = m-most;
-      count = w.beside.count ∙ sprung.count;
-      are = λ i l. w.are i (omega (arith, sprung.count)) ∙ loads-are (rows_under s rows n) n springs sprung s k i l;
-    }
+-- the springs of good records may be charged, and the loads of step k that are worked out from them are the tasks'
+module _ (s : Settings) (rows : List Task) (n proposed room : ℕ) (ready : Ready s rows n proposed room)
+    (springs : Springs) (sprung : Sprung (rows_under s rows n) n springs) where
+  pub springs-chargeable : Chargeable s.notch springs
+  springs-chargeable =
+      let good = all-good s.swap s.notch rows n ready.none-bad in
+      let on = all-on s.swap s.notch rows n ready.none-bad ready.passed.notched in
+      sprung-chargeable (rows_under s rows n) n springs sprung good s.notch on
+
+  pub loads-held : (k : ℕ) (new : Springs) → Loaded (loads_on s (spring_in springs) k) springs.n springs new → LoadsOf s rows n k new
+  loads-held k new w =
+      let all : new.n ≡ n = w.beside.count ∙ sprung.count in
+      let light : Loads new.loads new.n = loaded-loads _ springs new (loads-most s springs springs-chargeable k) w in
+      record {
+        m-most = ready.passed.few.m-most;
+        count = all;
+        light = rw all at light;
+        are = λ i l. w.are i (omega (arith, sprung.count)) ∙ loads-are (rows_under s rows n) n springs sprung s k i l;
+      }
 
 -- the walk over the records of a call that passed the gate: what it found is the admission's, and where that admits its springs are there
 module _ (s : Settings) (rows : List Task) (n proposed room : ℕ) (gate : Verdict) (g : gate ≡ gate_of s n proposed room) where
@@ -69,12 +81,12 @@ module _ (s : Settings) (rows : List Task) (n proposed room : ℕ) (gate : Verdi
   unfolding admission
   refused-loaded r k springs e = record { is = rw (← g, e); loads = λ o. not-admitted (Err r) refl o }
 
-  module _ (opens : gate ≡ (Ok tt)) (r : Result (Unit {0}) ℕ) (old now : Springs) (same : old.notch ≡ s.notch) (t : TakenIn s.swap rows n r old now)
+  module _ (opens : gate ≡ (Ok tt)) (r : Result (Unit {0}) ℕ) (now : Springs) (t : TakenIn s.swap s.notch rows n r now)
       (a : Verdict) (mapped : MatchResult r (λ x. a ≡ Ok x) (λ i. IsErrAnd a (λ y. y ≡ BadRecord i))) where
     bad-loaded : (i : ℕ) → r ≡ Err i → (k : ℕ) (new : Springs) → AdmittedLoaded s rows n k proposed room (Err (BadRecord i)) new
     unfolding admission
     bad-loaded i e k new =
-        let bad = taken-bad s.swap s.notch rows n r old now same t i e in
+        let bad = taken-bad s.swap s.notch rows n r now t i e in
         record { is = rw (sym g ∙ opens, ← bad.0, lt-ltb i n bad.1); loads = λ o. not-admitted (Err (BadRecord i)) refl o }
 
     pub err-loaded : (x : Refusal) → a ≡ Err x → (k : ℕ) (new : Springs) → AdmittedLoaded s rows n k proposed room (Err x) new
@@ -88,17 +100,20 @@ module _ (s : Settings) (rows : List Task) (n proposed room : ℕ) (gate : Verdi
       all-taken = by-record r a mapped (λ all q. all) (λ i bad q. let z = sym q ∙ e in absurd cc)
 
       good : (n ≤ first_bad s.swap s.notch rows n) × Sprung (rows_under s rows n) n now
-      good = taken-good s.swap s.notch rows n r old now same t all-taken
+      good = taken-good s.swap s.notch rows n r now t all-taken
+
+      admits : ◌≡◌ {A = Verdict} (Ok tt) (admission s rows n proposed room)
+      unfolding admission
+      admits = rw (sym g ∙ opens, le-ltb (first_bad s.swap s.notch rows n) n good.0)
+
+      pub may-charge : Chargeable s.notch now
+      may-charge = springs-chargeable s rows n proposed room (admitted s rows n proposed room (sym admits)) now good.1
 
       pub well-loaded : (k : ℕ) (new : Springs) → Loaded (loads_on s (spring_in now) k) now.n now new
           → AdmittedLoaded s rows n k proposed room (Ok tt) new
-      unfolding admission
       well-loaded k new w =
-          let passed = gate-passed s n proposed room (sym g ∙ opens) in
-          record {
-            is = rw (sym g ∙ opens, le-ltb (first_bad s.swap s.notch rows n) n good.0);
-            loads = λ _. loads-held s rows n now passed.few.m-most good.1 k new w;
-          }
+          let ready = admitted s rows n proposed room (sym admits) in
+          record { is = admits; loads = λ _. loads-held s rows n proposed room ready now good.1 k new w }
 
 -- an admitted call: its counts are checked, and the springs have its loads
 pub record Checked (s : Settings) (rows : List Task) (n k proposed room : ℕ) (springs : Springs) : Type 0 where

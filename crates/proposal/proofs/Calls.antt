@@ -34,9 +34,10 @@ use Rattle.proposal.proofs.Admitting.{gate-passed}
 
 -- a proposal with an entry for each task, none of them out of range, may be loaded
 pub may_load : (s : Settings) (rows : List Task) (n k : ℕ) (springs : Springs) (proposal : List ℕ) → LoadsOf s rows n k springs → n ≤ length proposal
-    → n ≤ first_out_of_range s.m (place_in proposal) n → Loadable springs.n proposal
+    → n ≤ first_out_of_range s.m (place_in proposal) n → Loadable springs.loads springs.n proposal
 may_load s rows n k springs proposal w long h =
     record {
+      light = rw w.count w.light;
       long = omega (arith, w.count);
       each =
           λ i l.

@@ -8,6 +8,7 @@ use Rattle.kinds.specs.declared.Settings.{Settings}
 use Rattle.kinds.specs.Limits.{most_processors}
 use Rattle.springs.specs.declared.Springs.{Springs}
 use Rattle.fit.specs.Fit.{load_in}
+use Rattle.fit.specs.Handover.{Loads}
 use Rattle.policy.specs.Under.{loads_under}
 use Rattle.proposal.specs.Loads.{processor_load, InRange}
 use Rattle.proposal.specs.Proposal.{place_in, admission}
@@ -16,6 +17,7 @@ use Rattle.proposal.specs.Proposal.{place_in, admission}
 pub record LoadsOf (s : Settings) (rows : List Task) (n k : ℕ) (springs : Springs) : Type 0 where
   pub m-most : s.m ≤ most_processors
   pub count : springs.n ≡ n
+  pub light : Loads springs.loads n
   pub are : (i : ℕ) → i < n → load_in springs.loads i ≡ loads_under s rows n k i
 
 -- the admission, and where it admits the loads of the tasks
@@ -28,8 +30,9 @@ abbrev pub FoundFirst : (ℕ → Bool) → ℕ → Option ℕ → Type 0
 FoundFirst test n (Some i) = (i < n) × (i ≡ first_below test n)
 FoundFirst test n None = n ≤ first_below test n
 
--- what the loading relies on: for each of n tasks a processor that there can be
-pub record Loadable (n : ℕ) (proposal : List ℕ) : Type 0 where
+-- what the loading relies on: loads of n tasks, and for each of them a processor that there can be
+pub record Loadable (loads : List ℕ) (n : ℕ) (proposal : List ℕ) : Type 0 where
+  pub light : Loads loads n
   pub long : n ≤ length proposal
   pub each : (i : ℕ) → i < n → InRange most_processors (place_in proposal i)
 

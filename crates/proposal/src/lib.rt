@@ -4,7 +4,6 @@
 
 ghost use Rattle.std.specs.Prelude.{◌≡◌, length, get_or};
 ghost use Rattle.fit.specs.Fit.{load_in};
-ghost use Rattle.springs.specs.Handover.{Empty};
 ghost use Rattle.proposal.specs.Loads.{is_out_of_range, is_overfull};
 ghost use Rattle.proposal.specs.Proposal.{place_in, gate_of, outcome, Meets};
 ghost use Rattle.proposal.specs.Handover.{AdmittedLoaded, FoundFirst, Loadable, LoadsAre};
@@ -30,12 +29,11 @@ pub fn admit(
     room: usize,
     springs: &mut Springs,
 ) -> Result<(), Refusal>
-    requires { Empty settings.notch springs.old }
     ensures { AdmittedLoaded settings table.rows table.n step proposed room result springs.new }
 {
     gate_of(settings, table.n, proposed, room)?;
     springs
-        .take_in(table, settings.swap)
+        .take_in(table, settings.swap, settings.notch)
         .map_err(Refusal::BadRecord)?;
     springs.load(settings, step);
     Ok(())
@@ -59,7 +57,7 @@ fn first_out_of_range(proposal: &[u16], m: u16) -> Option<usize>
 
 // The loads that a proposal puts on the processors: that of each task on its own.
 fn loads_of(springs: &Springs, proposal: &[u16]) -> [u32; Settings::MOST_PROCESSORS as usize]
-    requires { Loadable springs.now.n proposal.now }
+    requires { Loadable springs.now.loads springs.now.n proposal.now }
     ensures { LoadsAre (load_in springs.now.loads) (place_in proposal.now) springs.now.n result }
 {
     let n = springs.n;

@@ -8,7 +8,7 @@ ghost use Rattle.kinds.specs.Answer.{handed};
 ghost use Rattle.kinds.specs.Limits.{most_tasks};
 ghost use Rattle.springs.specs.Spring.{saturations};
 ghost use Rattle.springs.specs.Springs.{spring_in};
-ghost use Rattle.springs.specs.Handover.{Empty, SumIs, Beside};
+ghost use Rattle.springs.specs.Handover.{Springy, Empty, SumIs, Beside};
 ghost use Rattle.policy.specs.Weighed.{weighed_at};
 ghost use Rattle.policy.specs.Handover.{Light};
 ghost use Rattle.quick_finder.specs.Search.{due_after, OneLook};
@@ -47,9 +47,9 @@ pub fn find(table: Table, settings: Settings, periods: &mut [u32], processors: &
 {
     let room = periods.len().min(processors.len());
     let mut springs = Springs::new(settings.notch);
-    let looked = find_step(table, settings, room, &mut springs);
+    let looked = find_step(&table, settings, room, &mut springs);
     if let Ok(step) = looked.answer {
-        outcome::grant(step, settings, &mut springs, periods, processors);
+        outcome::grant(Ok(step), settings, &mut springs, periods, processors);
     }
     looked
 }
@@ -59,13 +59,13 @@ pub fn decide(table: Table, settings: Settings, room: usize) -> Result<u32, Refu
     ensures { handed result ≡ found false settings table.rows table.n room }
 {
     let mut springs = Springs::new(settings.notch);
-    find_step(table, settings, room, &mut springs).answer
+    find_step(&table, settings, room, &mut springs).answer
 }
 
 // The answer and its looks; the springs of the table are taken in. No look is made of a table that is not admitted.
-fn find_step(table: Table, settings: Settings, room: usize, springs: &mut Springs) -> Looked
+fn find_step(table: &Table, settings: Settings, room: usize, springs: &mut Springs) -> Looked
     requires { Empty settings.notch springs.old }
-    ensures { LookedSprung settings table.rows table.n room result.answer result.looks springs.new }
+    ensures { LookedSprung settings table.now.rows table.now.n room result.answer result.looks springs.new }
 {
     if let Err(refusal) = admission::admit(table, settings, false, room, springs) {
         return Looked {
@@ -99,7 +99,7 @@ fn search_under(settings: Settings, springs: &mut Springs) -> Ended
 
 // One look under edition 1: tests the policy at the step due, and raises the count by one.
 fn look(w: Weights, springs: &Springs, before: Search, due: u32) -> Search
-    requires { Light w × (before.looks ≤ most_tasks)
+    requires { Light w × Springy springs.now × (before.looks ≤ most_tasks)
         × (Some due ≡ due_after (saturations (spring_in springs.now)) springs.now.n before) × (0 < before.looks → before.step < due) }
     ensures { OneLook (weighed_at w (spring_in springs.now) springs.now.n) (saturations (spring_in springs.now)) springs.now.n before result
         × SumIs (spring_in springs.now) springs.now.n result.step result.sum }
@@ -117,7 +117,7 @@ fn look(w: Weights, springs: &Springs, before: Search, due: u32) -> Search
 
 // The looks of edition 1, one after the other, and the division at the end.
 fn search_columns(w: Weights, springs: &Springs) -> Ended
-    requires { Light w }
+    requires { Light w × Springy springs.now }
     ensures { SearchEnds (weighed_at w (spring_in springs.now) springs.now.n) (saturations (spring_in springs.now)) springs.now.n result }
 {
     let start = Search {

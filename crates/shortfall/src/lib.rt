@@ -4,6 +4,7 @@
 
 ghost use Rattle.std.specs.Prelude.{◌≤◌};
 ghost use Rattle.kinds.specs.Limits.{most_processors};
+ghost use Rattle.fit.specs.Handover.{Loads};
 
 use kinds::{Policy, Refusal, Settings, Share, Table};
 use policy::{Total, Weights};
@@ -47,7 +48,7 @@ impl fmt::Display for Sides {
 
 // Those of the loads on m processors.
 fn sides_of(policy: Policy, m: u16, springs: &Springs) -> Sides
-    requires { m ≤ most_processors }
+    requires { (m ≤ most_processors) × Loads springs.now.loads springs.now.n }
 {
     let trial = fit::first_fit(&springs.loads, springs.n, usize::from(m));
     let processors = trial.processors;

@@ -1,6 +1,6 @@
 -- Columns: the walks that write loads and take springs in, and what the springs then say of a table.
 -- Assumes nothing.
-use Rattle.ground.proofs.Kit.{ℕ, suc, ◌+◌, ◌≤◌, ◌<◌, true, false, List, ◌≡◌, refl, sym, ◌∙◌, ap, arith, length, get_or, set, take, replicate, length-take-le, length-set}
+use Rattle.ground.proofs.Kit.{ℕ, suc, ◌+◌, ◌≤◌, ◌<◌, true, false, List, ◌≡◌, refl, sym, ◌∙◌, ap, subst, arith, length, get_or, set, take, replicate, length-take-le, length-set}
 use Rattle.ground.proofs.Kit.{get_or-set_same, get_or-set_other, get_or-replicate, length-replicate, lt-ltb, le-ltb, Ok, Err, Result}
 use mathlib.Core.Path.{fun_ext}
 use Rattle.std.proofs.lemmas.List.{get_or_past, get_or-take}
@@ -12,22 +12,17 @@ use Rattle.kinds.specs.declared.Task.{Task}
 use Rattle.kinds.specs.declared.Settings.{Settings}
 use Rattle.kinds.specs.Limits.{scale, most_tasks}
 use Rattle.kinds.specs.Settings.{tests_charge}
-use Rattle.kinds.specs.Task.{at}
+use Rattle.kinds.specs.Task.{at, Good, OnNotch}
 use Rattle.share.specs.Share.{share_at, saturation_at, period_at, charge_at, load_at}
 use Rattle.share.specs.Table.{first_bad, priced_rows, periods_at}
 use Rattle.share.proofs.Tables.{first-bad-is}
 use Rattle.springs.specs.declared.Spring.{Spring}
 use Rattle.springs.specs.declared.Springs.{Springs}
 use Rattle.springs.specs.Spring.{spring_of, share_on, saturation_on, shares_on, periods_on, charges_on, loads_on}
-use Rattle.springs.specs.Allowed.{Allowed, spring_over, AllAllowed, AllAtMost}
+use Rattle.springs.specs.Allowed.{Allowed, spring_over}
 use Rattle.springs.specs.Springs.{spring_in, full_in}
-use Rattle.springs.specs.Handover.{Beside, Loaded, Summed, Put, Sprung, found_bad, TakenIn}
-use Rattle.springs.proofs.Shares.{share-on, saturation-on, share-most, saturation-low, charge-most}
-
--- the springs are allowed periods on their notch
-pub allowed-in : (s : Springs) (i : ℕ) → i < s.n → Allowed s.notch (spring_in s i)
-unfolding spring_in
-allowed-in s i l = s.allowed i l
+use Rattle.springs.specs.Handover.{Springy, Chargeable, Beside, Loaded, Summed, Put, Sprung, found_bad, TakenIn}
+use Rattle.springs.proofs.Shares.{share-on, saturation-on, share-most, saturation-low, charge-most, good-within, good-allowed}
 
 -- a walk over the first n numbers of a column
 module _ (n i : ℕ) (column : List ℕ) (long : n ≤ length column) where
@@ -38,19 +33,6 @@ module _ (n i : ℕ) (column : List ℕ) (long : n ≤ length column) where
 
   pub column_end : length (take n column) ≤ i → i ≤ length (take n column) → i ≡ n
   column_end h g = omega (arith, length-take-le n column long)
-
--- a column with one number set
-pub at-most-set : (most i v : ℕ) (column : List ℕ) → i < length column → v ≤ most → AllAtMost most column → AllAtMost most (set column i v)
-at-most-set most i v column l h all j =
-    by-eq j i
-    (λ q. rw q (rw (get_or-set_same column i v 0 l) h))
-    (λ d. rw (get_or-set_other column i j v 0 d) (all j))
-
-pub none-at-most : (most : ℕ) → AllAtMost most (replicate most_tasks 0)
-none-at-most most i =
-    by_le (suc i) most_tasks
-    (λ l. omega (arith, get_or-replicate {A = ℕ} most_tasks i 0 0 l))
-    (λ l. omega (arith, get_or_past {X = ℕ} (replicate most_tasks 0) i 0 (omega (arith, length-replicate {A = ℕ} most_tasks 0))))
 
 -- six columns with a spring set
 module _ (largest least elasticity saturation cost tmin : List ℕ) (i : ℕ) (s : Spring) where
@@ -82,12 +64,6 @@ module _ (largest least elasticity saturation cost tmin : List ℕ) (i : ℕ) (s
           get_or-set_same tmin i s.tmin 0 f,
         )
 
-    pub allowed-more : (q : ℕ) → Allowed q s → AllAllowed q largest least elasticity saturation cost tmin i → (j : ℕ) → j < i + 1 → Allowed q (over-set j)
-    allowed-more q h all j l =
-        by-eq j i
-        (λ p. rw (p, set_here) h)
-        (λ p. rw (set_there j p) (all j (omega (arith, p))))
-
 -- nothing but loads has moved
 pub beside_same : (s : Springs) → Beside s s
 beside_same s =
@@ -110,6 +86,22 @@ pub springs-beside : (old new : Springs) → Beside old new → spring_in new �
 unfolding spring_in
 springs-beside old new b = fun_ext (λ i. rw (b.largest, b.least, b.elasticity, b.saturation, b.cost, b.tmin))
 
+-- and what is said of them still holds
+module _ (old new : Springs) (b : Beside old new) where
+  pub springy-beside : Springy old → Springy new
+  springy-beside w i l = rw (springs-beside old new b) (w i (omega (arith, b.count)))
+
+  pub chargeable-beside : (q : ℕ) → Chargeable q old → Chargeable q new
+  chargeable-beside q w i l = rw (springs-beside old new b) (w i (omega (arith, b.count)))
+
+  -- on their own notch too
+  pub still-chargeable : Chargeable old.notch old → Chargeable new.notch new
+  still-chargeable w i l = subst (λ (q : ℕ). Allowed q (spring_in new i)) (sym b.notch) (chargeable-beside old.notch w i l)
+
+-- what may be charged is within its limits
+pub charged-springy : (q : ℕ) (s : Springs) → Chargeable q s → Springy s
+charged-springy q s w i l = (w i l).within
+
 -- a walk that writes loads: it has come to task i, and their sum is at hand
 pub record Walked (load : ℕ → ℕ) (i : ℕ) (old now : Springs) (sum : ℕ) : Type 0 where
   pub within : i ≤ old.n
@@ -124,11 +116,10 @@ walked-none load s =
       added = added_none load scale;
     }
 
-pub walked-more : (load : ℕ → ℕ) (i v sum : ℕ) (old now : Springs) (few : now.n ≤ most_tasks) (low : AllAtMost scale (set now.loads i v))
-    (allowed : AllAllowed now.notch now.largest now.least now.elasticity now.saturation now.cost now.tmin now.n) → Walked load i old now sum
+pub walked-more : (load : ℕ → ℕ) (i v sum : ℕ) (old now : Springs) (few : now.n ≤ most_tasks) → Walked load i old now sum
     → i < old.n → i < length old.loads → v ≡ load i → v ≤ scale
-    → Walked load (i + 1) old (record now { loads = set now.loads i v; few = few; low = low; allowed = allowed }) (sum + v)
-walked-more load i v sum old now few low allowed w l in_loads e most =
+    → Walked load (i + 1) old (record now { loads = set now.loads i v; few = few }) (sum + v)
+walked-more load i v sum old now few w l in_loads e most =
     let b = w.loaded.beside in
     record {
       within = omega arith;
@@ -192,16 +183,16 @@ pub sprung-beside : (rows : List Task) (n : ℕ) (old new : Springs) → Beside 
 sprung-beside rows n old new b w = record { count = b.count ∙ w.count; springs = λ i l. rw (springs-beside old new b) (w.springs i l) }
 
 -- up to the first record that is not good, or all of them
-module _ (w : ℕ) (rows : List Task) (n i : ℕ) (old now : Springs) (same : now.notch ≡ old.notch) (sprung : Sprung (priced_rows w rows n) i now)
-    (first : i ≡ first_bad w old.notch rows n) where
-  pub taken-until : i < n → TakenIn w rows n (Err i) old now
+module _ (w q : ℕ) (rows : List Task) (n i : ℕ) (now : Springs) (same : now.notch ≡ q) (sprung : Sprung (priced_rows w rows n) i now)
+    (first : i ≡ first_bad w q rows n) where
+  pub taken-until : i < n → TakenIn w q rows n (Err i) now
   taken-until l =
-      let taken : TakenIn w rows n (found_bad i n) old now = rw first (record { is = refl; notch = same; sprung = rw first at sprung }) in
+      let taken : TakenIn w q rows n (found_bad i n) now = rw first (record { is = refl; notch = same; sprung = rw first at sprung }) in
       rw (lt-ltb i n l) at taken
 
-  pub taken-all : i ≡ n → TakenIn w rows n (Ok tt) old now
+  pub taken-all : i ≡ n → TakenIn w q rows n (Ok tt) now
   taken-all e =
-      let taken : TakenIn w rows n (found_bad i n) old now = rw first (record { is = refl; notch = same; sprung = rw first at sprung }) in
+      let taken : TakenIn w q rows n (found_bad i n) now = rw first (record { is = refl; notch = same; sprung = rw first at sprung }) in
       rw (le-ltb i n (omega arith)) at taken
 
 -- the springs of a table
@@ -221,18 +212,29 @@ module _ (rows : List Task) (n : ℕ) (s : Springs) (w : Sprung rows n s) where
   unfolding periods_at period_at
   periods-are q k = list-cong (periods_on q (spring_in s) k) (λ i. period_at q (at rows i) k) n (λ i l. rw (w.springs i l, share-on (at rows i) k))
 
+  module _ (good : (i : ℕ) → i < n → Good (at rows i)) where
+    pub sprung-springy : Springy s
+    sprung-springy i l =
+        let h : i < n = omega (arith, w.count) in
+        rw (w.springs i h) (good-within (at rows i) (good i h))
+
+    pub sprung-chargeable : (q : ℕ) → ((i : ℕ) → i < n → OnNotch q (at rows i)) → Chargeable q s
+    sprung-chargeable q on i l =
+        let h : i < n = omega (arith, w.count) in
+        rw (w.springs i h) (good-allowed (at rows i) (good i h) q (on i h))
+
 -- no load is above S
-pub loads-most : (settings : Settings) (s : Springs) → settings.notch ≡ s.notch → (k i : ℕ) → i < s.n → loads_on settings (spring_in s) k i ≤ scale
-loads-most settings s same k i l =
-    let a = allowed-in s i l in
+pub loads-most : (settings : Settings) (s : Springs) → Chargeable settings.notch s → (k i : ℕ) → i < s.n → loads_on settings (spring_in s) k i ≤ scale
+loads-most settings s w k i l =
+    let a = w i l in
     by_bool (tests_charge settings)
-    (λ e. rw (e, same) (charge-most s.notch (spring_in s i) a k))
+    (λ e. rw e (charge-most settings.notch (spring_in s i) a k))
     (λ e. rw e (share-most (spring_in s i) a.within k))
 
 -- document 01: "K is never above 999,999"
-pub full-low : (s : Springs) → full_in s s.n ≤ 999999
-full-low s =
-    max-to-le (λ i. (spring_in s i).saturation) s.n 999999 (λ i l. let a = allowed-in s i l in saturation-low (spring_in s i) a.within a.some)
+pub full-low : (q : ℕ) (s : Springs) → Chargeable q s → full_in s s.n ≤ 999999
+full-low q s w =
+    max-to-le (λ i. (spring_in s i).saturation) s.n 999999 (λ i l. let a = w i l in saturation-low (spring_in s i) a.within a.some)
 
 -- what taking in comes to
 found-all : (r n : ℕ) → found_bad r n ≡ Ok tt → n ≤ r
@@ -244,21 +246,21 @@ found-one r n i e =
     (λ h. let all = rw (le-ltb r n h) at e in absurd cc)
     (λ h. let bad = rw (lt-ltb r n h) at e in (cc, h))
 
-module _ (w q : ℕ) (rows : List Task) (n : ℕ) (r : Result (Unit {0}) ℕ) (old now : Springs) (notch : old.notch ≡ q) (t : TakenIn w rows n r old now) where
+module _ (w q : ℕ) (rows : List Task) (n : ℕ) (r : Result (Unit {0}) ℕ) (now : Springs) (t : TakenIn w q rows n r now) where
   -- all of the records are good, and the springs are theirs
   pub taken-good : r ≡ Ok tt → (n ≤ first_bad w q rows n) × Sprung (priced_rows w rows n) n now
   taken-good e =
-      let all : n ≤ first_bad w old.notch rows n = found-all _ n (sym t.is ∙ e) in
-      let end : first_bad w old.notch rows n ≡ n = omega (arith, (first-bad-is w old.notch rows n).last) in
-      (rw notch at all, rw end at t.sprung)
+      let all : n ≤ first_bad w q rows n = found-all _ n (sym t.is ∙ e) in
+      let end : first_bad w q rows n ≡ n = omega (arith, (first-bad-is w q rows n).last, all) in
+      (all, rw end at t.sprung)
 
   -- or one is not
   pub taken-bad : (i : ℕ) → r ≡ Err i → (i ≡ first_bad w q rows n) × (i < n)
   taken-bad i e =
-      let one = found-one (first_bad w old.notch rows n) n i (sym t.is ∙ e) in
-      (rw notch at one.0, omega (arith, one.0, one.1))
+      let one = found-one (first_bad w q rows n) n i (sym t.is ∙ e) in
+      (one.0, omega (arith, one.0, one.1))
 
 -- the saturation step that stands in the column
-pub saturation-in : (s : Springs) (i : ℕ) → i < s.n → get_or s.saturation i 0 ≡ saturation_on (spring_in s i)
+pub saturation-in : (s : Springs) → Springy s → (i : ℕ) → i < s.n → get_or s.saturation i 0 ≡ saturation_on (spring_in s i)
 unfolding spring_in
-saturation-in s i l = (allowed-in s i l).within.saturated
+saturation-in s w i l = (w i l).saturated

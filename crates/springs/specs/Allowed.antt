@@ -1,4 +1,4 @@
--- Springs within their limits, and columns of them.
+-- Springs within their limits, and springs that are allowed periods.
 -- Assumes nothing.
 use Rattle.std.specs.Prelude.{ℕ, ◌≤◌, ◌<◌, List, ◌≡◌, get_or}
 use Rattle.kinds.specs.Limits.{scale, greatest_elasticity, longest_period}
@@ -34,11 +34,10 @@ spring_over largest least elasticity saturation cost tmin i =
       tmin = get_or tmin i 0;
     }
 
--- the first n springs of six columns are allowed periods
-abbrev pub AllAllowed : (q : ℕ) (largest least elasticity saturation cost tmin : List ℕ) → ℕ → Type 0
-AllAllowed q largest least elasticity saturation cost tmin n =
-    (i : ℕ) → i < n → Allowed q (spring_over largest least elasticity saturation cost tmin i)
+-- the first n springs are within their limits
+abbrev pub AllWithin : (ℕ → Spring) → ℕ → Type 0
+AllWithin springs n = (i : ℕ) → i < n → Within (springs i)
 
--- no number of a column is above a bound
-abbrev pub AllAtMost : ℕ → List ℕ → Type 0
-AllAtMost most column = (i : ℕ) → get_or column i 0 ≤ most
+-- the first n springs are allowed periods
+abbrev pub AllAllowed : ℕ → (ℕ → Spring) → ℕ → Type 0
+AllAllowed q springs n = (i : ℕ) → i < n → Allowed q (springs i)

@@ -10,7 +10,16 @@ use Rattle.share.specs.Table.{first_bad, priced_rows}
 use Rattle.springs.specs.declared.Spring.{Spring}
 use Rattle.springs.specs.declared.Springs.{Springs}
 use Rattle.springs.specs.Spring.{spring_of, shares_on}
+use Rattle.springs.specs.Allowed.{AllWithin, AllAllowed}
 use Rattle.springs.specs.Springs.{spring_in}
+
+-- the springs are within their limits
+abbrev pub Springy : Springs → Type 0
+Springy s = AllWithin (spring_in s) s.n
+
+-- or even allowed periods on a notch
+abbrev pub Chargeable : ℕ → Springs → Type 0
+Chargeable q s = AllAllowed q (spring_in s) s.n
 
 -- the sum of the shares at step k
 abbrev pub SumIs : (ℕ → Spring) → ℕ → ℕ → ℕ → Type 0
@@ -61,7 +70,7 @@ abbrev pub found_bad : ℕ → ℕ → Result (Unit {0}) ℕ
 found_bad r n = pick (ltb r n) (Err r) (Ok tt)
 
 -- the springs of n records are taken in, or of those before the first that is not good
-pub record TakenIn (w : ℕ) (rows : List Task) (n : ℕ) (r : Result (Unit {0}) ℕ) (old new : Springs) : Type 0 where
-  pub is : r ≡ found_bad (first_bad w old.notch rows n) n
-  pub notch : new.notch ≡ old.notch
-  pub sprung : Sprung (priced_rows w rows n) (first_bad w old.notch rows n) new
+pub record TakenIn (w q : ℕ) (rows : List Task) (n : ℕ) (r : Result (Unit {0}) ℕ) (s : Springs) : Type 0 where
+  pub is : r ≡ found_bad (first_bad w q rows n) n
+  pub notch : s.notch ≡ q
+  pub sprung : Sprung (priced_rows w rows n) (first_bad w q rows n) s

@@ -6,7 +6,7 @@ ghost use Rattle.std.specs.Prelude.{◌≡◌, ◌≤◌, ◌<◌};
 ghost use Rattle.kinds.specs.Limits.{scale, longest_period, most_tasks};
 ghost use Rattle.kinds.specs.Task.{Good};
 ghost use Rattle.springs.specs.Spring.{spring_of, share_on, period_for, charge_for};
-ghost use Rattle.springs.specs.Allowed.{Within, Allowed, AllAllowed, AllAtMost};
+ghost use Rattle.springs.specs.Allowed.{Within, Allowed};
 
 use kinds::{Settings, Table, Task};
 
@@ -86,8 +86,9 @@ impl Spring {
 }
 
 // The springs of n tasks on a notch, and the loads of a step: the shares, or the charges. Columns beside one another, and not a struct for each
-// task, are what makes a walk fast: it takes several tasks at a time.
-#[derive(Drop)]
+// task, are what makes a walk fast: it takes several tasks at a time. That they are within their limits (`Springy`) or allowed periods
+// (`Chargeable`) is no ghost field: each call asks for what it needs, and some need neither.
+#[derive(Clone, Copy)]
 pub struct Springs {
     pub loads: [u32; Table::MOST_TASKS],
     pub largest: [u32; Table::MOST_TASKS],
@@ -99,15 +100,13 @@ pub struct Springs {
     pub n: usize,
     pub notch: u16,
     pub ghost few: { n ≤ most_tasks },
-    pub ghost low: { AllAtMost scale loads },
-    pub ghost allowed: { AllAllowed notch largest least elasticity saturation cost tmin n },
 }
 
 impl Springs {
     ghost use Rattle.std.specs.Prelude.{ℕ, get_or};
     ghost use Rattle.springs.specs.Spring.{let_down, shares_on, periods_on, charges_on, loads_on};
     ghost use Rattle.springs.specs.Springs.{spring_in, full_in};
-    ghost use Rattle.springs.specs.Handover.{Empty, Loaded, Summed, Put, TakenIn};
+    ghost use Rattle.springs.specs.Handover.{Springy, Chargeable, Empty, Loaded, Summed, Put, TakenIn};
 
     // No springs yet.
     pub fn new(notch: u16) -> Springs
@@ -144,7 +143,7 @@ impl Springs {
 
     // One spring more.
     fn push(&mut self, spring: Spring)
-        requires { (self.old.n < most_tasks) × Allowed self.old.notch spring }
+        requires { self.old.n < most_tasks }
         ensures { Put spring self.old self.new }
     {
         let i = self.n;
@@ -157,13 +156,16 @@ impl Springs {
         self.n = i + 1;
     }
 
-    // Takes in the springs of a table where a swap costs so much, up to the first record that is not good there, whose number is the error.
-    pub fn take_in(&mut self, table: Table, swap: u16) -> Result<(), usize>
-        requires { (self.old.n ≡ 0) × (table.n ≤ most_tasks) × (1 ≤ self.old.notch) }
-        ensures { TakenIn swap table.rows table.n result self.old self.new }
+    // Takes in the springs of a table where a swap costs so much and a notch is so wide, in the place of those that stood here, up to the first
+    // record that is not good there, whose number is the error.
+    pub fn take_in(&mut self, table: Table, swap: u16, notch: u16) -> Result<(), usize>
+        requires { (table.n ≤ most_tasks) × (1 ≤ notch) }
+        ensures { TakenIn swap notch table.rows table.n result self.new }
     {
+        self.n = 0;
+        self.notch = notch;
         for (i, task) in table.rows[..table.n].iter().enumerate() {
-            if !task.good(swap, self.notch) {
+            if !task.good(swap, notch) {
                 return Err(i);
             }
             let spring = Spring::of(task.priced(swap));
@@ -174,6 +176,7 @@ impl Springs {
 
     // Writes the shares of step k, and returns their sum. 32 bits hold it, and are twice as fast as 64.
     pub fn share_sum(&mut self, k: u32) -> u64
+        requires { Springy self.old }
         ensures { Summed (shares_on (spring_in self.old) k) self.old self.new result }
     {
         let mut sum: u32 = 0;
@@ -188,6 +191,7 @@ impl Springs {
 
     // Lets the shares of a step down to those of the next, and returns their sum.
     pub fn let_down(&mut self) -> u64
+        requires { Springy self.old × ((i : ℕ) → i < self.old.n → get_or self.old.loads i 0 ≤ scale) }
         ensures { Summed (λ (i : ℕ). let_down (spring_in self.old i) (get_or self.old.loads i 0))
             self.old self.new result }
     {
@@ -201,27 +205,36 @@ impl Springs {
         u64::from(sum)
     }
 
-    // Writes the charges of step k, and returns their sum.
-    pub fn charge_sum(&mut self, k: u32) -> u64
-        ensures { Summed (charges_on self.old.notch (spring_in self.old) k) self.old self.new result }
+    // Writes the charges of step k on a notch, and returns their sum.
+    fn charges(&mut self, notch: u16, k: u32) -> u64
+        requires { Chargeable notch self.old }
+        ensures { Summed (charges_on notch (spring_in self.old) k) self.old self.new result }
     {
         let mut sum: u32 = 0;
         // Over the numbers: a task's own stand in several columns, and its load is written to another.
         for i in 0..self.n {
-            let charge = self.spring(i).charge(self.notch, k);
+            let charge = self.spring(i).charge(notch, k);
             self.loads[i] = charge;
             sum += charge;
         }
         u64::from(sum)
     }
 
+    // The same on the notch of the springs.
+    pub fn charge_sum(&mut self, k: u32) -> u64
+        requires { Chargeable self.old.notch self.old }
+        ensures { Summed (charges_on self.old.notch (spring_in self.old) k) self.old self.new result }
+    {
+        self.charges(self.notch, k)
+    }
+
     // Writes what the settings' edition tests and places at step k: the charges under edition 2, else the shares.
     pub fn load(&mut self, settings: Settings, k: u32)
-        requires { settings.notch ≡ self.old.notch }
+        requires { Chargeable settings.notch self.old }
         ensures { Loaded (loads_on settings (spring_in self.old) k) self.old.n self.old self.new }
     {
         if settings.tests_charge() {
-            self.charge_sum(k);
+            self.charges(settings.notch, k);
         } else {
             self.share_sum(k);
         }
@@ -229,7 +242,7 @@ impl Springs {
 
     // The period of task i at step k.
     pub fn period(&self, i: usize, k: u32) -> u32
-        requires { i < self.now.n }
+        requires { (i < self.now.n) × Allowed self.now.notch (spring_in self.now i) }
         ensures { result ≡ periods_on self.now.notch (spring_in self.now) k i }
     {
         self.spring(i).period(self.notch, k)

@@ -1,6 +1,6 @@
 -- `admission::admit` meets its contract. Assumes nothing.
 use Rattle.ground.proofs.Kit.{◌≡◌, sym, ◌∙◌, rules, Err}
-use Rattle.admission.proofs.Opened.{may-walk, admitted-sprung, bad-sprung, by-record, refused-sprung}
+use Rattle.admission.proofs.Opened.{may-walk, admitted-sprung, refused-sprung}
 use Rattle.admission.proofs.admit.Goals as goal
 
 pub returns-in_err-gate_of : goal.returns-in_err-gate_of
@@ -11,12 +11,10 @@ returns-in_err-gate_of c =
 pub take_in-requires : goal.take_in-requires
 take_in-requires c =
     let args = c.args in
-    let walk = may-walk args.serves args.settings args.table.n args.room c.gate_of.ensures c.in_ok-gate_of.was in
-    (c.requires.count, walk.0, rw c.requires.notch walk.1)
+    let walk = may-walk args.serves args.settings args.table.now.n args.room c.gate_of.ensures c.in_ok-gate_of.was in
+    walk
 
 pub returns : goal.returns
 returns c =
     let opens = sym c.gate_of.ensures ∙ c.in_ok-gate_of.was in
-    by-record c.take_in.result c.map_err.result c.map_err.ensures.cases
-    (λ e a. rw a (admitted-sprung _ _ _ _ _ _ _ _ c.requires.notch opens c.take_in.ensures e))
-    (λ i e a. rw a (bad-sprung _ _ _ _ _ _ _ _ c.requires.notch opens c.take_in.ensures i e))
+    admitted-sprung _ _ _ _ _ _ _ opens c.take_in.ensures _ c.map_err.ensures.cases

@@ -13,7 +13,7 @@ least : (c : After-needed-more) → let args = c.args in
     (more < args.q - args.p → args.p + more ≡ step) × (args.q - args.p ≤ more → args.q ≡ step)
 least c =
     let springs = spring_in c.args.springs.now in
-    divided-worked-out _ springs _ _ _ _ _ _ c.requires.1.above c.requires.2.is c.slope_sum-fall.ensures.is c.needed-more.ensures
+    divided-worked-out _ springs _ _ _ _ _ _ c.requires.2.above c.requires.3.is c.slope_sum-fall.ensures.is c.needed-more.ensures
 
 pub invariant_of-stretch : goal.invariant_of-stretch
 invariant_of-stretch c =
@@ -21,8 +21,8 @@ invariant_of-stretch c =
     let falls = c.slope_sum-fall.ensures in
     record {
       light = c.requires.0;
-      sum_most = omega (arith, c.requires.2.most, s.few);
-      fall_some = omega (arith, falls.is, something-falls (spring_in s) _ _ _ c.requires.1);
+      sum_most = omega (arith, c.requires.3.most, s.few);
+      fall_some = omega (arith, falls.is, something-falls (spring_in s) _ _ _ c.requires.2);
       fall_most = omega (arith, falls.most, s.few);
     }
 

@@ -15,7 +15,7 @@ loop-step-preserved c =
     let s = c.args.springs.now in
     let i = c.loop-step.step-index in
     let read = column_read s.n i s.saturation (omega arith) c.loop-step-test.true in
-    let nearest = ap₂ (nearer c.args.p) c.loop-step.invariant (read.1 ∙ saturation-in s i read.0) in
+    let nearest = ap₂ (nearer c.args.p) c.loop-step.invariant (read.1 ∙ saturation-in s c.requires i read.0) in
     c.nearer_of-nearest.ensures ∙ (nearest ∙ sym (next_more (saturations (spring_in s)) c.args.p i))
 
 pub returns : goal.returns

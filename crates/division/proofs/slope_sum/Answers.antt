@@ -3,7 +3,6 @@ use Rattle.ground.proofs.Kit.{◌≤◌, ◌≡◌, ◌∙◌, arith}
 use Rattle.ground.proofs.Folds.{added_none, added_more}
 use Rattle.kinds.specs.Limits.{greatest_elasticity}
 use Rattle.springs.specs.Springs.{spring_in}
-use Rattle.springs.proofs.Columns.{allowed-in}
 use Rattle.division.specs.Division.{slope}
 use Rattle.division.proofs.slope_sum.Goals as goal
 use Rattle.division.proofs.slope_sum.Goals.{After-from-fall}
@@ -20,7 +19,7 @@ pub loop-i-init : goal.loop-i-init
 loop-i-init c = added_none _ _
 
 pub slope_of-requires : goal.slope_of-requires
-slope_of-requires c = rw c.spring.ensures ((allowed-in c.args.springs.now c.loop-i.i (omega arith)).within)
+slope_of-requires c = rw c.spring.ensures (c.requires c.loop-i.i (omega arith))
 
 pub overflow_add-fall : goal.overflow_add-fall
 overflow_add-fall c = omega (arith, (sloped c).1, c.loop-i.invariant.most)

@@ -4,7 +4,7 @@ use Rattle.ground.proofs.Kit.{ℕ, ◌≤◌, Bool, ◌≡◌, ◌∙◌, ap, ar
 use Rattle.ground.proofs.Halving.{counted-all}
 use Rattle.springs.specs.Springs.{spring_in}
 use Rattle.springs.specs.declared.Springs.{Springs}
-use Rattle.springs.proofs.Columns.{beside_same, beside-more, full-low}
+use Rattle.springs.proofs.Columns.{beside_same, beside-more, still-chargeable, full-low}
 use Rattle.policy.specs.declared.Weights.{Weights}
 use Rattle.policy.specs.Weighed.{charged_at}
 use Rattle.halve.specs.Halves.{half}
@@ -18,7 +18,7 @@ test w s = charged_at w s.notch (spring_in s) s.n
 
 -- full compression is low
 low : (c : After-full_compression-full) → c.full_compression-full.result ≤ 999999
-low c = omega (arith, c.full_compression-full.ensures, full-low c.args.springs.now)
+low c = omega (arith, c.full_compression-full.ensures, full-low c.args.springs.now.notch c.args.springs.now c.requires.1)
 
 -- a look tests the springs as they came
 halved : (c : After-look-range) → c.look-range.result ≡ half (test c.args.w c.args.springs.now) c.loop-range.range
@@ -34,7 +34,8 @@ loop-range-init c = (counted-all (test c.args.w c.args.springs.now) _, beside_sa
 pub look-range-requires : goal.look-range-requires
 look-range-requires c =
     let going = c.loop-range.invariant.0 in (
-      c.requires,
+      c.requires.0,
+      still-chargeable _ _ c.loop-range.invariant.1 c.requires.1,
       c.loop-range-test.true,
       omega (arith, going.halved.last, low c.before.before.before.before),
       going-few (test c.args.w c.args.springs.now) _ c.loop-range.range (low c.before.before.before.before) going,
@@ -42,7 +43,7 @@ look-range-requires c =
 
 pub loop-range-preserved : goal.loop-range-preserved
 loop-range-preserved c =
-    let rising = charged-rising c.args.w c.args.springs.now in (
+    let rising = charged-rising c.args.w c.args.springs.now c.requires.1 in (
       rw (halved c) (going_on (test c.args.w c.args.springs.now) c.loop-range.range c.loop-range-test.true _ rising c.loop-range.invariant.0),
       beside-more _ _ _ c.loop-range.invariant.1 c.look-range.ensures.1,
     )

@@ -1,11 +1,12 @@
 -- `margin::margin_at` meets its contract. Assumes nothing.
 use Rattle.ground.proofs.Kit.{ℕ, ◌<◌, false, ◌≡◌, sym, ◌∙◌, ap, arith, rules, Err}
 use Rattle.kinds.specs.Answer.{accepted}
-use Rattle.springs.proofs.Columns.{loads-are}
+use Rattle.springs.proofs.Columns.{loads-are, loads-most}
 use Rattle.fit.specs.Fit.{load_in}
 use Rattle.policy.specs.Sides.{margin_of}
 use Rattle.policy.specs.Under.{loads_under}
 use Rattle.policy.proofs.Tests.{margin-same}
+use Rattle.policy.proofs.Weighing.{loaded-loads}
 use Rattle.admission.proofs.Chain.{passed-weighed}
 use Rattle.admission.proofs.Opened.{opened}
 use Rattle.margin.specs.Margin.{margin_handed}
@@ -18,7 +19,7 @@ returns-in_err-admit c =
     rw (e, ← c.admit.ensures.is, c.in_err-admit.was)
 
 pub load-requires : goal.load-requires
-load-requires c = sym c.admit.ensures.notch
+load-requires c = (opened false _ _ _ _ _ _ c.admit.ensures c.in_ok-admit.was).chargeable
 
 pub invariant_of-test : goal.invariant_of-test
 invariant_of-test c =
@@ -27,8 +28,10 @@ invariant_of-test c =
 
 pub margin-requires : goal.margin-requires
 margin-requires c =
-    let passed = (opened false _ _ _ _ _ _ c.admit.ensures c.in_ok-admit.was).ready.passed in
-    rw c.meant.ensures (passed-weighed _ _ _ _ passed)
+    let begun = opened false _ _ _ _ _ _ c.admit.ensures c.in_ok-admit.was in (
+      loaded-loads _ _ _ (loads-most c.args.settings _ begun.chargeable c.args.step) c.load.ensures,
+      rw c.meant.ensures (passed-weighed _ _ _ _ begun.ready.passed),
+    )
 
 pub returns : goal.returns
 unfolding margin_handed

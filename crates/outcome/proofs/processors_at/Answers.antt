@@ -6,17 +6,18 @@ use Rattle.fit.specs.Handover.{FitIs}
 use Rattle.springs.specs.Spring.{loads_on}
 use Rattle.springs.specs.Springs.{spring_in}
 use Rattle.policy.proofs.Tests.{passes_same}
-use Rattle.policy.proofs.Weighing.{springs-loads}
+use Rattle.springs.proofs.Columns.{loads-most}
+use Rattle.policy.proofs.Weighing.{loaded-loads}
 use Rattle.outcome.proofs.Processors.{trial-processors, any-processors, processors-same}
 use Rattle.outcome.proofs.processors_at.Goals as goal
 
 pub load-requires : goal.load-requires
-load-requires c = sym c.requires.notch
+load-requires c = c.requires.chargeable
 
 pub first_fit-trial-requires : goal.first_fit-trial-requires
 first_fit-trial-requires c =
     let s = c.load.new.self in
-    (springs-loads s, omega (arith, s.few, c.load.ensures.long), c.requires.m-most)
+    (loaded-loads _ c.args.springs.now s (loads-most c.args.settings c.args.springs.now c.requires.chargeable c.args.k) c.load.ensures, omega (arith, s.few, c.load.ensures.long), c.requires.m-most)
 
 pub returns-then-is_first_fit : goal.returns-then-is_first_fit
 returns-then-is_first_fit c =

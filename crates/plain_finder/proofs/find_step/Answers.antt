@@ -16,5 +16,5 @@ pub returns : goal.returns
 returns c =
     let args = c.args in
     let searched = c.least_step.ensures in
-    let step = step-found args.settings args.table.rows args.table.n _ _ (c.admit.ensures.sprung c.in_ok-admit.was) _ searched in
+    let step = step-found args.settings args.table.now.rows args.table.now.n _ _ (c.admit.ensures.sprung c.in_ok-admit.was) _ searched in
     found-sprung true _ _ _ _ _ _ c.admit.ensures c.in_ok-admit.was _ searched.beside _ step _ c.ok_or.ensures.value

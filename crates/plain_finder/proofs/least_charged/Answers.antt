@@ -6,7 +6,7 @@ use Rattle.springs.specs.Spring.{charges_on}
 use Rattle.springs.specs.Springs.{spring_in}
 use Rattle.springs.specs.declared.Springs.{Springs}
 use Rattle.springs.specs.Handover.{Beside}
-use Rattle.springs.proofs.Columns.{beside-more}
+use Rattle.springs.proofs.Columns.{beside-more, still-chargeable}
 use Rattle.policy.specs.declared.Test.{Test}
 use Rattle.policy.specs.Passing.{passes_at, least_step}
 use Rattle.plain_finder.proofs.Stepping.{test-beside}
@@ -35,6 +35,9 @@ failed : (c : Else-passes_charged) → (j : ℕ) → j < c.loop-step.step + 1 �
 failed c =
     first_more (test c.args.test c.args.springs.now) 0 _ c.loop-step.invariant.1
     (sym (tested c.before) ∙ c.if-passes_charged.false)
+
+pub passes_charged-requires : goal.passes_charged-requires
+passes_charged-requires c = still-chargeable _ _ c.loop-step.invariant.0 c.requires
 
 pub returns-then-passes_charged : goal.returns-then-passes_charged
 unfolding least_step

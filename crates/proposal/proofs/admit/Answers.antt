@@ -1,6 +1,6 @@
 -- `proposal::admit` meets its contract. Assumes nothing.
 use Rattle.ground.proofs.Kit.{◌≡◌, sym, ◌∙◌, rules, Err}
-use Rattle.proposal.proofs.Admitting.{gate-passed, refused-loaded, err-loaded, well-loaded}
+use Rattle.proposal.proofs.Admitting.{gate-passed, refused-loaded, err-loaded, may-charge, well-loaded}
 use Rattle.proposal.proofs.admit.Goals as goal
 
 pub returns-in_err-gate_of : goal.returns-in_err-gate_of
@@ -12,19 +12,22 @@ pub take_in-requires : goal.take_in-requires
 take_in-requires c =
     let args = c.args in
     let passed = gate-passed args.settings args.table.n args.proposed args.room (sym c.gate_of.ensures ∙ c.in_ok-gate_of.was) in
-    (c.requires.count, passed.few.few, rw c.requires.notch passed.notched)
+    (passed.few.few, passed.notched)
 
 pub returns-in_err-map_err : goal.returns-in_err-map_err
 returns-in_err-map_err c =
     let e : c.from_residual-in_err-map_err.result ≡ Err c.in_err-map_err.field-0.0 = search rules in
     rw e
-    (err-loaded _ _ _ _ _ _ c.gate_of.ensures c.in_ok-gate_of.was c.take_in.result _ _ c.requires.notch c.take_in.ensures c.map_err.result
+    (err-loaded _ _ _ _ _ _ c.gate_of.ensures c.in_ok-gate_of.was c.take_in.result _ c.take_in.ensures c.map_err.result
     c.map_err.ensures.cases _ c.in_err-map_err.was _ _)
 
 pub load-requires : goal.load-requires
-load-requires c = sym (c.take_in.ensures.notch ∙ c.requires.notch)
+load-requires c =
+    let args = c.args in
+    may-charge args.settings args.table.rows args.table.n args.proposed args.room _ c.gate_of.ensures c.in_ok-gate_of.was c.take_in.result _ c.take_in.ensures c.map_err.result
+    c.map_err.ensures.cases c.in_ok-map_err.was
 
 pub returns : goal.returns
 returns c =
-    well-loaded _ _ _ _ _ _ c.gate_of.ensures c.in_ok-gate_of.was c.take_in.result _ _ c.requires.notch c.take_in.ensures c.map_err.result
+    well-loaded _ _ _ _ _ _ c.gate_of.ensures c.in_ok-gate_of.was c.take_in.result _ c.take_in.ensures c.map_err.result
     c.map_err.ensures.cases c.in_ok-map_err.was _ _ c.load.ensures

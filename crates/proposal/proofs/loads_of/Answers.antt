@@ -40,7 +40,7 @@ overflow_add-held c =
       range.most,
       c.from.ensures,
       c.args.springs.now.few,
-      c.args.springs.now.low (length c.loop-load.yielded),
+      c.requires.light.most _ t.below,
       c.loop-load.invariant.most (c.from.result - 1) (omega (arith, range.some, range.most, t.place_is, c.from.ensures)),
     )
 
@@ -48,7 +48,7 @@ pub loop-load-preserved : goal.loop-load-preserved
 loop-load-preserved c =
     let t = loaded c in
     let range = c.requires.each _ t.below in
-    let light = c.args.springs.now.low (length c.loop-load.yielded) in
+    let light = c.requires.light.most _ t.below in
     let more = length-append c.loop-load.yielded ((c.in-Some.field-0-0, c.in-Some.field-0-1) ∷ []) in
     rw more
     (loading-more (load_in c.args.springs.now.loads) (place_in c.args.proposal.now) _ _ _ c.loop-load.invariant _ _ t.load_is (omega (arith, light, t.load_is))

@@ -7,8 +7,8 @@ pub returns : goal.returns
 returns c =
     let total = c.at-total.ensures in (
       record {
-        step = c.requires.2;
-        due = c.requires.3;
+        step = c.requires.3;
+        due = c.requires.4;
         from = refl;
         tested = c.hold-passed.ensures ∙ weighed-worked-out _ _ _ _ _ total;
         count = refl;

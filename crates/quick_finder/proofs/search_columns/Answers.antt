@@ -6,7 +6,7 @@ use Rattle.quick_finder.proofs.Loop.{due-first, first_passes, first-fails, none-
 use Rattle.quick_finder.proofs.search_columns.Goals as goal
 
 pub look-search-requires : goal.look-search-requires
-look-search-requires c = (c.requires, omega arith, sym (due-first _ _ _ refl), λ later. absurd (omega arith))
+look-search-requires c = (c.requires.0, c.requires.1, omega arith, sym (due-first _ _ _ refl), λ later. absurd (omega arith))
 
 pub returns-then-search : goal.returns-then-search
 returns-then-search c =
@@ -22,14 +22,14 @@ pub look-search-requires-in-Some : goal.look-search-requires-in-Some
 look-search-requires-in-Some c =
     let s = c.args.springs.now in
     let due = look-due c.args.w (spring_in s) s.n _ _ c.loop-due.invariant.0 (sym c.next_due.ensures ∙ c.in-Some.is) s.few in
-    (c.requires, due.0, due.1, due.2)
+    (c.requires.0, c.requires.1, due.0, due.1, due.2)
 
 pub divide-step-requires : goal.divide-step-requires
 divide-step-requires c =
     let s = c.args.springs.now in
     let one = c.look-search-in-Some.ensures.0 in
     let next = stretch c.args.w (spring_in s) s.n _ _ c.loop-due.invariant.0 (sym c.next_due.ensures ∙ c.in-Some.is) _ one in
-    (c.requires, next, rw one.from c.loop-due.invariant.1)
+    (c.requires.0, c.requires.1, next, rw one.from c.loop-due.invariant.1)
 
 pub returns-then-search-2 : goal.returns-then-search-2
 returns-then-search-2 c =

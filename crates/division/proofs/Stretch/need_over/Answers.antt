@@ -3,7 +3,6 @@
 use Rattle.ground.proofs.Kit.{max, ◌≡◌, sym, ◌∙◌, ap₂, arith}
 use Rattle.springs.specs.Spring.{share_on}
 use Rattle.springs.specs.Springs.{spring_in}
-use Rattle.springs.proofs.Columns.{allowed-in}
 use Rattle.division.specs.Division.{slope}
 use Rattle.division.specs.Handover.{LineIs}
 use Rattle.division.proofs.Lines.{need-line}
@@ -16,7 +15,7 @@ loop-i-init c =
     record { is = need.is ∙ (need-line _ _ _ _ _ _ c.line.ensures ∙ sym (need-none _ _ _ _ _)); most = need.most }
 
 pub line_of-requires : goal.line_of-requires
-line_of-requires c = rw c.spring.ensures ((allowed-in c.args.springs.now c.loop-i.i (omega arith)).within)
+line_of-requires c = rw c.spring.ensures (c.requires c.loop-i.i (omega arith))
 
 pub loop-i-preserved : goal.loop-i-preserved
 loop-i-preserved c =

@@ -1,6 +1,7 @@
 -- `policy::Test::passes_charged` meets its contract. Assumes nothing.
 use Rattle.ground.proofs.Kit.{sym, ◌∙◌, arith}
 use Rattle.policy.proofs.Tests.{too_much, passes_same}
+use Rattle.policy.proofs.Weighing.{charges-loads}
 use Rattle.policy.proofs.Test.passes_charged.Goals as goal
 
 pub returns-then-most_sum-sum : goal.returns-then-most_sum-sum
@@ -11,6 +12,9 @@ returns-then-most_sum-sum c =
       sym (too_much test.policy test.m _ _ test.few test.served (omega (arith, c.if-most_sum-sum.true, most, summed.sum_is))),
       summed.loaded.beside,
     )
+
+pub passes-requires : goal.passes-requires
+passes-requires c = charges-loads _ _ _ _ c.requires c.charge_sum-sum.ensures.loaded
 
 pub returns : goal.returns
 returns c =

@@ -8,4 +8,4 @@ pub returns-then-most-sum : goal.returns-then-most-sum
 returns-then-most-sum c =
     let test = c.args.self in
     let s = c.args.springs.now in
-    sym (too_much test.policy test.m (load_in s.loads) s.n test.few test.served (omega (arith, c.requires.0, c.requires.1)))
+    sym (too_much test.policy test.m (load_in s.loads) s.n test.few test.served (omega (arith, c.requires.1, c.requires.2)))

@@ -1,6 +1,5 @@
 -- `policy::Total::at` meets its contract. The loop: the total of the first i shares of step k is at hand; n − i falls. Assumes nothing.
 use Rattle.ground.proofs.Kit.{◌≡◌, arith}
-use Rattle.springs.proofs.Columns.{allowed-in}
 use Rattle.policy.proofs.Totals.{total-none, total-more}
 use Rattle.policy.proofs.Total.at.Goals as goal
 
@@ -8,7 +7,7 @@ pub loop-i-init : goal.loop-i-init
 loop-i-init c = total-none _
 
 pub share-share-requires : goal.share-share-requires
-share-share-requires c = rw c.spring.ensures ((allowed-in c.args.springs.now c.loop-i.i (omega arith)).within)
+share-share-requires c = rw c.spring.ensures (c.requires c.loop-i.i (omega arith))
 
 pub overflow_add-sum : goal.overflow_add-sum
 overflow_add-sum c = omega (arith, c.share-share.ensures.1, c.loop-i.invariant.added.most)

@@ -13,14 +13,14 @@ overflow_add-sum c =
     let s = c.args.springs.now in
     let i = c.loop-load.load-index in
     let read = column_read s.n i s.loads (omega arith) c.loop-load-test.true in
-    omega (arith, read.0, read.1, s.low i, c.loop-load.invariant.added.most)
+    omega (arith, read.0, read.1, c.requires.most i read.0, c.loop-load.invariant.added.most)
 
 pub loop-load-preserved : goal.loop-load-preserved
 loop-load-preserved c =
     let s = c.args.springs.now in
     let i = c.loop-load.load-index in
     let read = column_read s.n i s.loads (omega arith) c.loop-load-test.true in
-    total-more (load_in s.loads) _ _ _ _ _ c.loop-load.invariant read.1 (omega (arith, read.1, s.low i)) c.max-max.ensures
+    total-more (load_in s.loads) _ _ _ _ _ c.loop-load.invariant read.1 (omega (arith, read.1, c.requires.most i read.0)) c.max-max.ensures
 
 pub returns : goal.returns
 returns c =

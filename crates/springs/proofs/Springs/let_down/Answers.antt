@@ -4,7 +4,7 @@ use Rattle.ground.proofs.Kit.{ℕ, ◌≤◌, ◌≡◌, arith, get_or}
 use Rattle.kinds.specs.Limits.{scale}
 use Rattle.springs.specs.Spring.{let_down}
 use Rattle.springs.specs.Springs.{spring_in}
-use Rattle.springs.proofs.Columns.{allowed-in, at-most-set, walked-none, walked-more, walked-all}
+use Rattle.springs.proofs.Columns.{walked-none, walked-more, walked-all}
 use Rattle.springs.proofs.Springs.let_down.Goals as goal
 use Rattle.springs.proofs.Springs.let_down.Goals.{After-max-share}
 
@@ -19,19 +19,19 @@ down c =
 down-most : (c : After-max-share) → c.max-share.result ≤ scale
 down-most c =
     let s = c.args.self.now in
-    let w = (allowed-in s c.loop-i.i (omega arith)).within in
-    omega (arith, down c, s.low c.loop-i.i, w.least-largest, w.largest-most)
+    let w = c.requires.0 c.loop-i.i (omega arith) in
+    omega (arith, down c, c.requires.1 c.loop-i.i (omega arith), w.least-largest, w.largest-most)
 
 pub loop-i-init : goal.loop-i-init
 loop-i-init c = walked-none _ _
 
-pub invariant_of-self-clause-low : goal.invariant_of-self-clause-low
-invariant_of-self-clause-low c = at-most-set _ _ _ _ (omega arith) (down-most c) c.loop-i.self.low
+pub overflow_add-sum : goal.overflow_add-sum
+overflow_add-sum c = omega (arith, down-most c.before, c.loop-i.invariant.added.most, c.loop-i.self.few)
 
 pub loop-i-preserved : goal.loop-i-preserved
 loop-i-preserved c =
     let s = c.args.self.now in
-    walked-more (λ (j : ℕ). let_down (spring_in s j) (get_or s.loads j 0)) _ _ _ _ _ _ _ _ c.loop-i.invariant (omega arith) (omega arith) (down c.before) (down-most c.before)
+    walked-more (λ (j : ℕ). let_down (spring_in s j) (get_or s.loads j 0)) _ _ _ _ _ _ c.loop-i.invariant (omega arith) (omega arith) (down c.before) (down-most c.before)
 
 pub returns : goal.returns
 returns c = rw c.from.ensures (walked-all _ _ _ _ _ c.loop-i.invariant (omega arith))

@@ -1,6 +1,5 @@
 -- `springs::Springs::period` meets its contract. Assumes nothing.
-use Rattle.springs.proofs.Columns.{allowed-in}
 use Rattle.springs.proofs.Springs.period.Goals as goal
 
 pub period-requires : goal.period-requires
-period-requires c = rw c.spring.ensures (allowed-in _ _ c.requires)
+period-requires c = rw c.spring.ensures c.requires.1

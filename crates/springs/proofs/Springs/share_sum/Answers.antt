@@ -3,7 +3,7 @@
 use Rattle.ground.proofs.Kit.{◌≡◌, arith}
 use Rattle.springs.specs.Spring.{share_on}
 use Rattle.springs.specs.Springs.{spring_in}
-use Rattle.springs.proofs.Columns.{allowed-in, springs-beside, walked-none, walked-more, walked-all}
+use Rattle.springs.proofs.Columns.{springs-beside, walked-none, walked-more, walked-all}
 use Rattle.springs.proofs.Springs.share_sum.Goals as goal
 use Rattle.springs.proofs.Springs.share_sum.Goals.{After-share-share}
 
@@ -16,11 +16,11 @@ loop-i-init c = walked-none _ _
 
 pub share-share-requires : goal.share-share-requires
 share-share-requires c =
-    rw c.spring.ensures ((allowed-in c.loop-i.self c.loop-i.i (omega (arith, c.loop-i.invariant.loaded.beside.count))).within)
+    rw (c.spring.ensures, springs-beside _ _ c.loop-i.invariant.loaded.beside) (c.requires c.loop-i.i (omega arith))
 
 pub loop-i-preserved : goal.loop-i-preserved
 loop-i-preserved c =
-    walked-more _ _ _ _ _ _ _ _ _ c.loop-i.invariant (omega arith) (omega arith) (shared c.before.before) c.share-share.ensures.1
+    walked-more _ _ _ _ _ _ _ c.loop-i.invariant (omega arith) (omega arith) (shared c.before.before) c.share-share.ensures.1
 
 pub returns : goal.returns
 returns c = rw c.from.ensures (walked-all _ _ _ _ _ c.loop-i.invariant (omega arith))

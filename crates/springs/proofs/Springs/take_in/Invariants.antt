@@ -8,6 +8,6 @@ use Rattle.springs.proofs.Springs.take_in.Given as goal
 
 abbrev pub invariant-loop-i : goal.invariant-loop-i
 invariant-loop-i l =
-    (l.self.notch ≡ l.initial.self.notch)
-    × ((j : ℕ) → j < l.i → not (is_good l.swap l.initial.self.notch (at l.fn.table.rows j)) ≡ false)
+    (l.self.notch ≡ l.notch)
+    × ((j : ℕ) → j < l.i → not (is_good l.swap l.notch (at l.fn.table.rows j)) ≡ false)
     × Sprung (priced_rows l.swap l.fn.table.rows l.fn.table.n) l.i l.self
