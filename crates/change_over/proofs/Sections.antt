@@ -23,15 +23,16 @@ use Rattle.change_over.specs.ChangeOver.{acceptable, section_of}
 -- by what the reader hands back
 module _ (s : List ℕ) (r : Reading) (read : handed_reading r ≡ read_sheet s) where
   -- a sheet that does not read
-  pub unread : (x : Result Sheet Refusal) → IfErr x (λ q. r.verdict ≡ Err q) → None ≡ result_ok x → None ≡ section_of s
+  pub unread : {A : Type 0} (x : Result A Refusal) → IfErr x (λ q. r.verdict ≡ Err q) → None ≡ result_ok x → None ≡ section_of s
   unfolding section_of acceptable
   unread (Ok y) v e = absurd (none-some y e)
   unread (Err q) v e = rw (handed-as s r read (Err q) v, ne_eqb (number_of q) 0 (λ z. omega (arith, refusal-numbered q)))
 
   -- one that reads
-  pub reads : {y : Sheet} (x : Result Sheet Refusal) → IfOk x (λ z. (r.verdict ≡ (Ok tt)) × (z ≡ r.sheet)) → Some y ≡ result_ok x → read_sheet s ≡ accepted y
-  reads (Ok z) h e = accepted-as s r read z h ∙ ap accepted (sym (same_Some _ z e))
-  reads (Err q) h e = absurd (none-some _ (sym e))
+  pub reads : {A : Type 0} (lent : A → Sheet) {y : A} (x : Result A Refusal) → IfOk x (λ z. (r.verdict ≡ (Ok tt)) × (lent z ≡ r.sheet))
+      → Some y ≡ result_ok x → read_sheet s ≡ accepted (lent y)
+  reads {A = A} lent (Ok z) h e = accepted-as s r read (lent z) h ∙ ap (λ (x : A). accepted (lent x)) (sym (same_Some _ z e))
+  reads {A = A} lent (Err q) h e = absurd (none-some _ (sym e))
 
 -- and by what the plain finder answers
 module _ (s : List ℕ) (x : Sheet) (read : read_sheet s ≡ accepted x) where

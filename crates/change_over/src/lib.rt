@@ -24,7 +24,8 @@ pub struct Part {
 fn section_of(bytes: &[u8]) -> Option<(usize, usize)>
     ensures { result ≡ section_of bytes.now }
 {
-    let x = sheet::read(bytes).accepted().ok()?;
+    let reading = sheet::read(bytes);
+    let x = reading.accepted().ok()?;
     let n = x.table.n;
     plain_finder::decide(x.table, x.settings, n).ok()?;
     Some((x.count, n))

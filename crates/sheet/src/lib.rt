@@ -21,13 +21,13 @@ pub struct Reading {
 }
 
 impl Reading {
-    // The sheet that was read, or the refusal.
-    pub fn accepted(self) -> Result<Sheet, Refusal>
-        ensures ok { IfOk result (λ x. (self.verdict ≡ Ok tt) × (x ≡ self.sheet)) }
-        ensures err { IfErr result (λ q. self.verdict ≡ Err q) }
+    // The sheet that was read, which is lent and not copied, or the refusal.
+    pub fn accepted(&self) -> Result<&Sheet, Refusal>
+        ensures ok { IfOk result (λ x. (self.now.verdict ≡ Ok tt) × (x.now ≡ self.now.sheet)) }
+        ensures err { IfErr result (λ q. self.now.verdict ≡ Err q) }
     {
         self.verdict?;
-        Ok(self.sheet)
+        Ok(&self.sheet)
     }
 }
 
