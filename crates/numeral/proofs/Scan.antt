@@ -1,19 +1,20 @@
 -- Laws of the scan: a run of digits taken one by one from the left, and the cases of the number at a place.
 -- Assumes nothing.
-use Rattle.ground.proofs.Kit.{ℕ, zero, suc, ◌+◌, ◌-◌, ◌*◌, ◌≤◌, ◌<◌, Option, Some, None, true, false, not, ◌++◌, take, List, [], ◌∷◌, ◌≡◌, refl, sym, ◌∙◌, ap, arith, eqb, length, take-append-drop, drop}
-use Rattle.ground.proofs.Kit.{get_or, leb, eq-eqb, ne_eqb, le-leb, lt-leb, leb-true}
+use Rattle.ground.proofs.Kit.{ℕ, zero, suc, ◌+◌, ◌-◌, ◌*◌, ◌≤◌, ◌<◌, Option, Some, None, true, false, not, ◌++◌, take, List, [], ◌∷◌, ◌≡◌, refl, sym, ◌∙◌, ap, arith, eqb, length, drop, add-one}
+use Rattle.ground.proofs.Kit.{get_or, leb, eq-eqb, ne_eqb, le-leb, lt-leb, leb-true, length-take-le}
 use native.Mathlib.Numerals.{one-add}
 use lib.ListN.{drop_of_length-le}
 use lib.Seq.{drop-cons}
 use Rattle.ground.specs.Choice.{both}
-use Rattle.ground.proofs.Cases.{by_le, by_bool, both_true}
+use Rattle.ground.proofs.Cases.{by_bool, both_true}
 use Rattle.std.specs.List.{prefix_len, slice_range}
 use Rattle.std.proofs.lemmas.Bool.Decides.{nat_tests}
-use Rattle.std.proofs.lemmas.Option.{some_pair_parts, same_Some, none-some}
+use Rattle.std.proofs.lemmas.Option.{some_pair_parts}
 use Rattle.std.proofs.lemmas.Slice.{between_to_end}
 use Rattle.std.proofs.lemmas.List.Folds.{length-prefix_len}
-use Rattle.std.proofs.lemmas.List.{take_more}
-use Rattle.numeral.specs.Scan.{most_number, is_digit, AllDigits, digits, value_from, value_if_small, digits_at, value_at, past_digits, plain, number_at, numeral_at, numeral_in}
+use Rattle.std.proofs.lemmas.List.{append-nil, append_assoc, take_more}
+use Rattle.numeral.specs.Scan.{most_number, is_digit, AllDigits, digits, value_from, digits_at, value_at, past_digits, plain, number_at, numeral_at, numeral_in}
+use Rattle.numeral.specs.Handover.{RunIs}
 
 -- a digit lies from 48 to 57
 pub digit-is : (b : ℕ) → is_digit b ≡ true → (48 ≤ b) × (b ≤ 57)
@@ -56,11 +57,6 @@ pub digits-past : (s : List ℕ) (at : ℕ) → length s ≤ at → digits_at s 
 unfolding digits
 digits-past s at h = ap digits (drop_of_length-le s h)
 
-pub each-digit : (ds : List ℕ) (i : ℕ) → AllDigits ds → i < length ds → (48 ≤ get_or ds i 0) × (get_or ds i 0 ≤ 57)
-each-digit [] i f h = absurd (omega arith)
-each-digit (d ∷ ds) zero f h = digit-is d f.0
-each-digit (d ∷ ds) (suc i) f h = each-digit ds i f.1 (omega arith)
-
 pub value_none : (v : ℕ) → value_from v [] ≡ v
 unfolding value_from
 value_none v = refl
@@ -81,45 +77,76 @@ value_grows : (v : ℕ) (ds : List ℕ) → v ≤ value_from v ds
 value_grows v [] = omega (arith, value_none v)
 value_grows v (d ∷ ds) = omega (arith, value-more v d ds, value_grows (10 * v + (d - 48)) ds)
 
-small_some : (ds : List ℕ) (v : ℕ) → Some v ≡ value_if_small ds → (value_from 0 ds ≤ most_number) × (value_from 0 ds ≡ v)
-small_some ds v h =
-    by_le (value_from 0 ds) most_number
-    (λ l. (l, same_Some (value_from 0 ds) v (sym (simp (le-leb (value_from 0 ds) most_number l) at h))))
-    (λ l. absurd (none-some v (sym (simp (lt-leb (value_from 0 ds) most_number l) at h))))
-
-small_none : (ds : List ℕ) → None ≡ value_if_small ds → most_number < value_from 0 ds
-small_none ds h =
-    by_le (value_from 0 ds) most_number
-    (λ l. absurd (none-some (value_from 0 ds) (simp (le-leb (value_from 0 ds) most_number l) at h)))
-    (λ l. l)
-
-pub small-kept : (ds : List ℕ) (v : ℕ) → v ≡ value_from 0 ds → v ≤ most_number → Some v ≡ value_if_small ds
-small-kept ds v e h = simp (sym e, le-leb v most_number h)
-
 value-append : (v : ℕ) (ds es : List ℕ) → value_from v (ds ++ es) ≡ value_from (value_from v ds) es
 value-append v [] es = ap (λ (x : ℕ). value_from x es) (sym (value_none v))
 value-append v (d ∷ ds) es =
     value-more v d (ds ++ es)
     ∙ (value-append (10 * v + (d - 48)) ds es ∙ ap (λ (x : ℕ). value_from x es) (sym (value-more v d ds)))
 
--- the value of the digits before a place, the digit there, and those after it
+-- the value of the digits before a place and the digit there
 module _ (ds : List ℕ) (i v : ℕ) (e : v ≡ value_from 0 (take i ds)) (h : i < length ds) where
-  pub value-here : value_from 0 ds ≡ value_from (10 * v + (get_or ds i 0 - 48)) (drop (suc i) ds)
-  value-here =
-      ap (value_from 0) (sym (take-append-drop i ds))
-      ∙ (value-append 0 (take i ds) (drop i ds)
-      ∙ (ap (λ (x : List ℕ). value_from (value_from 0 (take i ds)) x) (drop-cons ds i 0 h)
-      ∙ (value-more (value_from 0 (take i ds)) (get_or ds i 0) (drop (suc i) ds)
-      ∙ ap (λ (x : ℕ). value_from (10 * x + (get_or ds i 0 - 48)) (drop (suc i) ds)) (sym e))))
-
-  pub value_next : value_from 0 (take (i + 1) ds) ≡ 10 * v + (get_or ds i 0 - 48)
+  value_next : value_from 0 (take (i + 1) ds) ≡ 10 * v + (get_or ds i 0 - 48)
   value_next =
       ap (value_from 0) (take_more ds i 0 h)
       ∙ (value-then 0 (take i ds) (get_or ds i 0) ∙ ap (λ (x : ℕ). 10 * x + (get_or ds i 0 - 48)) (sym e))
 
-  pub value_large : most_number < 10 * v + (get_or ds i 0 - 48) → value_if_small ds ≡ None
-  value_large l =
-      simp (lt-leb (value_from 0 ds) most_number (omega (arith, value-here, value_grows (10 * v + (get_or ds i 0 - 48)) (drop (suc i) ds))))
+-- the digits at the front of a text are as many of its bytes as they are
+digits-long : (s : List ℕ) → length (digits s) ≡ prefix_len is_digit s
+digits-long s = ap length (digits-front s) ∙ length-prefix_len is_digit s
+
+digits-taken : (s : List ℕ) → take (length (digits s)) s ≡ digits s
+digits-taken s = ap (λ (n : ℕ). take n s) (digits-long s) ∙ sym (digits-front s)
+
+-- a walk over a text has come to byte i: all before it are digits, and their value is at hand
+pub record Going (s : List ℕ) (i v : ℕ) : Type 0 where
+  pub within-it : i ≤ length s
+  pub front : digits s ≡ take i s ++ digits (drop i s)
+  pub value-is : v ≡ value_from 0 (take i s)
+  pub small : v ≤ most_number
+
+pub going-none : (s : List ℕ) → Going s 0 0
+going-none s = record { within-it = omega arith; front = refl; value-is = sym (value_none 0); small = omega arith }
+
+module _ (s : List ℕ) (i v : ℕ) (g : Going s i v) where
+  -- it ends where no digit follows
+  stopped : digits (drop i s) ≡ [] → RunIs s (Some (v, i))
+  stopped e =
+      let all : digits s ≡ take i s = g.front ∙ (ap (λ (x : List ℕ). take i s ++ x) e ∙ append-nil (take i s)) in
+      (g.value-is ∙ ap (value_from 0) (sym all), g.small, sym (ap length all ∙ length-take-le i s g.within-it), g.within-it)
+
+  pub going-end : i ≡ length s → RunIs s (Some (v, i))
+  going-end e = stopped (digits-past s i (omega arith))
+
+  module _ (h : i < length s) where
+    pub going-stop : is_digit (get_or s i 0) ≡ false → RunIs s (Some (v, i))
+    going-stop f = stopped (ap digits (drop-cons s i 0 h) ∙ digits-stop (get_or s i 0) (drop (suc i) s) f)
+
+    module _ (t : is_digit (get_or s i 0) ≡ true) where
+      front-more : digits s ≡ take i s ++ (get_or s i 0 ∷ digits (drop (suc i) s))
+      front-more = g.front ∙ ap (λ (x : List ℕ). take i s ++ x) (ap digits (drop-cons s i 0 h) ∙ digits-cons (get_or s i 0) (drop (suc i) s) t)
+
+      value-more-is : value_from 0 (digits s) ≡ value_from (10 * v + (get_or s i 0 - 48)) (digits (drop (suc i) s))
+      value-more-is =
+          ap (value_from 0) front-more
+          ∙ (value-append 0 (take i s) (get_or s i 0 ∷ digits (drop (suc i) s))
+          ∙ (value-more (value_from 0 (take i s)) (get_or s i 0) (digits (drop (suc i) s))
+          ∙ ap (λ (x : ℕ). value_from (10 * x + (get_or s i 0 - 48)) (digits (drop (suc i) s))) (sym g.value-is)))
+
+      pub going-large : most_number < 10 * v + (get_or s i 0 - 48) → RunIs s None
+      going-large l = omega (arith, value-more-is, value_grows (10 * v + (get_or s i 0 - 48)) (digits (drop (suc i) s)))
+
+      pub going_more : (next : ℕ) → next ≡ 10 * v + (get_or s i 0 - 48) → next ≤ most_number → Going s (i + 1) next
+      going_more next e l =
+          record {
+            within-it = omega arith;
+            front =
+                rw (add-one i)
+                (front-more
+                ∙ (sym (append_assoc (take i s) (get_or s i 0 ∷ []) (digits (drop (suc i) s)))
+                ∙ ap (λ (x : List ℕ). x ++ digits (drop (suc i) s)) (sym (rw (add-one i) at (take_more s i 0 h)))));
+            value-is = e ∙ sym (value_next s i v g.value-is h);
+            small = l;
+          }
 
 -- plain digits, by their count
 pub plain-none : (ds : List ℕ) → length ds ≡ 0 → plain ds ≡ false
@@ -144,36 +171,31 @@ pub no-digits : (s : List ℕ) (at : ℕ) → length s < at → number_at s at �
 unfolding number_at
 no-digits s at h = simp (digits-past s at (omega arith), plain-none [] refl)
 
-module _ (s rest : List ℕ) (at count : ℕ) (r : rest ≡ slice_range s at (length s)) (k : count ≡ prefix_len is_digit rest) where
+module _ (s rest : List ℕ) (at : ℕ) (r : rest ≡ slice_range s at (length s)) where
   rest-is : rest ≡ drop at s
   rest-is = r ∙ between_to_end s at (length s) (omega arith)
 
-  their-digits : take count rest ≡ digits_at s at
-  their-digits = ap (λ (n : ℕ). take n rest) k ∙ (sym (digits-front rest) ∙ ap digits rest-is)
-
-  pub all_digits : AllDigits (take count rest)
-  all_digits = rw their-digits (front-digits (drop at s))
-
-  pub not_plain : plain (take count rest) ≡ false → number_at s at ≡ None
+  pub too_large : most_number < value_from 0 (digits rest) → number_at s at ≡ None
   unfolding number_at
-  not_plain p = simp (ap plain (sym their-digits) ∙ p)
+  too_large h =
+      let f : most_number < value_at s at = rw rest-is at h in
+      by_bool (plain (digits_at s at)) (λ p. simp (p, lt-leb (value_at s at) most_number f)) (λ p. simp p)
 
-  module _ (p : plain (take count rest) ≡ true) where
-    their_plain : plain (digits_at s at) ≡ true
-    their_plain = ap plain (sym their-digits) ∙ p
+  module _ (count : ℕ) (k : count ≡ length (digits rest)) where
+    their-digits : take count rest ≡ digits_at s at
+    their-digits = ap (λ (n : ℕ). take n rest) k ∙ (digits-taken rest ∙ ap digits rest-is)
 
-    pub too_large : None ≡ value_if_small (take count rest) → number_at s at ≡ None
+    pub not_plain : plain (take count rest) ≡ false → number_at s at ≡ None
     unfolding number_at
-    too_large h =
-        let f = small_none (digits_at s at) (h ∙ ap value_if_small their-digits) in
-        simp (their_plain, lt-leb (value_at s at) most_number f)
+    not_plain p = simp (ap plain (sym their-digits) ∙ p)
 
-    pub number_read : (v : ℕ) → Some v ≡ value_if_small (take count rest) → number_at s at ≡ Some (v, at + count)
+    pub number_read : plain (take count rest) ≡ true → (v : ℕ) → v ≡ value_from 0 (digits rest) → v ≤ most_number → number_at s at ≡ Some (v, at + count)
     unfolding number_at
-    number_read v h =
-        let f = small_some (digits_at s at) v (h ∙ ap value_if_small their-digits) in
-        let l : length (digits_at s at) ≡ count = ap length (sym their-digits) ∙ (ap (λ (n : ℕ). length (take n rest)) k ∙ (length-prefix_len is_digit rest ∙ sym k)) in
-        simp (their_plain, f.1, le-leb v most_number (omega (arith, f.0, f.1)), l)
+    number_read p v e h =
+        let their_plain : plain (digits_at s at) ≡ true = ap plain (sym their-digits) ∙ p in
+        let is : value_at s at ≡ v = ap (λ (x : List ℕ). value_from 0 (digits x)) (sym rest-is) ∙ sym e in
+        let l : length (digits_at s at) ≡ count = ap (λ (x : List ℕ). length (digits x)) (sym rest-is) ∙ sym k in
+        simp (their_plain, is, le-leb v most_number h, l)
 
 -- a number that is there: plain digits, with a value that is not too large
 pub record Number (s : List ℕ) (at v next : ℕ) : Type 0 where

@@ -26,10 +26,6 @@ unfoldable pub value_from : ℕ → List ℕ → ℕ
 value_from v [] = v
 value_from v (d ∷ ds) = value_from (10 * v + (d - 48)) ds
 
--- the value of digits, if it is not too large
-abbrev pub value_if_small : List ℕ → Option ℕ
-value_if_small ds = pick (leb (value_from 0 ds) most_number) (Some (value_from 0 ds)) None
-
 abbrev pub digits_at : List ℕ → ℕ → List ℕ
 digits_at s at = digits (drop at s)
 

@@ -4,11 +4,10 @@
 #![tactic(auto)]
 
 ghost use Rattle.std.specs.Prelude.{◌≡◌, ◌+◌, ◌≤◌, ◌<◌, length};
-ghost use Rattle.std.specs.List.{prefix_len};
 ghost use Rattle.field.specs.Handover.{Put};
 ghost use Rattle.numeral.specs.Decimal.{decimal};
-ghost use Rattle.numeral.specs.Scan.{is_digit, AllDigits, value_if_small, plain, number_at, numeral_at, numeral_in};
-ghost use Rattle.numeral.specs.Handover.{Sized};
+ghost use Rattle.numeral.specs.Scan.{plain, number_at, numeral_at, numeral_in};
+ghost use Rattle.numeral.specs.Handover.{Sized, RunIs};
 
 // Stores the digits of a number from a place on, and nothing else; returns the place after them.
 pub fn put_decimal(out: &mut [u8], at: usize, n: u64) -> usize
@@ -31,23 +30,18 @@ pub fn width(n: u32) -> usize
     1 + n.checked_ilog10().unwrap_or(0) as usize
 }
 
-// The value of some digits, if 32 bits hold it.
-fn value_of(digits: &[u8]) -> Option<u32>
-    requires { AllDigits digits.now }
-    ensures { result ≡ value_if_small digits.now }
+// The value of the digits that begin a text, if 32 bits hold it, and how many they are: in one walk, which takes less than half the time of two.
+fn run_of(s: &[u8]) -> Option<(u32, usize)>
+    ensures { RunIs s.now result }
 {
     let mut value: u32 = 0;
-    for digit in digits {
+    for (i, digit) in s.iter().enumerate() {
+        if !digit.is_ascii_digit() {
+            return Some((value, i));
+        }
         value = value.checked_mul(10)?.checked_add(u32::from(digit - b'0'))?;
     }
-    Some(value)
-}
-
-// How many digits begin a text.
-fn digits_len(s: &[u8]) -> usize
-    ensures { result ≡ prefix_len is_digit s.now }
-{
-    s.iter().take_while(|byte| byte.is_ascii_digit()).count()
+    Some((value, s.len()))
 }
 
 // Whether digits are a number's: one at least, and no leading zero except 0 itself.
@@ -66,12 +60,10 @@ fn number_at(s: &[u8], at: usize) -> Option<(u32, usize)>
     ensures { result ≡ number_at s.now at }
 {
     let rest = s.get(at..)?;
-    let count = digits_len(rest);
-    let digits = &rest[..count];
-    if !is_plain(digits) {
+    let (value, count) = run_of(rest)?;
+    if !is_plain(&rest[..count]) {
         return None;
     }
-    let value = value_of(digits)?;
     Some((value, at + count))
 }
 

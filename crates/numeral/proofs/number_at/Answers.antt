@@ -1,23 +1,19 @@
 -- `numeral::number_at` meets its contract. Assumes nothing.
 use Rattle.ground.proofs.Kit.{sym, ◌∙◌, arith}
-use Rattle.numeral.proofs.Scan.{no-digits, all_digits, not_plain, too_large, number_read}
+use Rattle.numeral.proofs.Scan.{no-digits, not_plain, too_large, number_read}
 use Rattle.numeral.proofs.number_at.Goals as goal
 
 pub returns-in_err-rest : goal.returns-in_err-rest
 returns-in_err-rest c = c.from_residual.ensures ∙ sym (no-digits _ _ (omega (arith, c.in_err-rest.ensures.lookup.0)))
 
+pub returns-in_err-value : goal.returns-in_err-value
+returns-in_err-value c = c.from_residual-in_err-value.ensures ∙ sym (too_large _ _ _ c.in_ok-rest.ensures.lookup.0.2 c.in_err-value.ensures)
+
 pub returns-then-not-is_plain : goal.returns-then-not-is_plain
 returns-then-not-is_plain c =
-    sym (not_plain _ _ _ _ c.in_ok-rest.ensures.lookup.0.2 c.digits_len-count.ensures (sym c.if-not-is_plain.ensures))
-
-pub value_of-requires : goal.value_of-requires
-value_of-requires c = all_digits c.args.s.now _ c.args.at _ c.in_ok-rest.ensures.lookup.0.2 c.digits_len-count.ensures
-
-pub returns-in_err-value : goal.returns-in_err-value
-returns-in_err-value c =
-    c.from_residual-in_err-value.ensures
-    ∙ sym (too_large _ _ _ _ c.in_ok-rest.ensures.lookup.0.2 c.digits_len-count.ensures (sym c.if-not-is_plain.ensures) c.in_err-value.ensures)
+    sym (not_plain _ _ _ c.in_ok-rest.ensures.lookup.0.2 _ c.in_ok-value.ensures.2 (sym c.if-not-is_plain.ensures))
 
 pub returns : goal.returns
 returns c =
-    sym (number_read _ _ _ _ c.in_ok-rest.ensures.lookup.0.2 c.digits_len-count.ensures (sym c.if-not-is_plain.ensures) _ c.in_ok-value.ensures)
+    let run = c.in_ok-value.ensures in
+    sym (number_read _ _ _ c.in_ok-rest.ensures.lookup.0.2 _ run.2 (sym c.if-not-is_plain.ensures) _ run.0 run.1)
