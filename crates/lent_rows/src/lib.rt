@@ -11,32 +11,33 @@ ghost use Rattle.wide_task.specs.WideTask as wide;
 use kinds::{Table, Task};
 use wide_task::{WideTable, WideTask};
 
-// As many of these rows as a table takes, over its places.
-fn placed<T: Copy>(rows: &[T], mut places: [T; Table::MOST_TASKS]) -> [T; Table::MOST_TASKS]
-    ensures { result ≡ laid rows.now places }
+// Puts as many of these rows as a table takes over its places.
+fn place<T: Copy>(rows: &[T], places: &mut [T; Table::MOST_TASKS])
+    ensures { places.new ≡ laid rows.now places.old }
 {
     let kept = rows.len().min(Table::MOST_TASKS);
     places[..kept].copy_from_slice(&rows[..kept]);
-    places
 }
 
 // The table of the lent rows. Its count is theirs, also where there are more than it takes, so that the core can refuse them.
 pub fn gather(rows: &[Task]) -> Table
     ensures { result ≡ table_of rows.now }
 {
-    let places = [Task::NONE; Table::MOST_TASKS];
-    Table::new(placed(rows, places), rows.len())
+    let mut table = Table::new([Task::NONE; Table::MOST_TASKS], rows.len());
+    place(rows, &mut table.rows);
+    table
 }
 
 // The same of tasks that need several cores.
 pub fn gather_wide(rows: &[WideTask]) -> WideTable
     ensures { result ≡ wide.table_of rows.now }
 {
-    let places = [WideTask::NONE; Table::MOST_TASKS];
-    WideTable {
-        rows: placed(rows, places),
+    let mut table = WideTable {
+        rows: [WideTask::NONE; Table::MOST_TASKS],
         n: rows.len(),
-    }
+    };
+    place(rows, &mut table.rows);
+    table
 }
 
 // The rows of a table that count, into the front of a lent slice, and nothing past them.

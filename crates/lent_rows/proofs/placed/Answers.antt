@@ -1,7 +1,0 @@
--- `lent_rows::placed` meets its contract. Assumes nothing.
-use Rattle.ground.proofs.Kit.{arith}
-use Rattle.lent_rows.proofs.Filling.{laid-filled}
-use Rattle.lent_rows.proofs.placed.Goals as goal
-
-pub returns : goal.returns
-returns g c = rw c.copy_from_slice.ensures.after (laid-filled c.args.rows.now c.args.places c.min-kept.result (omega arith))
