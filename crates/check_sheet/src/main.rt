@@ -7,5 +7,11 @@ use std::io;
 fn main(rt: HostRuntime) -> io::Result<()> {
     let mut input = [0u8; sheet::LONGEST + 1];
     let mut out = [0u8; sheet::LONGEST];
-    lent_input::run(rt, &mut input, &mut out, filled_sheet::tell)
+    lent_input::run(
+        &mut rt.stdin(),
+        &mut rt.stdout(),
+        &mut input,
+        &mut out,
+        filled_sheet::tell,
+    )
 }

@@ -1,13 +1,14 @@
 // What a program is given, read to the front of a lent buffer: the bytes of a stream, and the words of the command line.
 #![tactic(auto)]
 
-ghost use Rattle.std.specs.Prelude.{◌≡◌, ◌<◌, ◌≤◌, length, take, IfOk};
+ghost use Rattle.std.specs.Prelude.{◌≡◌, ◌<◌, ◌≤◌, length, take, IfOk, OnOk};
 ghost use Rattle.std.specs.Io.KnownBytes.{Consumes, IsAtEnd};
+ghost use Rattle.lent_input.specs.Ran.{Ran};
 
 use std::convert::AsSlice;
 use std::env::{Env, FillError};
 use std::io;
-use std::io::Read;
+use std::io::{Read, Write};
 
 // Reads until the buffer is full or the stream ends, and answers how many bytes it put there.
 pub fn read_full<R: Read>(from: &mut R, into: &mut [u8]) -> io::Result<usize>
@@ -45,20 +46,21 @@ pub fn word_count<E: Env>(given: &E) -> usize {
     usize::MAX
 }
 
-// A program's whole run: reads standard input to the front of a lent buffer, and writes what a step puts at the front of the other one, as
-// many bytes as it answers.
-pub fn run<O: AsSlice<u8>, F: FnOnce(&[u8], &mut O) -> usize>(
-    rt: HostRuntime,
+// A program's whole run: hands on to a step what a stream gives, as far as there is room, and writes to another stream as many bytes as the step
+// answers, of those that it leaves in its own buffer.
+pub fn run<R: Read, W: Write, O: AsSlice<u8>, F: FnOnce(&[u8], &mut O) -> usize>(
+    from: &mut R,
+    to: &mut W,
     input: &mut [u8],
     out: &mut O,
     step: F,
 ) -> io::Result<()>
-    requires { F.IsAlwaysCallable step }
+    requires callable { F.IsAlwaysCallable step }
+    requires fits { (given : _) (lent : _) (k : _) (left : _) → F.post step given lent k left → k ≤ length (O.items left.now) }
+    ensures { OnOk result
+        (Ran O.items (F.post step) (length input.old) out.old (R.remaining from.old) (R.remaining from.new) (W.contents to.old) (W.contents to.new)) }
 {
-    let n = read_full(&mut rt.stdin(), input)?;
+    let n = read_full(from, input)?;
     let k = step(&input[..n], out);
-    match out.as_slice().get(..k) {
-        Some(bytes) => rt.write_all(bytes),
-        None => Ok(()),
-    }
+    to.write_all(&out.as_slice()[..k])
 }

@@ -1,5 +1,5 @@
-// Text for people, on a page of lent bytes: what `write!` writes there, as far as there is room, and what it shows numbers by. What stands there is
-// tested and not promised; each call is proved to stay within what is lent.
+// Text for people, on a page of lent bytes: what `write!` writes there, as far as there is room, and what it shows numbers by. How it looks is
+// tested and not promised, what is put and written is said by `specs/Page`; each call is proved to stay within what is lent.
 #![tactic(auto)]
 
 ghost use Rattle.std.specs.Prelude.{◌≡◌, ◌≤◌, length, OnOk};
@@ -17,10 +17,12 @@ pub struct Page<'a> {
 }
 
 impl<'a> Page<'a> {
-    ghost use Rattle.text.specs.Page.{written};
+    ghost use Rattle.text.specs.Page.{written, IsNew, IsPut};
 
     // A page on which nothing is written yet.
-    pub fn new(room: &'a mut [u8]) -> Page<'a> {
+    pub fn new(room: &'a mut [u8]) -> Page<'a>
+        ensures { IsNew result room.old }
+    {
         Page { room, len: 0 }
     }
 
@@ -32,7 +34,9 @@ impl<'a> Page<'a> {
     }
 
     // Adds bytes as far as there is room.
-    pub fn put(&mut self, bytes: &[u8]) {
+    pub fn put(&mut self, bytes: &[u8])
+        ensures { IsPut self.old bytes.now self.new }
+    {
         let n = bytes.len().min(self.room.len() - self.len);
         let end = self.len + n;
         self.room[self.len..end].copy_from_slice(&bytes[..n]);
