@@ -48,9 +48,9 @@ pub(crate) fn case_of(text: &[u8]) -> Option<(&[u8], &[u8])> {
     }
 }
 
-// The fields of the first line that begins with a letter, of the first line where there is none.
+// The fields of the first line that begins with a letter, its newline counted, of the first line where there is none.
 pub(crate) fn fields_of(text: &[u8], letter: u8) -> [u32; FIELDS] {
-    let mut lines = text.split(|byte| *byte == b'\n');
+    let mut lines = text.split_inclusive(|byte| *byte == b'\n');
     let line = lines.find(|line| line.first() == Some(&letter));
     fields(line.unwrap_or(text))
 }

@@ -13,7 +13,7 @@ use line::FIELDS;
 use std::io;
 use std::io::Write;
 
-// What a case runs.
+// What a case runs on a table; a case of jobs that need several cores has its own jobs.
 #[derive(Clone, Copy)]
 enum What {
     Both,
@@ -21,7 +21,6 @@ enum What {
     FirstFit,
     Planner,
     Check,
-    Wide,
 }
 
 impl What {
@@ -33,7 +32,6 @@ impl What {
             b'F' => Some(What::FirstFit),
             b'P' => Some(What::Planner),
             b'C' => Some(What::Check),
-            b'W' => Some(What::Wide),
             _ => None,
         }
     }
@@ -41,7 +39,11 @@ impl What {
 
 // A case; field 1 has the letter of what is run, field 8 the step.
 fn run<W: Write>(to: &mut W, text: &[u8], fields: [u32; FIELDS]) -> io::Result<()> {
-    let Some(what) = What::of(line::letter(fields[1])) else {
+    let letter = line::letter(fields[1]);
+    if letter == b'W' {
+        return finders::wide(to, fields);
+    }
+    let Some(what) = What::of(letter) else {
         return Ok(());
     };
     let table = tables::table_of(text, fields);
@@ -56,7 +58,6 @@ fn run<W: Write>(to: &mut W, text: &[u8], fields: [u32; FIELDS]) -> io::Result<(
         What::FirstFit => proposals::first_fit(to, table, settings),
         What::Planner => proposals::planner(to, table, settings, step),
         What::Check => proposals::check(to, table, settings, step, fields),
-        What::Wide => finders::wide(to, fields),
     }
 }
 
