@@ -87,7 +87,6 @@ may-grant serves (Ok k) s rows n a b springs f t =
       placeable =
           record {
             chargeable = sprung-chargeable paid n springs w good s.notch on;
-            notch = f.notch;
             m-most = p.m-most;
             passing = ap (passes (meant s.policy) s.m (loads_on s (spring_in springs) k)) w.count ∙ (same ∙ passing);
           };

@@ -30,10 +30,9 @@ pub record FoundSprung (serves : Bool) (s : Settings) (rows : List Task) (n room
   pub sprung : is_accepted answer ≡ true → Sprung (rows_under s rows n) n springs
   pub notch : springs.notch ≡ s.notch
 
--- what the placing relies on: springs that may be charged, on their notch, and pass at step k
+-- what the placing relies on: springs that may be charged, and pass at step k
 pub record Placeable (s : Settings) (springs : Springs) (k : ℕ) : Type 0 where
   pub chargeable : Chargeable s.notch springs
-  pub notch : springs.notch ≡ s.notch
   pub m-most : s.m ≤ most_processors
   pub passing : passes (meant s.policy) s.m (loads_on s (spring_in springs) k) springs.n ≡ true
 

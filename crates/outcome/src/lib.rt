@@ -15,15 +15,15 @@ ghost use Rattle.outcome.specs.Handover.{Placeable, MayGrant, Leaves};
 use kinds::{Refusal, Settings, Table};
 use springs::Springs;
 
-// Writes the period of step k of each task, and nothing past them.
-fn write_periods(springs: &Springs, k: u32, out: &mut [u32])
-    requires { (springs.now.n ≤ length out.old) × Chargeable springs.now.notch springs.now }
-    ensures { out.new ≡ list_to (periods_on springs.now.notch (spring_in springs.now) k) springs.now.n
+// Writes the period of step k of each task on a notch, and nothing past them.
+fn write_periods(notch: u16, springs: &Springs, k: u32, out: &mut [u32])
+    requires { (springs.now.n ≤ length out.old) × Chargeable notch springs.now }
+    ensures { out.new ≡ list_to (periods_on notch (spring_in springs.now) k) springs.now.n
         ++ drop springs.now.n out.old }
 {
     // Over the numbers: each is read in the springs and written in the output.
     for i in 0..springs.n {
-        out[i] = springs.period(i, k);
+        out[i] = springs.spring(i).period(notch, k);
     }
 }
 
@@ -59,7 +59,7 @@ pub fn grant(
         return;
     };
     let n = springs.n;
-    write_periods(springs, step, periods);
+    write_periods(settings.notch, springs, step, periods);
     let placed = processors_at(settings, springs, step);
     processors[..n].copy_from_slice(&placed[..n]);
 }

@@ -1,9 +1,9 @@
 -- Columns: the walks that write loads and take springs in, and what the springs then say of a table.
 -- Assumes nothing.
-use Rattle.ground.proofs.Kit.{ℕ, suc, ◌+◌, ◌≤◌, ◌<◌, true, false, List, ◌≡◌, refl, sym, ◌∙◌, ap, subst, arith, length, get_or, set, take, replicate, length-take-le, length-set}
-use Rattle.ground.proofs.Kit.{get_or-set_same, get_or-set_other, get_or-replicate, length-replicate, lt-ltb, le-ltb, Ok, Err, Result}
+use Rattle.ground.proofs.Kit.{ℕ, ◌+◌, ◌≤◌, ◌<◌, true, false, List, ◌≡◌, refl, sym, ◌∙◌, ap, subst, arith, length, get_or, set, take, length-take-le, length-set}
+use Rattle.ground.proofs.Kit.{get_or-set_same, get_or-set_other, lt-ltb, le-ltb, Ok, Err, Result}
 use mathlib.Core.Path.{fun_ext}
-use Rattle.std.proofs.lemmas.List.{get_or_past, get_or-take}
+use Rattle.std.proofs.lemmas.List.{get_or-take}
 use Rattle.ground.specs.Folds.{list_to, sum_to, AddedUp}
 use Rattle.ground.proofs.Buffer.{list-cong}
 use Rattle.ground.proofs.Cases.{by-eq, by_bool, by_le}

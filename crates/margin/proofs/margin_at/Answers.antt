@@ -1,5 +1,5 @@
 -- `margin::margin_at` meets its contract. Assumes nothing.
-use Rattle.ground.proofs.Kit.{ℕ, ◌<◌, false, ◌≡◌, sym, ◌∙◌, ap, arith, rules, Err}
+use Rattle.ground.proofs.Kit.{ℕ, ◌<◌, false, ◌≡◌, ◌∙◌, ap, arith, rules, Err}
 use Rattle.kinds.specs.Answer.{accepted}
 use Rattle.springs.proofs.Columns.{loads-are, loads-most}
 use Rattle.fit.specs.Fit.{load_in}

@@ -7,7 +7,7 @@ use Rattle.springs.specs.Springs.{spring_in}
 use Rattle.outcome.proofs.write_periods.Given as goal
 
 abbrev pub invariant-loop-i : goal.invariant-loop-i
-invariant-loop-i l = Front (periods_on l.springs.notch (spring_in l.springs) l.k) l.initial.out l.out l.i
+invariant-loop-i l = Front (periods_on l.notch (spring_in l.springs) l.k) l.initial.out l.out l.i
 
 abbrev pub decreases-loop-i : goal.decreases-loop-i
 decreases-loop-i l = l.i-end - l.i
