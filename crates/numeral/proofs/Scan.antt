@@ -1,6 +1,6 @@
 -- Laws of the scan: a run of digits taken one by one from the left, and the cases of the number at a place.
 -- Assumes nothing.
-use Rattle.ground.proofs.Kit.{ℕ, zero, suc, ◌+◌, ◌-◌, ◌*◌, ◌≤◌, ◌<◌, Option, Some, None, true, false, not, ◌++◌, take, List, [], ◌∷◌, ◌≡◌, refl, sym, ◌∙◌, ap, arith, eqb, length, drop, add-one}
+use Rattle.ground.proofs.Kit.{ℕ, Result, Ok, Err, zero, suc, ◌+◌, ◌-◌, ◌*◌, ◌≤◌, ◌<◌, Option, Some, None, true, false, not, ◌++◌, take, List, [], ◌∷◌, ◌≡◌, refl, sym, ◌∙◌, ap, arith, eqb, length, drop, add-one}
 use Rattle.ground.proofs.Kit.{get_or, leb, eq-eqb, ne_eqb, le-leb, lt-leb, leb-true, length-take-le}
 use native.Mathlib.Numerals.{one-add}
 use lib.ListN.{drop_of_length-le}
@@ -8,12 +8,13 @@ use lib.Seq.{drop-cons}
 use Rattle.ground.specs.Choice.{both}
 use Rattle.ground.proofs.Cases.{by_bool, both_true}
 use Rattle.std.specs.List.{prefix_len, slice_range}
+use Rattle.std.specs.Result.{OkIff, result_ok}
 use Rattle.std.proofs.lemmas.Bool.Decides.{nat_tests}
 use Rattle.std.proofs.lemmas.Option.{some_pair_parts}
 use Rattle.std.proofs.lemmas.Slice.{between_to_end}
 use Rattle.std.proofs.lemmas.List.Folds.{length-prefix_len}
 use Rattle.std.proofs.lemmas.List.{append-nil, append_assoc, take_more}
-use Rattle.numeral.specs.Scan.{most_number, is_digit, AllDigits, digits, value_from, digits_at, value_at, past_digits, plain, number_at, numeral_at, numeral_in}
+use Rattle.numeral.specs.Scan.{most_number, limited, is_digit, AllDigits, digits, value_from, digits_at, value_at, past_digits, plain, number_at, numeral_at, numeral_in}
 use Rattle.numeral.specs.Handover.{RunIs}
 
 -- a digit lies from 48 to 57
@@ -72,23 +73,12 @@ value-then v (x ∷ ds) d =
     value-more v x (ds ++ (d ∷ []))
     ∙ (value-then (10 * v + (x - 48)) ds d ∙ ap (λ (k : ℕ). 10 * k + (d - 48)) (sym (value-more v x ds)))
 
--- more digits make no value less
-value_grows : (v : ℕ) (ds : List ℕ) → v ≤ value_from v ds
-value_grows v [] = omega (arith, value_none v)
-value_grows v (d ∷ ds) = omega (arith, value-more v d ds, value_grows (10 * v + (d - 48)) ds)
-
-value-append : (v : ℕ) (ds es : List ℕ) → value_from v (ds ++ es) ≡ value_from (value_from v ds) es
-value-append v [] es = ap (λ (x : ℕ). value_from x es) (sym (value_none v))
-value-append v (d ∷ ds) es =
-    value-more v d (ds ++ es)
-    ∙ (value-append (10 * v + (d - 48)) ds es ∙ ap (λ (x : ℕ). value_from x es) (sym (value-more v d ds)))
-
--- the value of the digits before a place and the digit there
-module _ (ds : List ℕ) (i v : ℕ) (e : v ≡ value_from 0 (take i ds)) (h : i < length ds) where
-  value_next : value_from 0 (take (i + 1) ds) ≡ 10 * v + (get_or ds i 0 - 48)
+-- the value of the digits before a place and the digit there: holding it down on the way changes nothing of what is held of the whole
+module _ (ds : List ℕ) (i v : ℕ) (e : v ≡ limited (value_from 0 (take i ds))) (h : i < length ds) where
+  value_next : limited (value_from 0 (take (i + 1) ds)) ≡ limited (10 * v + (get_or ds i 0 - 48))
   value_next =
-      ap (value_from 0) (take_more ds i 0 h)
-      ∙ (value-then 0 (take i ds) (get_or ds i 0) ∙ ap (λ (x : ℕ). 10 * x + (get_or ds i 0 - 48)) (sym e))
+      let w = ap (value_from 0) (take_more ds i 0 h) ∙ value-then 0 (take i ds) (get_or ds i 0) in
+      omega (arith, w)
 
 -- the digits at the front of a text are as many of its bytes as they are
 digits-long : (s : List ℕ) → length (digits s) ≡ prefix_len is_digit s
@@ -101,42 +91,31 @@ digits-taken s = ap (λ (n : ℕ). take n s) (digits-long s) ∙ sym (digits-fro
 pub record Going (s : List ℕ) (i v : ℕ) : Type 0 where
   pub within-it : i ≤ length s
   pub front : digits s ≡ take i s ++ digits (drop i s)
-  pub value-is : v ≡ value_from 0 (take i s)
-  pub small : v ≤ most_number
+  pub value-is : v ≡ limited (value_from 0 (take i s))
 
 pub going-none : (s : List ℕ) → Going s 0 0
-going-none s = record { within-it = omega arith; front = refl; value-is = sym (value_none 0); small = omega arith }
+going-none s = record { within-it = omega arith; front = refl; value-is = omega (arith, value_none 0) }
 
 module _ (s : List ℕ) (i v : ℕ) (g : Going s i v) where
   -- it ends where no digit follows
-  stopped : digits (drop i s) ≡ [] → RunIs s (Some (v, i))
+  stopped : digits (drop i s) ≡ [] → RunIs s (v, i)
   stopped e =
       let all : digits s ≡ take i s = g.front ∙ (ap (λ (x : List ℕ). take i s ++ x) e ∙ append-nil (take i s)) in
-      (g.value-is ∙ ap (value_from 0) (sym all), g.small, sym (ap length all ∙ length-take-le i s g.within-it), g.within-it)
+      (g.value-is ∙ ap (λ (x : List ℕ). limited (value_from 0 x)) (sym all), sym (ap length all ∙ length-take-le i s g.within-it), g.within-it)
 
-  pub going-end : i ≡ length s → RunIs s (Some (v, i))
+  pub going-end : i ≡ length s → RunIs s (v, i)
   going-end e = stopped (digits-past s i (omega arith))
 
   module _ (h : i < length s) where
-    pub going-stop : is_digit (get_or s i 0) ≡ false → RunIs s (Some (v, i))
+    pub going-stop : is_digit (get_or s i 0) ≡ false → RunIs s (v, i)
     going-stop f = stopped (ap digits (drop-cons s i 0 h) ∙ digits-stop (get_or s i 0) (drop (suc i) s) f)
 
     module _ (t : is_digit (get_or s i 0) ≡ true) where
       front-more : digits s ≡ take i s ++ (get_or s i 0 ∷ digits (drop (suc i) s))
       front-more = g.front ∙ ap (λ (x : List ℕ). take i s ++ x) (ap digits (drop-cons s i 0 h) ∙ digits-cons (get_or s i 0) (drop (suc i) s) t)
 
-      value-more-is : value_from 0 (digits s) ≡ value_from (10 * v + (get_or s i 0 - 48)) (digits (drop (suc i) s))
-      value-more-is =
-          ap (value_from 0) front-more
-          ∙ (value-append 0 (take i s) (get_or s i 0 ∷ digits (drop (suc i) s))
-          ∙ (value-more (value_from 0 (take i s)) (get_or s i 0) (digits (drop (suc i) s))
-          ∙ ap (λ (x : ℕ). value_from (10 * x + (get_or s i 0 - 48)) (digits (drop (suc i) s))) (sym g.value-is)))
-
-      pub going-large : most_number < 10 * v + (get_or s i 0 - 48) → RunIs s None
-      going-large l = omega (arith, value-more-is, value_grows (10 * v + (get_or s i 0 - 48)) (digits (drop (suc i) s)))
-
-      pub going_more : (next : ℕ) → next ≡ 10 * v + (get_or s i 0 - 48) → next ≤ most_number → Going s (i + 1) next
-      going_more next e l =
+      pub going_more : (next : ℕ) → next ≡ limited (10 * v + (get_or s i 0 - 48)) → Going s (i + 1) next
+      going_more next e =
           record {
             within-it = omega arith;
             front =
@@ -145,7 +124,6 @@ module _ (s : List ℕ) (i v : ℕ) (g : Going s i v) where
                 ∙ (sym (append_assoc (take i s) (get_or s i 0 ∷ []) (digits (drop (suc i) s)))
                 ∙ ap (λ (x : List ℕ). x ++ digits (drop (suc i) s)) (sym (rw (add-one i) at (take_more s i 0 h)))));
             value-is = e ∙ sym (value_next s i v g.value-is h);
-            small = l;
           }
 
 -- plain digits, by their count
@@ -166,6 +144,15 @@ plain_more [] h = absurd (omega arith)
 plain_more (d ∷ []) h = absurd (omega arith)
 plain_more (d ∷ (e ∷ ds)) h = refl
 
+-- a value that is held down is a number where 32 bits hold it
+tried-none : {E : Type 0} (v : ℕ) (tried : Result ℕ E) → OkIff tried (v < 4294967296) v → result_ok tried ≡ None → most_number < v
+tried-none v (Ok y) t e = absurd (let z : ◌≡◌ {A = ℕ} 0 1 = cc in omega arith)
+tried-none v (Err r) t e = omega (arith, t)
+
+tried_some : {E : Type 0} (v : ℕ) (tried : Result ℕ E) → OkIff tried (v < 4294967296) v → (x : ℕ) → result_ok tried ≡ Some x → (x ≡ v) × (v ≤ most_number)
+tried_some v (Ok y) t x e = let z : y ≡ x = cc in (omega (arith, z, t.1), omega (arith, t.0))
+tried_some v (Err r) t x e = absurd (let z : ◌≡◌ {A = ℕ} 0 1 = cc in omega arith)
+
 -- the cases of the number at a place, by the bytes from there on and how many of them are digits
 pub no-digits : (s : List ℕ) (at : ℕ) → length s < at → number_at s at ≡ None
 unfolding number_at
@@ -175,11 +162,16 @@ module _ (s rest : List ℕ) (at : ℕ) (r : rest ≡ slice_range s at (length s
   rest-is : rest ≡ drop at s
   rest-is = r ∙ between_to_end s at (length s) (omega arith)
 
-  pub too_large : most_number < value_from 0 (digits rest) → number_at s at ≡ None
-  unfolding number_at
-  too_large h =
-      let f : most_number < value_at s at = rw rest-is at h in
-      by_bool (plain (digits_at s at)) (λ p. simp (p, lt-leb (value_at s at) most_number f)) (λ p. simp p)
+  module _ (held : ℕ) (v : held ≡ limited (value_from 0 (digits rest))) {E : Type 0} (tried : Result ℕ E) (t : OkIff tried (held < 4294967296) held) where
+    value-is : limited (value_at s at) ≡ held
+    value-is = ap (λ (x : List ℕ). limited (value_from 0 (digits x))) (sym rest-is) ∙ sym v
+
+    pub too_large : result_ok tried ≡ None → number_at s at ≡ None
+    unfolding number_at
+    too_large e =
+        let l = tried-none held tried t e in
+        let f : most_number < value_at s at = omega (arith, value-is) in
+        by_bool (plain (digits_at s at)) (λ p. simp (p, lt-leb (value_at s at) most_number f)) (λ p. simp p)
 
   module _ (count : ℕ) (k : count ≡ length (digits rest)) where
     their-digits : take count rest ≡ digits_at s at
@@ -189,13 +181,17 @@ module _ (s rest : List ℕ) (at : ℕ) (r : rest ≡ slice_range s at (length s
     unfolding number_at
     not_plain p = simp (ap plain (sym their-digits) ∙ p)
 
-    pub number_read : plain (take count rest) ≡ true → (v : ℕ) → v ≡ value_from 0 (digits rest) → v ≤ most_number → number_at s at ≡ Some (v, at + count)
+    pub number_read : plain (take count rest) ≡ true → (held : ℕ) → held ≡ limited (value_from 0 (digits rest))
+        → {E : Type 0} → (tried : Result ℕ E) → OkIff tried (held < 4294967296) held → (x : ℕ) → result_ok tried ≡ Some x
+        → number_at s at ≡ Some (x, at + count)
     unfolding number_at
-    number_read p v e h =
+    number_read p held v tried t x e =
         let their_plain : plain (digits_at s at) ≡ true = ap plain (sym their-digits) ∙ p in
-        let is : value_at s at ≡ v = ap (λ (x : List ℕ). value_from 0 (digits x)) (sym rest-is) ∙ sym e in
+        let q = tried_some held tried t x e in
+        let w = value-is held v tried t in
+        let is : value_at s at ≡ x = omega (arith, q.0, q.1, w) in
         let l : length (digits_at s at) ≡ count = ap (λ (x : List ℕ). length (digits x)) (sym rest-is) ∙ sym k in
-        simp (their_plain, is, le-leb v most_number h, l)
+        simp (their_plain, is, le-leb x most_number (omega (arith, q.0, q.1)), l)
 
 -- a number that is there: plain digits, with a value that is not too large
 pub record Number (s : List ℕ) (at v next : ℕ) : Type 0 where

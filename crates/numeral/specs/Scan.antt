@@ -1,11 +1,15 @@
 -- Decimal numbers in a text, read at a place. Document 02, Ask 11: "each at most 4,294,967,295, with no leading zero except 0 itself".
 -- Assumes nothing.
-use Rattle.std.specs.Prelude.{ℕ, ◌≡◌, ◌+◌, ◌*◌, ◌-◌, Bool, true, false, not, List, [], ◌∷◌, Option, Some, None, leb, eqb, length, get_or, drop}
+use Rattle.std.specs.Prelude.{ℕ, ◌≡◌, ◌+◌, ◌*◌, ◌-◌, min, Bool, true, false, not, List, [], ◌∷◌, Option, Some, None, leb, eqb, length, get_or, drop}
 use Rattle.std.specs.Char.{is_ascii_digit}
 use Rattle.ground.specs.Choice.{pick, both}
 
 abbrev pub most_number : ℕ
 most_number = 4294967295
+
+-- the scanner holds a value down at the number after the most
+abbrev pub limited : ℕ → ℕ
+limited v = min v (most_number + 1)
 
 -- a byte from `0` to `9`
 abbrev pub is_digit : ℕ → Bool

@@ -9,6 +9,9 @@ ghost use Rattle.numeral.specs.Decimal.{decimal};
 ghost use Rattle.numeral.specs.Scan.{plain, number_at, numeral_at, numeral_in};
 ghost use Rattle.numeral.specs.Handover.{Sized, RunIs};
 
+// The greatest number that a text may hold.
+pub const MOST_NUMBER: u64 = 4_294_967_295;
+
 // Stores the digits of a number from a place on, and nothing else; returns the place after them.
 pub fn put_decimal(out: &mut [u8], at: usize, n: u64) -> usize
     requires { at + length (decimal n) ≤ length out.old }
@@ -30,18 +33,18 @@ pub fn width(n: u32) -> usize
     1 + n.checked_ilog10().unwrap_or(0) as usize
 }
 
-// The value of the digits that begin a text, if 32 bits hold it, and how many they are, in one walk.
-fn run_of(s: &[u8]) -> Option<(u32, usize)>
+// The value of the digits that begin a text, held down at the number after the most, and how many they are, in one walk.
+fn run_of(s: &[u8]) -> (u64, usize)
     ensures { RunIs s.now result }
 {
-    let mut value: u32 = 0;
+    let mut value: u64 = 0;
     for (i, digit) in s.iter().enumerate() {
         if !digit.is_ascii_digit() {
-            return Some((value, i));
+            return (value, i);
         }
-        value = value.checked_mul(10)?.checked_add(u32::from(digit - b'0'))?;
+        value = (10 * value + u64::from(digit - b'0')).min(MOST_NUMBER + 1);
     }
-    Some((value, s.len()))
+    (value, s.len())
 }
 
 // Whether digits are a number's: one at least, and no leading zero except 0 itself.
@@ -60,10 +63,11 @@ fn number_at(s: &[u8], at: usize) -> Option<(u32, usize)>
     ensures { result ≡ number_at s.now at }
 {
     let rest = s.get(at..)?;
-    let (value, count) = run_of(rest)?;
+    let (value, count) = run_of(rest);
     if !is_plain(&rest[..count]) {
         return None;
     }
+    let value = u32::try_from(value).ok()?;
     Some((value, at + count))
 }
 

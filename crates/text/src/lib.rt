@@ -5,7 +5,6 @@
 ghost use Rattle.std.specs.Prelude.{◌≡◌, ◌≤◌, length, OnOk};
 ghost use Rattle.std.specs.Io.KnownBytes.{Appends};
 
-use itoa::Buffer;
 use std::{fmt, io};
 
 // Lent bytes, of which the first so many are written. What there is no room for is left out, so that no write fails.
@@ -91,24 +90,52 @@ pub fn columns_of<D: fmt::Display + Drop>(form: D) -> usize {
     counted.0
 }
 
+// Room for what is put at the right of a column: the longest number has twenty digits, and six commas between them.
+const ROOM: usize = 26;
+
+// Writes what begins at a place behind blanks, at the right of a column: in one piece, as long as the column is no wider than that room.
+fn put_right<W: fmt::Write>(
+    f: &mut fmt::Formatter<W>,
+    text: &[u8; ROOM],
+    begin: usize,
+) -> fmt::Result {
+    let width = f.width().unwrap_or(0);
+    let beyond = width.saturating_sub(ROOM);
+    if 0 < beyond {
+        write!(f, "{:beyond$}", "")?;
+    }
+    let from = begin.min(ROOM.saturating_sub(width));
+    f.write_str(str::from_utf8(&text[from..]).map_err(|_| fmt::Error)?)
+}
+
 // A number with its thousands set apart, at the right of a column.
 #[derive(Clone, Copy)]
 pub struct Apart(pub u64);
 
+impl Apart {
+    // Puts the text of the number at the end, and returns the place where it begins.
+    fn put(self, text: &mut [u8; ROOM]) -> usize {
+        let mut left = self.0;
+        for (i, place) in text.iter_mut().rev().enumerate() {
+            if left == 0 && 0 < i {
+                return ROOM - i;
+            }
+            if i % 4 == 3 {
+                *place = b',';
+            } else {
+                *place = b'0' + (left % 10) as u8;
+                left /= 10;
+            }
+        }
+        0
+    }
+}
+
 impl fmt::Display for Apart {
     fn fmt<W: fmt::Write>(&self, f: &mut fmt::Formatter<W>) -> fmt::Result {
-        let mut digits = Buffer::new();
-        let digits = digits.format(self.0);
-        let taken = digits.len() + digits.len().saturating_sub(1) / 3;
-        let blank = f.width().unwrap_or(0).saturating_sub(taken);
-        write!(f, "{:blank$}", "")?;
-        for (i, digit) in digits.chars().enumerate() {
-            if 0 < i && (digits.len() - i) % 3 == 0 {
-                write!(f, ",")?;
-            }
-            write!(f, "{digit}")?;
-        }
-        Ok(())
+        let mut text = [b' '; ROOM];
+        let begin = self.put(&mut text);
+        put_right(f, &text, begin)
     }
 }
 
@@ -136,10 +163,10 @@ pub struct Stretch {
 
 impl fmt::Display for Stretch {
     fn fmt<W: fmt::Write>(&self, f: &mut fmt::Formatter<W>) -> fmt::Result {
-        let width = f.width().unwrap_or(0);
         if self.elasticity == 0 || self.longest <= self.shortest {
-            return write!(f, "{:>width$}", "fixed");
+            return put_right(f, b"                     fixed", ROOM - 5);
         }
+        let width = f.width().unwrap_or(0);
         let above = u64::from(self.period.saturating_sub(self.shortest));
         let percent = above * 100 / u64::from(self.longest - self.shortest);
         let width = width.saturating_sub(1);

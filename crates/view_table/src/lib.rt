@@ -98,24 +98,26 @@ struct Layout {
     placed: bool,
 }
 
-// Makes columns wide enough for the numbers of a line.
-fn widen(widths: &mut [usize; NUMBERS], numbers: [u32; NUMBERS], apart: bool) {
-    for (width, value) in widths.iter_mut().zip(numbers) {
-        *width = (*width).max(text::columns_of(Number { value, apart }));
+// Raises the largest numbers of the columns to those of a line.
+fn raise(largest: &mut [u32; NUMBERS], numbers: [u32; NUMBERS]) {
+    for (most, value) in largest.iter_mut().zip(numbers) {
+        *most = (*most).max(value);
     }
 }
 
-// How wide the columns of a sheet's numbers are, their titles among them.
+// How wide the columns of a sheet's numbers are, their titles among them: the largest number of a column is its widest.
 fn widths_of(x: Sheet, apart: bool) -> [usize; NUMBERS] {
-    let mut widths = [6, 4, 4, 4, 4];
+    let mut largest = [0; NUMBERS];
     for (task, granted) in x.table.rows.iter().zip(&x.results.rows).take(x.table.n) {
         let row = Row {
             task: *task,
             granted: *granted,
             share: 0,
         };
-        widen(&mut widths, row.numbers(), apart);
+        raise(&mut largest, row.numbers());
     }
+    let mut widths = largest.map(|value| text::columns_of(Number { value, apart }).max(4));
+    widths[0] = widths[0].max(6);
     widths
 }
 
@@ -174,7 +176,7 @@ impl fmt::Display for Titles {
     }
 }
 
-// The line of a task behind its name.
+// The line of a task behind its name. Each column is written together with the blanks in front of it, which spares a write.
 #[derive(Clone, Copy)]
 struct Line {
     row: Row,
@@ -184,29 +186,29 @@ struct Line {
 impl Line {
     // What a plan grants the task.
     fn granted<W: fmt::Write>(self, f: &mut fmt::Formatter<W>) -> fmt::Result {
-        write!(f, " {:7}", self.row.stretch())?;
+        write!(f, "{:8}", self.row.stretch())?;
         if self.layout.placed {
-            write!(f, " {:2}", self.row.granted.processor)?;
+            write!(f, "{:3}", self.row.granted.processor)?;
         }
-        write!(f, "  {:5.1}", Percent(self.row.share))
+        write!(f, "{:7.1}", Percent(self.row.share))
     }
 }
 
 impl fmt::Display for Line {
     fn fmt<W: fmt::Write>(&self, f: &mut fmt::Formatter<W>) -> fmt::Result {
         let Task { c, tmin, tmax, e } = self.row.task;
-        let [w0, w1, w2, w3, w4] = self.layout.numbers;
+        let [w0, w1, w2, w3, w4] = self.layout.numbers.map(|width| width.saturating_add(1));
         let number = |value| Number {
             value,
             apart: self.layout.apart,
         };
         if self.layout.planned {
-            write!(f, " {:w0$}", number(self.row.granted.period))?;
+            write!(f, "{:w0$}", number(self.row.granted.period))?;
             self.granted(f)?;
         }
         write!(
             f,
-            " {:w1$} {:w2$} {:w3$} {:w4$}",
+            "{:w1$}{:w2$}{:w3$}{:w4$}",
             number(c),
             number(tmin),
             number(tmax),

@@ -1,6 +1,6 @@
 -- `numeral::run_of` meets its contract: all bytes so far are digits, and their value is at hand. Assumes nothing.
 use Rattle.ground.proofs.Kit.{◌≡◌, sym, ◌∙◌, arith, length, get_or}
-use Rattle.numeral.proofs.Scan.{digit-is, going-none, going-end, going-stop, going-large, going_more}
+use Rattle.numeral.proofs.Scan.{digit-is, going-none, going-end, going-stop, going_more}
 use Rattle.numeral.proofs.run_of.Goals as goal
 
 pub loop-i-init : goal.loop-i-init
@@ -13,22 +13,10 @@ returns-then-not-is_ascii_digit c =
 pub overflow_sub-digit : goal.overflow_sub-digit
 overflow_sub-digit c = omega (arith, digit-is (get_or c.args.s.now c.loop-i.i 0) (sym c.is_ascii_digit.ensures.value ∙ c.if-not-is_ascii_digit.false))
 
-pub returns-in_err-checked_mul : goal.returns-in_err-checked_mul
-returns-in_err-checked_mul c =
-    let digit = sym c.is_ascii_digit.ensures.value ∙ c.if-not-is_ascii_digit.false in
-    rw c.from_residual.ensures (going-large _ _ _ c.loop-i.invariant c.loop-i-test.true digit (omega (arith, c.in_err-checked_mul.ensures)))
-
-pub returns-in_err-value : goal.returns-in_err-value
-returns-in_err-value c =
-    let digit = sym c.is_ascii_digit.ensures.value ∙ c.if-not-is_ascii_digit.false in
-    rw c.from_residual-in_err-value.ensures
-    (going-large _ _ _ c.loop-i.invariant c.loop-i-test.true digit (omega (arith, c.in_ok-checked_mul.ensures, c.in_err-value.ensures)))
-
 pub loop-i-preserved : goal.loop-i-preserved
 loop-i-preserved c =
     let digit = sym c.is_ascii_digit.ensures.value ∙ c.if-not-is_ascii_digit.false in
-    going_more _ _ _ c.loop-i.invariant c.loop-i-test.true digit _ (omega (arith, c.in_ok-checked_mul.ensures, c.in_ok-value.ensures))
-    (omega (arith, c.in_ok-value.ensures))
+    going_more _ _ _ c.loop-i.invariant c.loop-i-test.true digit _ (omega (arith, c.min-value.ensures))
 
 pub returns : goal.returns
 returns c =

@@ -1,5 +1,5 @@
 -- `numeral::run_of` meets its contract. Assumes nothing.
--- The loop: all bytes so far are digits, and their value is at hand, and not too large.
+-- The loop: all bytes so far are digits, and their value is at hand, held down.
 use Rattle.numeral.proofs.Scan.{Going}
 use Rattle.numeral.proofs.run_of.Given as goal
 
