@@ -6,7 +6,7 @@ ghost use Rattle.std.specs.Prelude.{◌≡◌};
 ghost use Rattle.admission.specs.Admission.{knows, misset, no_edition, misset_numbers, unsuited, misset_under};
 ghost use Rattle.admission.specs.Admission.{gate, served, roomy, gate_of};
 ghost use Rattle.admission.specs.Handover.{AdmittedSprung};
-ghost use Rattle.springs.specs.Handover.{Empty};
+ghost use Rattle.springs.specs.Handover.{Workable, Empty};
 
 use kinds::{Policy, Refusal, Settings, Table};
 use springs::Springs;
@@ -113,7 +113,8 @@ pub fn admit(
     springs: &mut Springs,
 ) -> Result<(), Refusal>
     requires { Empty settings.notch springs.old }
-    ensures { AdmittedSprung serves settings table.now.rows table.now.n room result springs.new }
+    ensures { AdmittedSprung serves settings table.now.rows table.now.n room result springs.new
+        × (Workable springs.old → Workable springs.new) }
 {
     gate_of(settings, serves, table.n, room)?;
     springs

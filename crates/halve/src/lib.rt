@@ -5,7 +5,7 @@
 ghost use Rattle.std.specs.Prelude.{◌≡◌, ◌≤◌, ◌<◌};
 ghost use Rattle.kinds.specs.Limits.{scale};
 ghost use Rattle.springs.specs.Springs.{spring_in, full_in};
-ghost use Rattle.springs.specs.Handover.{Chargeable, Beside};
+ghost use Rattle.springs.specs.Handover.{Chargeable, Beside, StaysLow};
 ghost use Rattle.policy.specs.Handover.{Light};
 ghost use Rattle.policy.specs.Weighed.{charged_at};
 ghost use Rattle.halve.specs.Halves.{half, HalvingEnds};
@@ -26,7 +26,7 @@ pub struct Range {
 fn look(w: Weights, springs: &mut Springs, range: Range) -> Range
     requires { Light w × Chargeable springs.old.notch springs.old × (range.from < range.to) × (range.to ≤ scale) × (range.looks ≤ 20) }
     ensures { (result ≡ half (charged_at w springs.old.notch (spring_in springs.old) springs.old.n) range)
-        × Beside springs.old springs.new }
+        × StaysLow springs.old springs.new × Beside springs.old springs.new }
 {
     let middle = (range.from + range.to) / 2;
     let passed = w.hold_charged(springs, middle);
@@ -51,7 +51,7 @@ pub fn least_step(w: Weights, springs: &mut Springs) -> Ended
     requires { Light w × Chargeable springs.old.notch springs.old }
     ensures { HalvingEnds (charged_at w springs.old.notch (spring_in springs.old) springs.old.n)
         (full_in springs.old springs.old.n) result
-        × Beside springs.old springs.new }
+        × StaysLow springs.old springs.new × Beside springs.old springs.new }
 {
     let full = springs.full_compression();
     let none = full + 1;

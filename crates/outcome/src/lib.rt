@@ -8,7 +8,7 @@ ghost use Rattle.kinds.specs.Answer.{handed};
 ghost use Rattle.kinds.specs.Policy.{meant};
 ghost use Rattle.springs.specs.Spring.{periods_on, loads_on};
 ghost use Rattle.springs.specs.Springs.{spring_in};
-ghost use Rattle.springs.specs.Handover.{Chargeable};
+ghost use Rattle.springs.specs.Handover.{Chargeable, Beside, StaysLow};
 ghost use Rattle.outcome.specs.Plan.{processor_on};
 ghost use Rattle.outcome.specs.Handover.{Placeable, MayGrant, Leaves};
 
@@ -30,8 +30,9 @@ fn write_periods(notch: u16, springs: &Springs, k: u32, out: &mut [u32])
 // The processor of each task, which pass at step k: 1 to m under policy 4, else 0.
 fn processors_at(settings: Settings, springs: &mut Springs, k: u32) -> [u16; Table::MOST_TASKS]
     requires { Placeable settings springs.old k }
-    ensures { list_to (λ (i : ℕ). get_or result i 0) springs.old.n
-        ≡ list_to (processor_on (meant settings.policy) settings.m (loads_on settings (spring_in springs.old) k)) springs.old.n }
+    ensures { (list_to (λ (i : ℕ). get_or result i 0) springs.old.n
+        ≡ list_to (processor_on (meant settings.policy) settings.m (loads_on settings (spring_in springs.old) k)) springs.old.n)
+        × StaysLow springs.old springs.new × Beside springs.old springs.new }
 {
     let asked = settings.policy;
     let policy = asked.meant();
@@ -53,7 +54,8 @@ pub fn grant(
 )
     requires { MayGrant answer settings springs.old (length periods.old) (length processors.old) }
     ensures { Leaves (handed answer) settings (spring_in springs.old) springs.old.n periods.old processors.old
-        periods.new processors.new }
+        periods.new processors.new
+        × StaysLow springs.old springs.new × Beside springs.old springs.new }
 {
     let Ok(step) = answer else {
         return;

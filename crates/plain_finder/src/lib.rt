@@ -8,7 +8,7 @@ ghost use Rattle.kinds.specs.Answer.{handed};
 ghost use Rattle.kinds.specs.Policy.{meant};
 ghost use Rattle.springs.specs.Spring.{shares_on, charges_on, loads_on};
 ghost use Rattle.springs.specs.Springs.{spring_in};
-ghost use Rattle.springs.specs.Handover.{Springy, Chargeable, Empty};
+ghost use Rattle.springs.specs.Handover.{Springy, Chargeable, Workable, Empty, StaysLow};
 ghost use Rattle.outcome.specs.Plan.{found, outcome, Meets};
 ghost use Rattle.outcome.specs.Handover.{Searchable, FoundSprung};
 ghost use Rattle.plain_finder.specs.Handover.{Searched};
@@ -50,7 +50,8 @@ fn find_step(
     springs: &mut Springs,
 ) -> Result<u32, Refusal>
     requires { Empty settings.notch springs.old }
-    ensures { FoundSprung true settings table.now.rows table.now.n room result springs.new }
+    ensures { FoundSprung true settings table.now.rows table.now.n room result springs.new
+        × (Workable springs.old → Workable springs.new) }
 {
     admission::admit(table, settings, true, room, springs)?;
     least_step(settings, springs).ok_or(Refusal::NoStepPasses)
@@ -60,7 +61,7 @@ fn find_step(
 fn least_step(settings: Settings, springs: &mut Springs) -> Option<u32>
     requires { Searchable settings springs.old }
     ensures { Searched (meant settings.policy) settings.m (loads_on settings (spring_in springs.old)) result
-        springs.old springs.new }
+        springs.old springs.new × StaysLow springs.old springs.new }
 {
     let asked = settings.policy;
     let test = Test {
@@ -77,7 +78,7 @@ fn least_step(settings: Settings, springs: &mut Springs) -> Option<u32>
 fn least_charged(test: Test, springs: &mut Springs) -> Option<u32>
     requires { Chargeable springs.old.notch springs.old }
     ensures { Searched test.policy test.m (charges_on springs.old.notch (spring_in springs.old)) result
-        springs.old springs.new }
+        springs.old springs.new × StaysLow springs.old springs.new }
 {
     let full = springs.full_compression();
     for step in 0..=full {
@@ -92,7 +93,8 @@ fn least_charged(test: Test, springs: &mut Springs) -> Option<u32>
 // and carries nothing.
 fn least_shared(test: Test, springs: &mut Springs) -> Option<u32>
     requires { Springy springs.old }
-    ensures { Searched test.policy test.m (shares_on (spring_in springs.old)) result springs.old springs.new }
+    ensures { Searched test.policy test.m (shares_on (spring_in springs.old)) result springs.old springs.new
+        × StaysLow springs.old springs.new }
 {
     let full = springs.full_compression();
     let most = test.most_sum(springs.n);

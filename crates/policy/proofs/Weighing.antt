@@ -6,9 +6,9 @@ use Rattle.ground.proofs.Folds.{sum-le, max_falls, sum-cong, max-cong}
 use Rattle.springs.specs.Spring.{charges_on}
 use Rattle.springs.specs.Springs.{spring_in}
 use Rattle.springs.specs.declared.Springs.{Springs}
-use Rattle.springs.specs.Handover.{Chargeable, Loaded, Summed}
+use Rattle.springs.specs.Handover.{Chargeable, Workable, StaysLow, Loaded, Summed}
 use Rattle.springs.proofs.Shares.{charge-most}
-use Rattle.springs.proofs.Columns.{sum-loaded}
+use Rattle.springs.proofs.Columns.{loaded-low, sum-loaded}
 use Rattle.kinds.specs.Limits.{scale}
 use Rattle.fit.specs.Fit.{load_in}
 use Rattle.fit.specs.Handover.{Loads}
@@ -41,7 +41,11 @@ weighed-stays w f g n falls t = le-leb _ _ (test-stays w _ _ _ _ (sum-le _ _ n f
 pub summed-loads : (load : ℕ → ℕ) (old new : Springs) (sum : ℕ) → Summed load old new sum → sum ≡ sum_to (load_in new.loads) new.n
 summed-loads load old new sum s = rw s.loaded.beside.count (s.sum_is ∙ sum-loaded load old.n old new s.loaded)
 
--- they are few, and none is above S where what is written is not
+-- where every call may be made on springs, their loads are few, and none is above S
+pub springs-loads : (s : Springs) → Workable s → Loads s.loads s.n
+springs-loads s h = record { few = s.few; most = λ i l. h.low i }
+
+-- loads that are written are few, and none is above S where what is written is not
 pub loaded-loads : (load : ℕ → ℕ) (old new : Springs) → ((i : ℕ) → i < old.n → load i ≤ scale) → Loaded load old.n old new → Loads new.loads new.n
 loaded-loads load old new most l =
     record {
@@ -51,6 +55,9 @@ loaded-loads load old new most l =
 
 pub charges-loads : (q k : ℕ) (old new : Springs) → Chargeable q old → Loaded (charges_on q (spring_in old) k) old.n old new → Loads new.loads new.n
 charges-loads q k old new w l = loaded-loads _ old new (λ i b. charge-most q (spring_in old i) (w i b) k) l
+
+pub charges-low : (q k : ℕ) (old new : Springs) → Chargeable q old → Loaded (charges_on q (spring_in old) k) old.n old new → StaysLow old new
+charges-low q k old new w l = loaded-low _ _ old new l (λ i b. charge-most q (spring_in old i) (w i b) k)
 
 pub charged-weighed : (w : Weights) (k : ℕ) (old new : Springs) → Loaded (charges_on old.notch (spring_in old) k) old.n old new
     → weighed w (load_in new.loads) new.n ≡ charged_at w old.notch (spring_in old) old.n k

@@ -9,7 +9,7 @@ ghost use Rattle.kinds.specs.Limits.{scale, most_tasks, most_processors};
 ghost use Rattle.kinds.specs.Policy.{is_weighed, Served};
 ghost use Rattle.springs.specs.Spring.{shares_on, charges_on};
 ghost use Rattle.springs.specs.Springs.{spring_in};
-ghost use Rattle.springs.specs.Handover.{Springy, Chargeable, Beside};
+ghost use Rattle.springs.specs.Handover.{Springy, Chargeable, Beside, StaysLow};
 ghost use Rattle.fit.specs.Fit.{load_in};
 ghost use Rattle.fit.specs.Handover.{Loads};
 ghost use Rattle.policy.specs.Sides.{weights_of, most_sum, left_of, margin_of};
@@ -129,7 +129,7 @@ impl Weights {
     pub fn hold_charged(self, springs: &mut Springs, k: u32) -> bool
         requires { Light self × Chargeable springs.old.notch springs.old }
         ensures { (result ≡ charged_at self springs.old.notch (spring_in springs.old) springs.old.n k)
-            × Beside springs.old springs.new }
+            × StaysLow springs.old springs.new × Beside springs.old springs.new }
     {
         let sum = springs.charge_sum(k);
         self.hold_summed(springs, sum)
@@ -204,7 +204,7 @@ impl Test {
     pub fn passes_charged(self, springs: &mut Springs, k: u32) -> bool
         requires { Chargeable springs.old.notch springs.old }
         ensures { (result ≡ passes_at self.policy self.m (charges_on springs.old.notch (spring_in springs.old)) springs.old.n k)
-            × Beside springs.old springs.new }
+            × StaysLow springs.old springs.new × Beside springs.old springs.new }
     {
         let sum = springs.charge_sum(k);
         if self.most_sum(springs.n) < sum {

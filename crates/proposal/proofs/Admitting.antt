@@ -6,14 +6,15 @@ use Rattle.kinds.specs.declared.Task.{Task}
 use Rattle.kinds.specs.declared.Settings.{Settings}
 use Rattle.kinds.specs.declared.Refusal.{Refusal}
 use Rattle.kinds.specs.declared.Refusal.TheVariants.{BadRecord}
+use Rattle.kinds.specs.Limits.{most_processors}
 use Rattle.kinds.specs.Answer.{Verdict}
 use Rattle.share.specs.Table.{first_bad}
 use Rattle.share.proofs.Tables.{all-good, all-on}
 use Rattle.springs.specs.Spring.{loads_on}
 use Rattle.springs.specs.declared.Springs.{Springs}
 use Rattle.springs.specs.Springs.{spring_in}
-use Rattle.springs.specs.Handover.{Chargeable, Loaded, Sprung, TakenIn}
-use Rattle.springs.proofs.Columns.{loads-are, loads-most, sprung-chargeable, taken-good, taken-bad}
+use Rattle.springs.specs.Handover.{Chargeable, Workable, Loaded, Sprung, TakenIn}
+use Rattle.springs.proofs.Columns.{workable-beside, loaded-low, loads-are, loads-most, sprung-chargeable, taken-good, taken-bad, taken-workable}
 use Rattle.fit.specs.Handover.{Loads}
 use Rattle.policy.specs.Under.{rows_under}
 use Rattle.policy.proofs.Weighing.{loaded-loads}
@@ -55,7 +56,19 @@ admitted s rows n proposed room e =
     let a = then-admitted (gate_of s n proposed room) (records_good s.swap s.notch rows n) e in
     record { passed = gate-passed s n proposed room a.0; none-bad = ltb-false _ _ (unchecked _ _ _ a.1).0 }
 
--- the springs of good records may be charged, and the loads of step k that are worked out from them are the tasks'
+-- the loads of step k that are worked out from the springs of some records are the tasks'
+pub loads-held : (s : Settings) (rows : List Task) (n : ℕ) (springs : Springs) → s.m ≤ most_processors → Sprung (rows_under s rows n) n springs
+    → (k : ℕ) (new : Springs) → Loaded (loads_on s (spring_in springs) k) springs.n springs new → Loads new.loads new.n → LoadsOf s rows n k new
+loads-held s rows n springs m-most sprung k new w light =
+    let all : new.n ≡ n = w.beside.count ∙ sprung.count in
+    record {
+      m-most = m-most;
+      count = all;
+      light = rw all at light;
+      are = λ i l. w.are i (omega (arith, sprung.count)) ∙ loads-are (rows_under s rows n) n springs sprung s k i l;
+    }
+
+-- those of good records may be charged, and none of their loads is above S
 module _ (s : Settings) (rows : List Task) (n proposed room : ℕ) (ready : Ready s rows n proposed room)
     (springs : Springs) (sprung : Sprung (rows_under s rows n) n springs) where
   pub springs-chargeable : Chargeable s.notch springs
@@ -64,22 +77,21 @@ module _ (s : Settings) (rows : List Task) (n proposed room : ℕ) (ready : Read
       let on = all-on s.swap s.notch rows n ready.none-bad ready.passed.notched in
       sprung-chargeable (rows_under s rows n) n springs sprung good s.notch on
 
-  pub loads-held : (k : ℕ) (new : Springs) → Loaded (loads_on s (spring_in springs) k) springs.n springs new → LoadsOf s rows n k new
-  loads-held k new w =
-      let all : new.n ≡ n = w.beside.count ∙ sprung.count in
-      let light : Loads new.loads new.n = loaded-loads _ springs new (loads-most s springs springs-chargeable k) w in
-      record {
-        m-most = ready.passed.few.m-most;
-        count = all;
-        light = rw all at light;
-        are = λ i l. w.are i (omega (arith, sprung.count)) ∙ loads-are (rows_under s rows n) n springs sprung s k i l;
-      }
+  pub good-held : (k : ℕ) (new : Springs) → Loaded (loads_on s (spring_in springs) k) springs.n springs new → LoadsOf s rows n k new
+  good-held k new w =
+      loads-held s rows n springs ready.passed.few.m-most sprung k new w (loaded-loads _ springs new (loads-most s springs springs-chargeable k) w)
 
 -- the walk over the records of a call that passed the gate: what it found is the admission's, and where that admits its springs are there
 module _ (s : Settings) (rows : List Task) (n proposed room : ℕ) (gate : Verdict) (g : gate ≡ gate_of s n proposed room) where
   pub refused-loaded : (r : Refusal) (k : ℕ) (springs : Springs) → gate ≡ Err r → AdmittedLoaded s rows n k proposed room (Err r) springs
   unfolding admission
   refused-loaded r k springs e = record { is = rw (← g, e); loads = λ o. not-admitted (Err r) refl o }
+
+  -- every call may be made on the springs that are taken in where it could on those that stood there
+  pub walked-workable : gate ≡ (Ok tt) → (r : Result (Unit {0}) ℕ) (old now : Springs) → TakenIn s.swap s.notch rows n r now → now.loads ≡ old.loads
+      → Workable old → Workable now
+  walked-workable opens r old now t same =
+      taken-workable s.swap s.notch rows n r now t (gate-passed s n proposed room (sym g ∙ opens)).notched old same
 
   module _ (opens : gate ≡ (Ok tt)) (r : Result (Unit {0}) ℕ) (now : Springs) (t : TakenIn s.swap s.notch rows n r now)
       (a : Verdict) (mapped : MatchResult r (λ x. a ≡ Ok x) (λ i. IsErrAnd a (λ y. y ≡ BadRecord i))) where
@@ -113,7 +125,14 @@ module _ (s : Settings) (rows : List Task) (n proposed room : ℕ) (gate : Verdi
           → AdmittedLoaded s rows n k proposed room (Ok tt) new
       well-loaded k new w =
           let ready = admitted s rows n proposed room (sym admits) in
-          record { is = admits; loads = λ _. loads-held s rows n proposed room ready now good.1 k new w }
+          record { is = admits; loads = λ _. good-held s rows n proposed room ready now good.1 k new w }
+
+      -- and they are left as those that were taken in
+      pub well-workable : (k : ℕ) (old new : Springs) → Loaded (loads_on s (spring_in now) k) now.n now new → now.loads ≡ old.loads
+          → Workable old → Workable new
+      well-workable k old new w same h =
+          let low = loaded-low (loads_on s (spring_in now) k) now.n now new w (loads-most s now may-charge k) in
+          workable-beside now new w.beside low (walked-workable opens r old now t same h)
 
 -- an admitted call: its counts are checked, and the springs have its loads
 pub record Checked (s : Settings) (rows : List Task) (n k proposed room : ℕ) (springs : Springs) : Type 0 where

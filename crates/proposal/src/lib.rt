@@ -3,6 +3,7 @@
 #![tactic(auto)]
 
 ghost use Rattle.std.specs.Prelude.{◌≡◌, length, get_or};
+ghost use Rattle.springs.specs.Handover.{Workable};
 ghost use Rattle.fit.specs.Fit.{load_in};
 ghost use Rattle.proposal.specs.Loads.{is_out_of_range, is_overfull};
 ghost use Rattle.proposal.specs.Proposal.{place_in, gate_of, outcome, Meets};
@@ -29,7 +30,8 @@ pub fn admit(
     room: usize,
     springs: &mut Springs,
 ) -> Result<(), Refusal>
-    ensures { AdmittedLoaded settings table.rows table.n step proposed room result springs.new }
+    ensures { AdmittedLoaded settings table.rows table.n step proposed room result springs.new
+        × (Workable springs.old → Workable springs.new) }
 {
     gate_of(settings, table.n, proposed, room)?;
     springs

@@ -8,7 +8,7 @@ ghost use Rattle.kinds.specs.Answer.{handed};
 ghost use Rattle.kinds.specs.Limits.{most_tasks};
 ghost use Rattle.springs.specs.Spring.{saturations};
 ghost use Rattle.springs.specs.Springs.{spring_in};
-ghost use Rattle.springs.specs.Handover.{Springy, Empty, SumIs, Beside};
+ghost use Rattle.springs.specs.Handover.{Springy, Workable, Empty, SumIs, Beside, StaysLow};
 ghost use Rattle.policy.specs.Weighed.{weighed_at};
 ghost use Rattle.policy.specs.Handover.{Light};
 ghost use Rattle.quick_finder.specs.Search.{due_after, OneLook};
@@ -65,7 +65,8 @@ pub fn decide(table: Table, settings: Settings, room: usize) -> Result<u32, Refu
 // The answer and its looks; the springs of the table are taken in. No look is made of a table that is not admitted.
 fn find_step(table: &Table, settings: Settings, room: usize, springs: &mut Springs) -> Looked
     requires { Empty settings.notch springs.old }
-    ensures { LookedSprung settings table.now.rows table.now.n room result.answer result.looks springs.new }
+    ensures { LookedSprung settings table.now.rows table.now.n room result.answer result.looks springs.new
+        × (Workable springs.old → Workable springs.new) }
 {
     if let Err(refusal) = admission::admit(table, settings, false, room, springs) {
         return Looked {
@@ -83,7 +84,7 @@ fn find_step(table: &Table, settings: Settings, room: usize, springs: &mut Sprin
 // The search of the settings' edition.
 fn search_under(settings: Settings, springs: &mut Springs) -> Ended
     requires { Searchable settings springs.old }
-    ensures { SearchUnder settings springs.old result × Beside springs.old springs.new }
+    ensures { SearchUnder settings springs.old result × StaysLow springs.old springs.new × Beside springs.old springs.new }
 {
     let asked = settings.policy;
     let test = Test {

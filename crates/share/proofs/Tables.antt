@@ -47,18 +47,30 @@ pub first-bad-is : (w q : ℕ) (rows : List Task) (n : ℕ) → IsFirst (λ i. n
 unfolding first_bad
 first-bad-is w q rows n = first-is (λ i. not (is_good w q (at rows i))) n
 
--- where there is none, each record is good once its swaps are paid for, and stands on notches
-module _ (w q : ℕ) (rows : List Task) (n : ℕ) (none : n ≤ first_bad w q rows n) where
-  not-bad : (i : ℕ) → i < n → is_good w q (at rows i) ≡ true
-  not-bad i l =
-      let e : not (is_good w q (at rows i)) ≡ false = (first-bad-is w q rows n).before i (omega arith) in
-      by_bool (is_good w q (at rows i)) (λ g. g) (λ g. true-false (rw g) e)
+-- each record before it is good once its swaps are paid for, and stands on notches
+module _ (w q : ℕ) (rows : List Task) (n : ℕ) where
+  module _ (i : ℕ) (l : i < first_bad w q rows n) where
+    within : i < n
+    within = omega (arith, (first-bad-is w q rows n).last)
 
-  pub all-good : (i : ℕ) → i < n → Good (at (priced_rows w rows n) i)
-  all-good i l = rw (priced-at w rows n i l) (good-is w q (at rows i) (not-bad i l))
+    not-bad : is_good w q (at rows i) ≡ true
+    not-bad =
+        let e : not (is_good w q (at rows i)) ≡ false = (first-bad-is w q rows n).before i l in
+        by_bool (is_good w q (at rows i)) (λ g. g) (λ g. true-false (rw g) e)
 
-  pub all-on : 1 ≤ q → (i : ℕ) → i < n → OnNotch q (at (priced_rows w rows n) i)
-  all-on some i l = rw (priced-at w rows n i l) (notch-is w q (at rows i) some (not-bad i l))
+    pub good-before : Good (at (priced_rows w rows n) i)
+    good-before = rw (priced-at w rows n i within) (good-is w q (at rows i) not-bad)
+
+    pub on-before : 1 ≤ q → OnNotch q (at (priced_rows w rows n) i)
+    on-before some = rw (priced-at w rows n i within) (notch-is w q (at rows i) some not-bad)
+
+  -- where there is none, all are
+  module _ (none : n ≤ first_bad w q rows n) where
+    pub all-good : (i : ℕ) → i < n → Good (at (priced_rows w rows n) i)
+    all-good i l = good-before i (omega arith)
+
+    pub all-on : 1 ≤ q → (i : ℕ) → i < n → OnNotch q (at (priced_rows w rows n) i)
+    all-on some i l = on-before i (omega arith) some
 
 -- it depends on the first n records only
 pub bad-same : (w q : ℕ) (xs ys : List Task) (n : ℕ) → ((i : ℕ) → i < n → at xs i ≡ at ys i) → first_bad w q xs n ≡ first_bad w q ys n

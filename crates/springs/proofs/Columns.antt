@@ -1,9 +1,9 @@
 -- Columns: the walks that write loads and take springs in, and what the springs then say of a table.
 -- Assumes nothing.
-use Rattle.ground.proofs.Kit.{ℕ, ◌+◌, ◌≤◌, ◌<◌, true, false, List, ◌≡◌, refl, sym, ◌∙◌, ap, subst, arith, length, get_or, set, take, length-take-le, length-set}
-use Rattle.ground.proofs.Kit.{get_or-set_same, get_or-set_other, lt-ltb, le-ltb, Ok, Err, Result}
+use Rattle.ground.proofs.Kit.{ℕ, ◌+◌, ◌≤◌, ◌<◌, suc, true, false, List, ◌≡◌, refl, sym, ◌∙◌, ap, subst, arith, length, get_or, set, take, replicate, length-take-le, length-set}
+use Rattle.ground.proofs.Kit.{length-replicate, get_or-set_same, get_or-set_other, lt-ltb, le-ltb, Ok, Err, Result}
 use mathlib.Core.Path.{fun_ext}
-use Rattle.std.proofs.lemmas.List.{get_or-take}
+use Rattle.std.proofs.lemmas.List.{get_or-take, get_or_past, get_or-replicate}
 use Rattle.ground.specs.Folds.{list_to, sum_to, AddedUp}
 use Rattle.ground.proofs.Buffer.{list-cong}
 use Rattle.ground.proofs.Cases.{by-eq, by_bool, by_le}
@@ -15,13 +15,13 @@ use Rattle.kinds.specs.Settings.{tests_charge}
 use Rattle.kinds.specs.Task.{at, Good, OnNotch}
 use Rattle.share.specs.Share.{share_at, saturation_at, period_at, charge_at, load_at}
 use Rattle.share.specs.Table.{first_bad, priced_rows, periods_at}
-use Rattle.share.proofs.Tables.{first-bad-is}
+use Rattle.share.proofs.Tables.{first-bad-is, good-before, on-before}
 use Rattle.springs.specs.declared.Spring.{Spring}
 use Rattle.springs.specs.declared.Springs.{Springs}
 use Rattle.springs.specs.Spring.{spring_of, share_on, saturation_on, shares_on, periods_on, charges_on, loads_on}
-use Rattle.springs.specs.Allowed.{Allowed, spring_over}
+use Rattle.springs.specs.Allowed.{Allowed, AllAtMost, spring_over}
 use Rattle.springs.specs.Springs.{spring_in, full_in}
-use Rattle.springs.specs.Handover.{Springy, Chargeable, Beside, Loaded, Summed, Put, Sprung, found_bad, TakenIn}
+use Rattle.springs.specs.Handover.{Springy, Chargeable, Workable, Beside, StaysLow, Loaded, Summed, Put, Sprung, found_bad, TakenIn}
 use Rattle.springs.proofs.Shares.{share-on, saturation-on, share-most, saturation-low, charge-most, good-within, good-allowed}
 
 -- a walk over the first n numbers of a column
@@ -64,6 +64,19 @@ module _ (largest least elasticity saturation cost tmin : List ℕ) (i : ℕ) (s
           get_or-set_same tmin i s.tmin 0 f,
         )
 
+-- a column with no number above a bound
+pub at-most-set : (most i v : ℕ) (column : List ℕ) → i < length column → v ≤ most → AllAtMost most column → AllAtMost most (set column i v)
+at-most-set most i v column l h all j =
+    by-eq j i
+    (λ q. rw q (rw (get_or-set_same column i v 0 l) h))
+    (λ d. rw (get_or-set_other column i j v 0 d) (all j))
+
+pub none-at-most : (most : ℕ) → AllAtMost most (replicate most_tasks 0)
+none-at-most most i =
+    by_le (suc i) most_tasks
+    (λ l. omega (arith, get_or-replicate {A = ℕ} most_tasks i 0 0 l))
+    (λ l. omega (arith, get_or_past {X = ℕ} (replicate most_tasks 0) i 0 (omega (arith, length-replicate {A = ℕ} most_tasks 0))))
+
 -- nothing but loads has moved
 pub beside_same : (s : Springs) → Beside s s
 beside_same s =
@@ -97,6 +110,9 @@ module _ (old new : Springs) (b : Beside old new) where
   -- on their own notch too
   pub still-chargeable : Chargeable old.notch old → Chargeable new.notch new
   still-chargeable w i l = subst (λ (q : ℕ). Allowed q (spring_in new i)) (sym b.notch) (chargeable-beside old.notch w i l)
+
+  pub workable-beside : StaysLow old new → Workable old → Workable new
+  workable-beside low h = record { allowed = still-chargeable h.allowed; low = low h.low }
 
 -- what may be charged is within its limits
 pub charged-springy : (q : ℕ) (s : Springs) → Chargeable q s → Springy s
@@ -158,6 +174,13 @@ module _ (s : Settings) (springs : ℕ → Spring) (k n : ℕ) (old new : Spring
 
   pub as-charges : tests_charge s ≡ true → Loaded (charges_on s.notch springs k) n old new → Loaded (loads_on s springs k) n old new
   as-charges e w = record { beside = w.beside; long = w.long; are = λ i l. rw e (w.are i l); rest = w.rest }
+
+-- no load comes to above S where none that is written is
+pub loaded-low : (load : ℕ → ℕ) (n : ℕ) (old new : Springs) → Loaded load n old new → ((i : ℕ) → i < n → load i ≤ scale) → StaysLow old new
+loaded-low load n old new w most low i =
+    by_le n i
+    (λ h. rw (w.rest i h) (low i))
+    (λ h. rw (w.are i h) (most i h))
 
 -- the loads that a walk has written, summed
 pub sum-loaded : (load : ℕ → ℕ) (n : ℕ) (old new : Springs) → Loaded load n old new → sum_to load n ≡ sum_to (λ i. get_or new.loads i 0) n
@@ -259,6 +282,17 @@ module _ (w q : ℕ) (rows : List Task) (n : ℕ) (r : Result (Unit {0}) ℕ) (n
   taken-bad i e =
       let one = found-one (first_bad w q rows n) n i (sym t.is ∙ e) in
       (one.0, omega (arith, one.0, one.1))
+
+  -- whichever it is, every call may be made on them where it could on those that stood there
+  pub taken-workable : 1 ≤ q → (old : Springs) → now.loads ≡ old.loads → Workable old → Workable now
+  taken-workable some old same h =
+      let first = first_bad w q rows n in
+      let chargeable =
+      sprung-chargeable (priced_rows w rows n) first now t.sprung (λ i l. good-before w q rows n i l) q (λ i l. on-before w q rows n i l some) in
+      record {
+        allowed = subst (λ (p : ℕ). Chargeable p now) (sym t.notch) chargeable;
+        low = subst (AllAtMost scale) (sym same) h.low;
+      }
 
 -- the saturation step that stands in the column
 pub saturation-in : (s : Springs) → Springy s → (i : ℕ) → i < s.n → get_or s.saturation i 0 ≡ saturation_on (spring_in s i)

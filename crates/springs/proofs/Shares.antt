@@ -39,6 +39,9 @@ share-high s w k = omega (arith, w.least-largest)
 pub share-most : (s : Spring) → Within s → (k : ℕ) → share_on s k ≤ scale
 share-most s w k = omega (arith, share-high s w k, w.largest-most)
 
+pub let-down-most : (s : Spring) → Within s → (share : ℕ) → share ≤ scale → let_down s share ≤ scale
+let-down-most s w share h = omega (arith, h, w.least-largest, w.largest-most)
+
 pub shares-fall : (s : Spring) (j k : ℕ) → j ≤ k → share_on s k ≤ share_on s j
 unfolding share_on
 shares-fall s j k h = share-falls s.largest s.least s.elasticity j k h

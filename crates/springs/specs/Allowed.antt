@@ -1,4 +1,4 @@
--- Springs within their limits, and springs that are allowed periods.
+-- Springs within their limits, springs that are allowed periods, and columns with no number above a bound.
 -- Assumes nothing.
 use Rattle.std.specs.Prelude.{ℕ, ◌≤◌, ◌<◌, List, ◌≡◌, get_or}
 use Rattle.kinds.specs.Limits.{scale, greatest_elasticity, longest_period}
@@ -33,6 +33,10 @@ spring_over largest least elasticity saturation cost tmin i =
       cost = get_or cost i 0;
       tmin = get_or tmin i 0;
     }
+
+-- no number of a column is above a bound
+abbrev pub AllAtMost : ℕ → List ℕ → Type 0
+AllAtMost most column = (i : ℕ) → get_or column i 0 ≤ most
 
 -- the first n springs are within their limits
 abbrev pub AllWithin : (ℕ → Spring) → ℕ → Type 0

@@ -10,7 +10,7 @@ use Rattle.share.specs.Table.{first_bad, priced_rows}
 use Rattle.springs.specs.declared.Spring.{Spring}
 use Rattle.springs.specs.declared.Springs.{Springs}
 use Rattle.springs.specs.Spring.{spring_of, shares_on}
-use Rattle.springs.specs.Allowed.{AllWithin, AllAllowed}
+use Rattle.springs.specs.Allowed.{AllAtMost, AllWithin, AllAllowed}
 use Rattle.springs.specs.Springs.{spring_in}
 
 -- the springs are within their limits
@@ -20,6 +20,11 @@ Springy s = AllWithin (spring_in s) s.n
 -- or even allowed periods on a notch
 abbrev pub Chargeable : ℕ → Springs → Type 0
 Chargeable q s = AllAllowed q (spring_in s) s.n
+
+-- every call may be made on springs that are allowed periods on the notch that they name, with no load above S
+pub record Workable (s : Springs) : Type 0 where
+  pub allowed : Chargeable s.notch s
+  pub low : AllAtMost scale s.loads
 
 -- the sum of the shares at step k
 abbrev pub SumIs : (ℕ → Spring) → ℕ → ℕ → ℕ → Type 0
@@ -40,6 +45,10 @@ pub record Beside (old new : Springs) : Type 0 where
   pub tmin : new.tmin ≡ old.tmin
   pub count : new.n ≡ old.n
   pub notch : new.notch ≡ old.notch
+
+-- and no load has come to above S where none was
+abbrev pub StaysLow : Springs → Springs → Type 0
+StaysLow old new = AllAtMost scale old.loads → AllAtMost scale new.loads
 
 -- the first n loads are written, and nothing else has moved
 pub record Loaded (load : ℕ → ℕ) (n : ℕ) (old new : Springs) : Type 0 where

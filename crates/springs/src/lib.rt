@@ -106,11 +106,11 @@ impl Springs {
     ghost use Rattle.std.specs.Prelude.{ℕ, get_or};
     ghost use Rattle.springs.specs.Spring.{let_down, shares_on, periods_on, charges_on, loads_on};
     ghost use Rattle.springs.specs.Springs.{spring_in, full_in};
-    ghost use Rattle.springs.specs.Handover.{Springy, Chargeable, Empty, Loaded, Summed, Put, TakenIn};
+    ghost use Rattle.springs.specs.Handover.{Springy, Chargeable, Workable, Empty, Loaded, Summed, Put, TakenIn};
 
     // No springs yet.
     pub fn new(notch: u16) -> Springs
-        ensures { Empty notch result }
+        ensures { Empty notch result × Workable result }
     {
         let none = [0u32; Table::MOST_TASKS];
         Springs {
@@ -144,7 +144,7 @@ impl Springs {
     // One spring more.
     fn push(&mut self, spring: Spring)
         requires { self.old.n < most_tasks }
-        ensures { Put spring self.old self.new }
+        ensures { Put spring self.old self.new × (self.new.loads ≡ self.old.loads) }
     {
         let i = self.n;
         self.largest[i] = spring.largest;
@@ -160,7 +160,7 @@ impl Springs {
     // record that is not good there, whose number is the error.
     pub fn take_in(&mut self, table: Table, swap: u16, notch: u16) -> Result<(), usize>
         requires { (table.n ≤ most_tasks) × (1 ≤ notch) }
-        ensures { TakenIn swap notch table.rows table.n result self.new }
+        ensures { TakenIn swap notch table.rows table.n result self.new × (self.new.loads ≡ self.old.loads) }
     {
         self.n = 0;
         self.notch = notch;

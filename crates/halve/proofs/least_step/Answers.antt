@@ -1,5 +1,5 @@
--- `halve::least_step` meets its contract. The loop: the least step that passes is one of those left, nothing but loads has moved, and what is
--- left falls. Assumes nothing.
+-- `halve::least_step` meets its contract. The loop: the least step that passes is one of those left, nothing but loads has moved, none of
+-- them to above S, and what is left falls. Assumes nothing.
 use Rattle.ground.proofs.Kit.{ℕ, ◌≤◌, Bool, ◌≡◌, ◌∙◌, ap, arith}
 use Rattle.ground.proofs.Halving.{counted-all}
 use Rattle.springs.specs.Springs.{spring_in}
@@ -29,7 +29,7 @@ pub overflow_add-none : goal.overflow_add-none
 overflow_add-none c = omega (arith, low c)
 
 pub loop-range-init : goal.loop-range-init
-loop-range-init c = (counted-all (test c.args.w c.args.springs.now) _, beside_same _)
+loop-range-init c = (counted-all (test c.args.w c.args.springs.now) _, beside_same _, λ h. h)
 
 pub look-range-requires : goal.look-range-requires
 look-range-requires c =
@@ -45,15 +45,16 @@ pub loop-range-preserved : goal.loop-range-preserved
 loop-range-preserved c =
     let rising = charged-rising c.args.w c.args.springs.now c.requires.1 in (
       rw (halved c) (going_on (test c.args.w c.args.springs.now) c.loop-range.range c.loop-range-test.true _ rising c.loop-range.invariant.0),
-      beside-more _ _ _ c.loop-range.invariant.1 c.look-range.ensures.1,
+      beside-more _ _ _ c.loop-range.invariant.1 c.look-range.ensures.2,
+      λ h. c.look-range.ensures.1 (c.loop-range.invariant.2 h),
     )
 
 pub returns-then-range-full : goal.returns-then-range-full
 returns-then-range-full c =
     let ends = going-found (test c.args.w c.args.springs.now) _ c.loop-range.range c.loop-range.invariant.0 c.loop-range-test.false in
-    (rw (← c.full_compression-full.ensures) (ends c.if-range-full.true), c.loop-range.invariant.1)
+    (rw (← c.full_compression-full.ensures) (ends c.if-range-full.true), c.loop-range.invariant.2, c.loop-range.invariant.1)
 
 pub returns : goal.returns
 returns c =
     let ends = going-none (test c.args.w c.args.springs.now) _ c.loop-range.range c.loop-range.invariant.0 c.loop-range-test.false in
-    (rw (← c.full_compression-full.ensures) (ends c.if-range-full.false), c.loop-range.invariant.1)
+    (rw (← c.full_compression-full.ensures) (ends c.if-range-full.false), c.loop-range.invariant.2, c.loop-range.invariant.1)

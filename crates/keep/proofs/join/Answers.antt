@@ -25,7 +25,7 @@ returns-in-Err c =
     let args = c.args in
     let table = args.kept.table in
     let taken : TakenIn args.swap args.notch (joined_rows table.rows table.n args.task) (table.n + 1) c.take_in.result c.take_in.new.self =
-    rw c.with-after.ensures at c.take_in.ensures in
+    rw c.with-after.ensures at c.take_in.ensures.0 in
     let bad = taken-bad _ _ _ _ _ _ taken _ c.in-Err.is in
     c.refuse-in-Err.ensures ∙ join-bad _ _ args.kept args.task c.if-notch-eq0.false c.if-n-ge-MOST_TASKS.false _ bad.0 (omega (arith, bad.1))
 
@@ -34,18 +34,18 @@ index_of-index-requires c =
     let args = c.args in
     let table = args.kept.table in
     let taken : TakenIn args.swap args.notch (joined_rows table.rows table.n args.task) (table.n + 1) c.take_in.result c.take_in.new.self =
-    rw c.with-after.ensures at c.take_in.ensures in
+    rw c.with-after.ensures at c.take_in.ensures.0 in
     let good = taken-good _ _ _ _ _ _ taken c.in_default.is in
-    joined-indexable _ _ _ _ _ good (omega (arith, c.if-n-ge-MOST_TASKS.false))
+    joined-indexable _ _ _ _ good.1 (omega (arith, c.if-n-ge-MOST_TASKS.false)) _ good.0
 
 pub returns : goal.returns
 returns c =
     let args = c.args in
     let table = args.kept.table in
     let taken : TakenIn args.swap args.notch (joined_rows table.rows table.n args.task) (table.n + 1) c.take_in.result c.take_in.new.self =
-    rw c.with-after.ensures at c.take_in.ensures in
+    rw c.with-after.ensures at c.take_in.ensures.0 in
     let good = taken-good _ _ _ _ _ _ taken c.in_default.is in
-    let index = joined-index _ _ _ _ _ good (omega (arith, c.if-n-ge-MOST_TASKS.false)) _ c.index_of-index.ensures in
+    let index = joined-index _ _ _ _ good.1 (omega (arith, c.if-n-ge-MOST_TASKS.false)) _ c.index_of-index.ensures in
     c.accept.ensures
     ∙ fresh-is _ _ _ _ _ c.with-after.ensures index
     ∙ join-made _ _ _ _ c.if-notch-eq0.false c.if-n-ge-MOST_TASKS.false _ refl (omega (arith, good.0))

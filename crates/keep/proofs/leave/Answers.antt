@@ -15,26 +15,26 @@ returns-then-n-gt-MOST_TASKS c =
 
 pub returns-in-Err : goal.returns-in-Err
 returns-in-Err c =
-    let bad = taken-bad _ _ _ _ _ _ c.take_in.ensures _ c.in-Err.is in
+    let bad = taken-bad _ _ _ _ _ _ c.take_in.ensures.0 _ c.in-Err.is in
     c.refuse-in-Err.ensures ∙ leave-bad _ _ _ _ c.if-notch-eq0.false c.if-n-gt-MOST_TASKS.false _ bad.0 bad.1
 
 pub returns-then-n-place : goal.returns-then-n-place
 returns-then-n-place c =
-    let good = taken-good _ _ _ _ _ _ c.take_in.ensures c.in_default.is in
+    let good = taken-good _ _ _ _ _ _ c.take_in.ensures.0 c.in_default.is in
     c.refuse-then-n-place.ensures
     ∙ leave-missing _ _ _ _ c.if-notch-eq0.false c.if-n-gt-MOST_TASKS.false _ refl good.0 c.if-n-place.true
 
 pub index_of-index-requires : goal.index_of-index-requires
 index_of-index-requires c =
-    let good = taken-good _ _ _ _ _ _ c.take_in.ensures c.in_default.is in
-    left-indexable _ _ _ _ _ good c.if-n-gt-MOST_TASKS.false _
+    let good = taken-good _ _ _ _ _ _ c.take_in.ensures.0 c.in_default.is in
+    left-indexable _ _ _ _ good.1 c.if-n-gt-MOST_TASKS.false _ _ good.0
 
 pub returns : goal.returns
 unfolding left_rows
 returns c =
     let few = c.if-n-gt-MOST_TASKS.false in
-    let good = taken-good _ _ _ _ _ _ c.take_in.ensures c.in_default.is in
-    let index = left-index _ _ _ _ _ good few _ _ c.index_of-index.ensures in
+    let good = taken-good _ _ _ _ _ _ c.take_in.ensures.0 c.in_default.is in
+    let index = left-index _ _ _ _ good.1 few _ _ c.index_of-index.ensures in
     c.accept.ensures
     ∙ fresh-is _ _ _ _ _ c.without-rest.ensures index
     ∙ leave-made _ _ _ _ c.if-notch-eq0.false few _ refl good.0 c.if-n-place.false

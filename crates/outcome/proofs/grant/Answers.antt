@@ -16,9 +16,12 @@ pub returns : goal.returns
 returns c =
     let s = c.args.springs.now in
     let front = list-taken 0 c.processors_at-placed.result s.n (omega (arith, s.few)) in
-    let placed = c.copy_from_slice.ensures.after ∙ (sym front ∙ c.processors_at-placed.ensures) in
-    rw c.in-Ok.is
-    (record {
-      periods-are = c.write_periods.ensures;
-      processors-are = ap (λ (l : List ℕ). l ++ drop s.n c.args.processors.now) placed;
-    })
+    let placed = c.copy_from_slice.ensures.after ∙ (sym front ∙ c.processors_at-placed.ensures.0) in
+    rw c.in-Ok.is (
+      record {
+        periods-are = c.write_periods.ensures;
+        processors-are = ap (λ (l : List ℕ). l ++ drop s.n c.args.processors.now) placed;
+      },
+      c.processors_at-placed.ensures.1,
+      c.processors_at-placed.ensures.2,
+    )

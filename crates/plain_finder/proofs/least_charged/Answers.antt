@@ -1,11 +1,12 @@
--- `plain_finder::least_charged` meets its contract. The loop: no step before this one passes, and nothing but loads has moved. Assumes nothing.
+-- `plain_finder::least_charged` meets its contract. The loop: no step before this one passes, nothing but loads has moved, and
+-- none of them to above S. Assumes nothing.
 use Rattle.ground.proofs.Kit.{ℕ, ◌+◌, ◌<◌, Bool, false, ◌≡◌, sym, ◌∙◌, ap, arith}
 use Rattle.ground.proofs.First.{first_more}
 use Rattle.ground.proofs.Least.{least-here, least-none}
 use Rattle.springs.specs.Spring.{charges_on}
 use Rattle.springs.specs.Springs.{spring_in}
 use Rattle.springs.specs.declared.Springs.{Springs}
-use Rattle.springs.specs.Handover.{Beside}
+use Rattle.springs.specs.Handover.{Beside, StaysLow}
 use Rattle.springs.proofs.Columns.{beside-more, still-chargeable}
 use Rattle.policy.specs.declared.Test.{Test}
 use Rattle.policy.specs.Passing.{passes_at, least_step}
@@ -28,7 +29,10 @@ tested c =
     c.passes_charged.ensures.0 ∙ (notch ∙ test-beside s now b t.policy t.m (charges_on s.notch) c.loop-step.step)
 
 moved : (c : After-passes_charged) → Beside c.args.springs.now c.passes_charged.new.springs
-moved c = beside-more _ _ _ c.loop-step.invariant.0 c.passes_charged.ensures.1
+moved c = beside-more _ _ _ c.loop-step.invariant.0 c.passes_charged.ensures.2
+
+stays : (c : After-passes_charged) → StaysLow c.args.springs.now c.passes_charged.new.springs
+stays c h = c.passes_charged.ensures.1 (c.loop-step.invariant.2 h)
 
 -- no step up to this one passes
 failed : (c : Else-passes_charged) → (j : ℕ) → j < c.loop-step.step + 1 → test c.args.test c.args.springs.now j ≡ false
@@ -43,21 +47,25 @@ pub returns-then-passes_charged : goal.returns-then-passes_charged
 unfolding least_step
 returns-then-passes_charged c =
     let last = c.full_compression-full.ensures in
-    let passed = sym (tested c.before) ∙ c.if-passes_charged.true in
-    record {
-      least = least-here (test c.args.test c.args.springs.now) _ _ c.loop-step.invariant.1
-          (omega (arith, last, c.loop-step-test.true)) passed;
-      beside = moved c.before;
-    }
+    let passed = sym (tested c.before) ∙ c.if-passes_charged.true in (
+      record {
+        least = least-here (test c.args.test c.args.springs.now) _ _ c.loop-step.invariant.1
+            (omega (arith, last, c.loop-step-test.true)) passed;
+        beside = moved c.before;
+      },
+      stays c.before,
+    )
 
 pub returns-else-passes_charged : goal.returns-else-passes_charged
 unfolding least_step
 returns-else-passes_charged c =
-    let last = c.full_compression-full.ensures in
-    record {
-      least = least-none (test c.args.test c.args.springs.now) _ _ (failed c.before) (omega (arith, last));
-      beside = moved c.before.before;
-    }
+    let last = c.full_compression-full.ensures in (
+      record {
+        least = least-none (test c.args.test c.args.springs.now) _ _ (failed c.before) (omega (arith, last));
+        beside = moved c.before.before;
+      },
+      stays c.before.before,
+    )
 
 pub loop-step-preserved : goal.loop-step-preserved
-loop-step-preserved c = (moved c.before.before, failed c.before)
+loop-step-preserved c = (moved c.before.before, failed c.before, stays c.before.before)

@@ -4,6 +4,7 @@ use Rattle.ground.proofs.Kit.{ℕ, ◌≤◌, ◌≡◌, arith, get_or}
 use Rattle.kinds.specs.Limits.{scale}
 use Rattle.springs.specs.Spring.{let_down}
 use Rattle.springs.specs.Springs.{spring_in}
+use Rattle.springs.proofs.Shares.{let-down-most}
 use Rattle.springs.proofs.Columns.{walked-none, walked-more, walked-all}
 use Rattle.springs.proofs.Springs.let_down.Goals as goal
 use Rattle.springs.proofs.Springs.let_down.Goals.{After-max-share}
@@ -19,8 +20,8 @@ down c =
 down-most : (c : After-max-share) → c.max-share.result ≤ scale
 down-most c =
     let s = c.args.self.now in
-    let w = c.requires.0 c.loop-i.i (omega arith) in
-    omega (arith, down c, c.requires.1 c.loop-i.i (omega arith), w.least-largest, w.largest-most)
+    let i = c.loop-i.i in
+    rw (down c) (let-down-most (spring_in s i) (c.requires.0 i (omega arith)) (get_or s.loads i 0) (c.requires.1 i (omega arith)))
 
 pub loop-i-init : goal.loop-i-init
 loop-i-init c = walked-none _ _

@@ -1,4 +1,5 @@
--- `springs::Springs::take_in` meets its contract. The loop: the first i records are good, and their springs are taken in.
+-- `springs::Springs::take_in` meets its contract. The loop: the first i records are good, their springs are taken in, and the loads are
+-- as they were.
 -- Assumes nothing.
 use Rattle.std.proofs.lemmas.List.{get_or-take}
 use Rattle.ground.proofs.Kit.{ℕ, ◌≤◌, ◌<◌, Bool, not, ◌≡◌, refl, sym, ◌∙◌, ap, arith, length, get_or, take, length-take-le}
@@ -24,7 +25,7 @@ module _ (table : Table) (i : ℕ) (long : table.n ≤ length table.rows) (l : i
   tested w q b r e is = rw here.1 at (sym e ∙ is)
 
 pub loop-i-init : goal.loop-i-init
-loop-i-init c = (refl, λ j l. absurd (omega arith), sprung-none _ _ refl)
+loop-i-init c = (refl, λ j l. absurd (omega arith), sprung-none _ _ refl, refl)
 
 pub returns-then-not-good : goal.returns-then-not-good
 unfolding first_bad
@@ -33,7 +34,8 @@ returns-then-not-good c =
     let bad : ℕ → Bool = λ j. not (is_good args.swap args.notch (at args.table.rows j)) in
     let row = here args.table c.loop-i.i (omega arith) c.loop-i-test.true in
     let found = tested args.table c.loop-i.i (omega arith) c.loop-i-test.true _ _ _ _ c.good.ensures c.if-not-good.true in
-    taken-until _ _ _ _ _ _ c.loop-i.invariant.0 c.loop-i.invariant.2 (first-here bad _ _ c.loop-i.invariant.1 row.0 (ap not found)) row.0
+    let taken = taken-until _ _ _ _ _ _ c.loop-i.invariant.0 c.loop-i.invariant.2 (first-here bad _ _ c.loop-i.invariant.1 row.0 (ap not found)) row.0 in
+    (taken, c.loop-i.invariant.3)
 
 pub priced-requires : goal.priced-requires
 priced-requires c =
@@ -64,9 +66,10 @@ loop-i-preserved c =
     let row = here table c.loop-i.i (omega arith) c.loop-i-test.true in
     let found = tested table c.loop-i.i (omega arith) c.loop-i-test.true _ _ _ _ c.good.ensures c.if-not-good.false in
     let priced = (rw row.1 at c.priced.ensures) ∙ sym (priced-at args.swap table.rows table.n c.loop-i.i row.0) in (
-      c.push.ensures.notch ∙ c.loop-i.invariant.0,
+      c.push.ensures.0.notch ∙ c.loop-i.invariant.0,
       first_more bad table.n _ c.loop-i.invariant.1 (ap not found),
-      sprung-more _ _ _ _ _ c.loop-i.invariant.2 c.push.ensures (c.of-spring.ensures ∙ ap spring_of priced),
+      sprung-more _ _ _ _ _ c.loop-i.invariant.2 c.push.ensures.0 (c.of-spring.ensures ∙ ap spring_of priced),
+      c.push.ensures.1 ∙ c.loop-i.invariant.3,
     )
 
 pub returns : goal.returns
@@ -77,4 +80,4 @@ returns c =
     let bad : ℕ → Bool = λ j. not (is_good args.swap args.notch (at table.rows j)) in
     let long = length-take-le table.n table.rows (omega arith) in
     let all : c.loop-i.i ≡ table.n = omega arith in
-    taken-all _ _ _ _ _ _ c.loop-i.invariant.0 c.loop-i.invariant.2 (first-none bad _ _ c.loop-i.invariant.1 all) all
+    (taken-all _ _ _ _ _ _ c.loop-i.invariant.0 c.loop-i.invariant.2 (first-none bad _ _ c.loop-i.invariant.1 all) all, c.loop-i.invariant.3)

@@ -1,4 +1,5 @@
--- `springs::Springs::take_in` meets its contract. The loop: the first i records are good, and their springs are taken in.
+-- `springs::Springs::take_in` meets its contract. The loop: the first i records are good, their springs are taken in, and the loads are
+-- as they were.
 -- Assumes nothing.
 use Rattle.ground.proofs.Kit.{ℕ, ◌<◌, false, not, ◌≡◌}
 use Rattle.kinds.specs.Task.{at, is_good}
@@ -11,3 +12,4 @@ invariant-loop-i l =
     (l.self.notch ≡ l.notch)
     × ((j : ℕ) → j < l.i → not (is_good l.swap l.notch (at l.fn.table.rows j)) ≡ false)
     × Sprung (priced_rows l.swap l.fn.table.rows l.fn.table.n) l.i l.self
+    × (l.self.loads ≡ l.initial.self.loads)

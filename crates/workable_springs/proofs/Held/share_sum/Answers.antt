@@ -1,0 +1,11 @@
+-- `workable_springs::Held::share_sum` leaves workable springs. Assumes nothing.
+use Rattle.springs.proofs.Shares.{share-most}
+use Rattle.springs.proofs.Columns.{workable-beside, loaded-low}
+use Rattle.workable_springs.proofs.Held.share_sum.Goals as goal
+
+pub invariant_of-self : goal.invariant_of-self
+invariant_of-self c =
+    let held = c.args.self.now in
+    let loaded = c.share_sum.ensures.loaded in
+    let low = loaded-low _ _ _ _ loaded (λ i l. share-most _ (held.work.allowed i l).within c.args.k) in
+    record { work = workable-beside _ _ loaded.beside low held.work }
