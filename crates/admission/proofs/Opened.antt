@@ -27,9 +27,9 @@ by-record (Err i) (Err y) m f g = g i refl (ap Err m)
 -- a call that passed the gate is admitted where all its records are taken in, and the springs are then theirs; else the first bad one is refused
 module _ (serves : Bool) (s : Settings) (rows : List Task) (n room : ℕ) (r : Result (Unit {0}) ℕ) (now : Springs)
     (opens : gate_of serves s n room ≡ (Ok tt)) (t : TakenIn s.swap s.notch rows n r now) where
-  pub admitted-sprung : r ≡ Ok tt → AdmittedSprung serves s rows n room (Ok tt) now
+  pub good-sprung : r ≡ Ok tt → AdmittedSprung serves s rows n room (Ok tt) now
   unfolding admission
-  admitted-sprung e =
+  good-sprung e =
       let good = taken-good s.swap s.notch rows n r now t e in
       record {
         is = rw (opens, le-ltb (first_bad s.swap s.notch rows n) n good.0);
@@ -48,8 +48,8 @@ module _ (serves : Bool) (s : Settings) (rows : List Task) (n room : ℕ) (r : R
         notch = t.notch;
       }
 
-  pub walked-sprung : (a : Verdict) → MatchResult r (λ x. a ≡ Ok x) (λ i. IsErrAnd a (λ y. y ≡ BadRecord i)) → AdmittedSprung serves s rows n room a now
-  walked-sprung a m = by-record r a m (λ e is. rw is (admitted-sprung e)) (λ i e is. rw is (bad-sprung i e))
+  pub admitted-sprung : (a : Verdict) → MatchResult r (λ x. a ≡ Ok x) (λ i. IsErrAnd a (λ y. y ≡ BadRecord i)) → AdmittedSprung serves s rows n room a now
+  admitted-sprung a m = by-record r a m (λ e is. rw is (good-sprung e)) (λ i e is. rw is (bad-sprung i e))
 
 -- what that walk relies on
 pub may-walk : (serves : Bool) (s : Settings) (n room : ℕ) {gate : Verdict} → gate ≡ gate_of serves s n room → gate ≡ (Ok tt)

@@ -1,7 +1,7 @@
 -- `admission::admit` meets its contract. Assumes nothing.
 use Rattle.ground.proofs.Kit.{◌≡◌, sym, ◌∙◌, rules, Err}
 use Rattle.springs.proofs.Columns.{taken-workable}
-use Rattle.admission.proofs.Opened.{may-walk, walked-sprung, refused-sprung}
+use Rattle.admission.proofs.Opened.{may-walk, admitted-sprung, refused-sprung}
 use Rattle.admission.proofs.admit.Goals as goal
 
 pub returns-in_err-gate_of : goal.returns-in_err-gate_of
@@ -21,6 +21,6 @@ returns c =
     let opens = sym c.gate_of.ensures ∙ c.in_ok-gate_of.was in
     let walk = may-walk args.serves args.settings args.table.now.n args.room c.gate_of.ensures c.in_ok-gate_of.was in
     let taken = c.take_in.ensures in (
-      walked-sprung _ _ _ _ _ _ _ opens taken.0 _ c.map_err.ensures.cases,
+      admitted-sprung _ _ _ _ _ _ _ opens taken.0 _ c.map_err.ensures.cases,
       taken-workable _ _ _ _ _ _ taken.0 walk.1 args.springs.now taken.1,
     )
