@@ -14,7 +14,7 @@ use Rattle.policy.proofs.Weighing.{loaded-loads}
 use Rattle.outcome.proofs.Processors.{trial-processors, any-processors, processors-same}
 use Rattle.outcome.proofs.processors_at.Goals as goal
 
--- springs whose loads were lent to first fit are as they were
+-- springs whose loads were lent to first fit are as they were, but for loads
 same-springs : (old new : Springs) (few : new.n ≤ most_tasks) → Beside old new → Beside old (record new { few = few })
 same-springs old new few b =
     record {
