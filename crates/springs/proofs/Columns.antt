@@ -1,7 +1,7 @@
 -- Columns: the walks that write loads and take springs in, and what the springs then say of a table.
 -- Assumes nothing.
-use Rattle.ground.proofs.Kit.{ℕ, ◌+◌, ◌≤◌, ◌<◌, suc, true, false, List, ◌≡◌, refl, sym, ◌∙◌, ap, subst, arith, length, get_or, set, take, replicate, length-take-le, length-set}
-use Rattle.ground.proofs.Kit.{length-replicate, get_or-set_same, get_or-set_other, lt-ltb, le-ltb, Ok, Err, Result}
+use Rattle.ground.proofs.Kit.{ℕ, ◌+◌, ◌≤◌, ◌<◌, true, false, List, ◌≡◌, refl, sym, ◌∙◌, ap, subst, arith, length, get_or, set, take, length-take-le, length-set}
+use Rattle.ground.proofs.Kit.{suc, replicate, length-replicate, get_or-set_same, get_or-set_other, lt-ltb, le-ltb, Ok, Err, Result}
 use mathlib.Core.Path.{fun_ext}
 use Rattle.std.proofs.lemmas.List.{get_or-take, get_or_past, get_or-replicate}
 use Rattle.ground.specs.Folds.{list_to, sum_to, AddedUp}
@@ -95,6 +95,21 @@ beside-more first second third a b =
       notch = b.notch ∙ a.notch;
     }
 
+-- whatever loads are written
+pub beside-loads : (old now : Springs) (loads : List ℕ) (few : now.n ≤ most_tasks) → Beside old now
+    → Beside old (record now { loads = loads; few = few })
+beside-loads old now loads few b =
+    record {
+      largest = b.largest;
+      least = b.least;
+      elasticity = b.elasticity;
+      saturation = b.saturation;
+      cost = b.cost;
+      tmin = b.tmin;
+      count = b.count;
+      notch = b.notch;
+    }
+
 pub springs-beside : (old new : Springs) → Beside old new → spring_in new ≡ spring_in old
 unfolding spring_in
 springs-beside old new b = fun_ext (λ i. rw (b.largest, b.least, b.elasticity, b.saturation, b.cost, b.tmin))
@@ -136,22 +151,11 @@ pub walked-more : (load : ℕ → ℕ) (i v sum : ℕ) (old now : Springs) (few 
     → i < old.n → i < length old.loads → v ≡ load i → v ≤ scale
     → Walked load (i + 1) old (record now { loads = set now.loads i v; few = few }) (sum + v)
 walked-more load i v sum old now few w l in_loads e most =
-    let b = w.loaded.beside in
     record {
       within = omega arith;
       loaded =
           record {
-            beside =
-                record {
-                  largest = b.largest;
-                  least = b.least;
-                  elasticity = b.elasticity;
-                  saturation = b.saturation;
-                  cost = b.cost;
-                  tmin = b.tmin;
-                  count = b.count;
-                  notch = b.notch;
-                };
+            beside = beside-loads old now (set now.loads i v) few w.loaded.beside;
             long = length-set now.loads i v ∙ w.loaded.long;
             are = λ j h.
                 by-eq j i

@@ -1,32 +1,15 @@
 -- `outcome::processors_at` meets its contract. Assumes nothing.
-use Rattle.ground.proofs.Kit.{ℕ, ◌≤◌, sym, ◌∙◌, subst, arith}
-use Rattle.kinds.specs.Limits.{most_tasks}
+use Rattle.ground.proofs.Kit.{ℕ, sym, ◌∙◌, subst, arith}
 use Rattle.kinds.specs.Policy.{meant}
 use Rattle.fit.specs.Fit.{load_in}
 use Rattle.fit.specs.Handover.{FitIs}
 use Rattle.springs.specs.Spring.{loads_on}
-use Rattle.springs.specs.declared.Springs.{Springs}
 use Rattle.springs.specs.Springs.{spring_in}
-use Rattle.springs.specs.Handover.{Beside}
 use Rattle.policy.proofs.Tests.{passes_same}
-use Rattle.springs.proofs.Columns.{beside_same, loaded-low, loads-most}
+use Rattle.springs.proofs.Columns.{beside_same, beside-loads, loaded-low, loads-most}
 use Rattle.policy.proofs.Weighing.{loaded-loads}
 use Rattle.outcome.proofs.Processors.{trial-processors, any-processors, processors-same}
 use Rattle.outcome.proofs.processors_at.Goals as goal
-
--- springs whose loads were lent to first fit are as they were, but for loads
-same-springs : (old new : Springs) (few : new.n ≤ most_tasks) → Beside old new → Beside old (record new { few = few })
-same-springs old new few b =
-    record {
-      largest = b.largest;
-      least = b.least;
-      elasticity = b.elasticity;
-      saturation = b.saturation;
-      cost = b.cost;
-      tmin = b.tmin;
-      count = b.count;
-      notch = b.notch;
-    }
 
 pub load-requires : goal.load-requires
 load-requires c = c.requires.chargeable
@@ -48,7 +31,7 @@ returns-then-is_first_fit c =
     c.first_fit-trial.ensures in (
       trial-processors policy settings.m _ _ c.first_fit-trial.result first passing trial ∙ processors-same policy settings.m _ _ n are,
       loaded-low _ _ c.args.springs.now c.load.new.self c.load.ensures (loads-most settings c.args.springs.now c.requires.chargeable c.args.k),
-      same-springs c.args.springs.now c.load.new.self _ c.load.ensures.beside,
+      beside-loads c.args.springs.now c.load.new.self _ _ c.load.ensures.beside,
     )
 
 pub returns : goal.returns
